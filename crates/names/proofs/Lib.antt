@@ -1,0 +1,6 @@
+-- Laws that the proofs share, in the order of the code.
+pub mod Lists
+pub mod Spelling
+pub mod Pairs
+pub mod Figures
+pub mod Quotes

@@ -1,0 +1,78 @@
+-- `names::registers::is_reserved_name` meets its contract, by the rule of the table.
+-- Assumes nothing.
+use mathlib.Core.Path.{sym, _∙_}
+use Rattle.names.specs.Reserved.{reserved-rule}
+use borrow.Author.Needs.{needs}
+use Rattle.names.proofs.registers.is_reserved_name.Statement.{statement}
+use Rattle.names.proofs.registers.is_reserved_name.Tie as tie
+
+parse-requires : tie.Need-parse-requires
+parse-requires c κs = search needs
+
+enum-told : tie.Need-enum-told
+enum-told c = search needs
+
+returns : tie.Need-returns
+returns c =
+    let c-parse = c .before .before .parse in
+    let c-enum-told = c .enum-told in
+    rw (reserved-rule, sym (c-parse .ensures) ∙ c-enum-told .given .1)
+
+enum-told-2 : tie.Need-enum-told-2
+enum-told-2 c = search needs
+
+is-program-counter-requires : tie.Need-is-program-counter-requires
+is-program-counter-requires c κs = search needs
+
+returns-2 : tie.Need-returns-2
+returns-2 c =
+    let c-parse = c .before .before .before .before .parse in
+    let c-enum-told2 = c .before .before .enum-told2 in
+    let c-is-program-counter = c .before .is-program-counter in
+    let c-if1 = c .if1 in
+    rw (reserved-rule, sym (c-parse .ensures) ∙ c-enum-told2 .given .1, sym (c-is-program-counter .ensures) ∙ c-if1 .taken)
+
+parse-requires-2 : tie.Need-parse-requires-2
+parse-requires-2 c κs = search needs
+
+enum-told-3 : tie.Need-enum-told-3
+enum-told-3 c = search needs
+
+enum-told-4 : tie.Need-enum-told-4
+enum-told-4 c = search needs
+
+returns-3 : tie.Need-returns-3
+returns-3 c =
+    let c-parse = c .before .before .before .before .before .before .before .parse in
+    let c-enum-told2 = c .before .before .before .before .before .enum-told2 in
+    let c-is-program-counter = c .before .before .before .before .is-program-counter in
+    let c-if1 = c .before .before .before .if1 in
+    let c-parse2 = c .before .before .parse2 in
+    let c-enum-told3 = c .enum-told3 in
+    rw (reserved-rule, sym (c-parse .ensures) ∙ c-enum-told2 .given .1, sym (c-is-program-counter .ensures) ∙ c-if1 .left, sym (c-parse2 .ensures) ∙ c-enum-told3 .given .1)
+
+returns-4 : tie.Need-returns-4
+returns-4 c =
+    let c-parse = c .before .before .before .before .before .before .before .parse in
+    let c-enum-told2 = c .before .before .before .before .before .enum-told2 in
+    let c-is-program-counter = c .before .before .before .before .is-program-counter in
+    let c-if1 = c .before .before .before .if1 in
+    let c-parse2 = c .before .before .parse2 in
+    let c-enum-told4 = c .enum-told4 in
+    rw (reserved-rule, sym (c-parse .ensures) ∙ c-enum-told2 .given .1, sym (c-is-program-counter .ensures) ∙ c-if1 .left, sym (c-parse2 .ensures) ∙ c-enum-told4 .given .1)
+
+pub is-reserved-name-spec : {M : Type 1} → statement M
+is-reserved-name-spec =
+    tie.close
+    (tie.spec
+    parse-requires
+    enum-told
+    returns
+    enum-told-2
+    is-program-counter-requires
+    returns-2
+    parse-requires-2
+    enum-told-3
+    enum-told-4
+    returns-3
+    returns-4)

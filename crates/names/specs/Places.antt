@@ -1,0 +1,27 @@
+-- What stands at a place: nothing, or a token with the bytes of its text.
+-- Assumes nothing.
+use mathlib.Core.List.{List, []}
+use Prim.Native.Nat.{ℕ, _-_}
+use lib.Dec.{leb}
+use lib.ListN.{length, take, drop}
+use Rattle.names.specs.Choice.{pick, both}
+use Rattle.names.specs.Tokens.{tokenAt}
+use Rattle.names.specs.declared.tokens.Token.{Token}
+use Rattle.names.specs.declared.tokens.Peeked.{Peeked}
+use Rattle.names.specs.declared.tokens.Peeked.the-variants.{Is, End}
+
+-- the part of a line under a span, empty where the span does not lie within the line
+unfoldable pub textOf : List ℕ → ℕ → ℕ → List ℕ
+textOf L start end = pick (both (leb start end) (leb end (length L))) (take (end - start) (drop start L)) []
+
+pub data Place : Type 0 where
+  nothing : Place
+  stands : Token → List ℕ → Place
+
+-- a token with its text
+unfoldable pub placed : List ℕ → Peeked → Place
+placed L End = nothing
+placed L (Is t) = stands t (textOf L (t .start) (t .end))
+
+unfoldable pub place : List ℕ → List ℕ → ℕ → Place
+place L T i = placed L (tokenAt T i)

@@ -1,0 +1,134 @@
+// Numbers: their bases and their digits.
+use crate::letters::lower;
+use crate::tokens::behind_first;
+ghost use mathlib.Core.Path.{_≡_};
+ghost use Prim.Native.Nat.{_+_, _*_, _^_, min};
+ghost use Rattle.names.specs.Numbers.{radixOf, prefixOf, figure, isDigit, NextAsks, digitsOf, numberOf};
+
+// The base of a number, in the order of the Rust's `NumberBase`.
+pub enum NumberBase {
+    Decimal,
+    Hexadecimal,
+    Binary,
+    Octal,
+}
+
+// The byte that a number of a base begins with.
+pub enum Prefix {
+    Is(u8),
+    Not,
+}
+
+// What the digits of a number come to: a value below 2^63; digits of the base with a larger value; no number.
+pub enum Number {
+    Value(u64),
+    TooLarge,
+    Invalid,
+}
+
+// The value of a digit in any base: 0 to 9, then the letters from 10 on; 36 for any other byte.
+fn figure(byte: u8) -> u8
+    ensures { λ r. ⌜ r ≡ figure byte ⌝ }
+{
+    if byte < 48 {
+        return 36;
+    }
+    if byte <= 57 {
+        return byte - 48;
+    }
+    let letter = lower(byte);
+    if letter < 97 {
+        return 36;
+    }
+    if 122 < letter {
+        return 36;
+    }
+    letter - 87
+}
+
+impl NumberBase {
+    pub fn radix(self) -> u8
+        ensures { λ r. ⌜ r ≡ radixOf self ⌝ }
+    {
+        match self {
+            NumberBase::Decimal => 10,
+            NumberBase::Hexadecimal => 16,
+            NumberBase::Binary => 2,
+            NumberBase::Octal => 8,
+        }
+    }
+
+    pub fn prefix(self) -> Prefix
+        ensures { λ r. ⌜ r ≡ prefixOf self ⌝ }
+    {
+        match self {
+            NumberBase::Decimal => Prefix::Not,
+            NumberBase::Hexadecimal => Prefix::Is(36),
+            NumberBase::Binary => Prefix::Is(37),
+            NumberBase::Octal => Prefix::Is(64),
+        }
+    }
+
+    pub fn is_digit(self, byte: u8) -> bool
+        ensures { λ r. ⌜ r ≡ isDigit self byte ⌝ }
+    {
+        figure(byte) < self.radix()
+    }
+}
+
+// The value with one more digit, and 2^63 for all that is not below it.
+fn with_digit(value: u64, radix: u64, digit: u64) -> u64
+    requires { ⌜ NextAsks value radix digit ⌝ }
+    ensures { λ r. ⌜ r ≡ min (value * radix + digit) (2 ^ 63) ⌝ }
+{
+    if value < 0x0800_0000_0000_0000 {
+        return value * radix + digit;
+    }
+    if value <= (0x7fff_ffff_ffff_ffff - digit) / radix {
+        return value * radix + digit;
+    }
+    0x8000_0000_0000_0000
+}
+
+fn wide(x: u8) -> u64
+    ensures { λ r. ⌜ r ≡ x ⌝ }
+{
+    x as u64
+}
+
+pub fn parse_digits(base: NumberBase, digits: &[u8]) -> Number
+    ensures { λ r. ⌜ r ≡ digitsOf base (now (digits .entry)) ⌝ }
+{
+    if digits.len() == 0 {
+        return Number::Invalid;
+    }
+    let radix = base.radix();
+    let mut value: u64 = 0;
+    let mut i = 0;
+    while i < digits.len() {
+        let digit = figure(digits[i]);
+        if radix <= digit {
+            return Number::Invalid;
+        }
+        value = with_digit(value, wide(radix), wide(digit));
+        i += 1;
+    }
+    if value < 0x8000_0000_0000_0000 {
+        Number::Value(value)
+    } else {
+        Number::TooLarge
+    }
+}
+
+// What a number token of this detail and text is worth.
+pub fn parse_number(detail: u8, text: &[u8]) -> Number
+    ensures { λ r. ⌜ r ≡ numberOf detail (now (text .entry)) ⌝ }
+{
+    match detail {
+        0 => parse_digits(NumberBase::Decimal, text),
+        1 => parse_digits(NumberBase::Hexadecimal, behind_first(text)),
+        2 => parse_digits(NumberBase::Binary, behind_first(text)),
+        3 => parse_digits(NumberBase::Octal, behind_first(text)),
+        _ => Number::Invalid,
+    }
+}

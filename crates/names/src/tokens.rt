@@ -1,0 +1,150 @@
+// The tokens of a line: four bytes each in the lent list, a kind, a detail, a start and an end.
+ghost use mathlib.Core.Path.{_≡_};
+ghost use lib.ListN.{drop, getD};
+ghost use Rattle.names.specs.Tokens.{tokenAt, detailDefined};
+ghost use Rattle.names.specs.Places.{textOf};
+
+// `TokenKind`, by its number.
+pub const IDENTIFIER: u8 = 0;
+
+pub const LOCAL_IDENTIFIER: u8 = 1;
+
+pub const NUMBER: u8 = 2;
+
+pub const STRING_LITERAL: u8 = 3;
+
+pub const SIZE_SUFFIX: u8 = 4;
+
+pub const HASH: u8 = 5;
+
+pub const COMMA: u8 = 6;
+
+pub const LEFT_PAREN: u8 = 7;
+
+pub const RIGHT_PAREN: u8 = 8;
+
+pub const LEFT_BRACKET: u8 = 9;
+
+pub const RIGHT_BRACKET: u8 = 10;
+
+pub const LEFT_BRACE: u8 = 11;
+
+pub const RIGHT_BRACE: u8 = 12;
+
+pub const COLON: u8 = 13;
+
+pub const PLUS: u8 = 14;
+
+pub const MINUS: u8 = 15;
+
+pub const STAR: u8 = 16;
+
+pub const SLASH: u8 = 17;
+
+pub const BACKSLASH: u8 = 18;
+
+pub const AMPERSAND: u8 = 19;
+
+pub const BANG: u8 = 20;
+
+pub const PIPE: u8 = 21;
+
+pub const CARET: u8 = 22;
+
+pub const TILDE: u8 = 23;
+
+pub const SHIFT_LEFT: u8 = 24;
+
+pub const SHIFT_RIGHT: u8 = 25;
+
+pub const WHITESPACE: u8 = 26;
+
+pub const COMMENT: u8 = 27;
+
+pub const END_OF_LINE: u8 = 28;
+
+pub const ERROR: u8 = 29;
+
+pub struct Token {
+    pub kind: u8,
+    pub detail: u8,
+    pub start: u8,
+    pub end: u8,
+}
+
+// What stands at a place of the list: a token, or nothing from the list's end on.
+pub enum Peeked {
+    Is(Token),
+    End,
+}
+
+pub fn token_at(tokens: &[u8], i: usize) -> Peeked
+    ensures { λ r. ⌜ r ≡ tokenAt (now (tokens .entry)) i ⌝ }
+{
+    if tokens.len() / 4 <= i {
+        return Peeked::End;
+    }
+    let kind = tokens[4 * i];
+    let detail = tokens[4 * i + 1];
+    let start = tokens[4 * i + 2];
+    let end = tokens[4 * i + 3];
+    Peeked::Is(Token {
+        kind: kind,
+        detail: detail,
+        start: start,
+        end: end,
+    })
+}
+
+// Whether a token's kind and detail are ones that document 01 defines.
+pub fn detail_defined(kind: u8, detail: u8) -> bool
+    ensures { λ r. ⌜ r ≡ detailDefined kind detail ⌝ }
+{
+    match kind {
+        2 => detail < 4,
+        3 => detail < 2,
+        _ => { if detail == 0 { kind < 30 } else { false } }
+    }
+}
+
+// The part of the line under a span, empty where the span does not lie within the line.
+pub fn text(line: &[u8], start: usize, end: usize) -> &[u8]
+    ensures { λ r. ⌜ now r ≡ textOf (now (line .entry)) start end ⌝ }
+{
+    if end < start {
+        return &line[0..0];
+    }
+    if line.len() < end {
+        return &line[0..0];
+    }
+    &line[start..end]
+}
+
+// A text's first byte, 0 where it has none.
+pub fn first(text: &[u8]) -> u8
+    ensures { λ r. ⌜ r ≡ getD (now (text .entry)) 0 0 ⌝ }
+{
+    if text.len() == 0 {
+        return 0;
+    }
+    text[0]
+}
+
+// A text without its first byte.
+pub fn behind_first(text: &[u8]) -> &[u8]
+    ensures { λ r. ⌜ now r ≡ drop 1 (now (text .entry)) ⌝ }
+{
+    if text.len() == 0 {
+        return &text[0..0];
+    }
+    &text[1..]
+}
+
+// The text of a token.
+pub fn text_of(line: &[u8], token: Token) -> &[u8]
+    ensures { λ r. ⌜ now r ≡ textOf (now (line .entry)) (token .start) (token .end) ⌝ }
+{
+    let start = token.start as usize;
+    let end = token.end as usize;
+    text(line, start, end)
+}

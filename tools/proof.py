@@ -1,0 +1,205 @@
+#!/usr/bin/env python3
+"""Write crates/CRATE/proofs/MODULE/Proof.antt from what `rt dev` prints and the answers in crates/CRATE/answers/MODULE.
+
+    tools/proof.py CRATE MODULE..           MODULE: a function's path, as letters/lower, or +a+b for a cycle of calls
+    tools/proof.py CRATE all                every module that has answers
+    tools/proof.py CRATE MODULE list NEED   what is known at a need, and how far back each thing stands
+    tools/proof.py CRATE MODULE needs       the names of the needs, with the places in the source
+
+A file of answers has these lines; a line that begins with a blank goes on with the one before:
+    use ..                  goes to the head of the proof, and so does a comment
+    NAME := TEXT            $NAME below stands for TEXT (capital letters)
+    measure FN = TEXT       of a member of a cycle
+    unfolding NEED NEED.. = NAMES
+    NEED NEED.. = TEXT      {thing} stands for a thing known at the need: its `.before`s are counted, and it is named once
+    Inv-LOOP = TEXT, μ-LOOP = TEXT     a loop's invariant and measure, over the names that `needs` shows
+A need without an answer is left to `search needs`. The skeletons are kept in target/skeletons until the code changes.
+"""
+import hashlib
+import os
+import re
+import shutil
+import subprocess
+import sys
+from pathlib import Path
+
+HEAD = re.compile(r"\n(\S+) : (?:\(t : ℕ\) → )?(?:(\w+)-lts|tie)\.(Need-\S+)")
+
+
+def source_key(crate):
+    """A sum of the crate's code: a skeleton holds as long as it is the same."""
+    total = hashlib.sha256()
+    for path in sorted(Path(f"crates/{crate}/src").glob("**/*.rt")):
+        total.update(path.read_bytes())
+    return total.hexdigest()[:16]
+
+
+class Crate:
+    def __init__(self, name):
+        self.name = name
+        self.kept = Path(f"target/skeletons/{name}/{source_key(name)}")
+        self.generated = self.kept / "generated"
+
+    def proof(self, module):
+        return Path(f"crates/{self.name}/proofs/{module}/Proof.antt")
+
+    def answers(self, module):
+        return Path(f"crates/{self.name}/answers/{module}")
+
+    def lts(self, module, file):
+        text = (self.generated / f"Rattle.{self.name}.proofs/proofs/{module}/{file}.antt").read_text()
+        found = re.finditer(r"\n +pub record (\S+) : Type 0 where\n((?: +pub .*\n(?: {12,}.*\n)*)+)", text)
+        fields = {m.group(1): dict(re.findall(r"pub (\S+) : (\S+)", m.group(2))) for m in found}
+        return fields, dict(re.findall(r"\n +(Need-\S+) =\s*\(c : (\S+)\)", text))
+
+    def things(self, module, file, need):
+        fields, needs = self.lts(module, file)
+        record, path, out = needs[need], "c", {}
+        while record:
+            for key in fields[record]:
+                out.setdefault(key, f"{path} .{key}")
+            path, record = path + " .before", fields[record].get("before")
+        return out
+
+    def skeletons(self, modules):
+        """Have `rt dev` print the files that are missing, with the proofs of these modules moved aside."""
+        wanted = [m for m in modules if not (self.kept / m / "skeleton").exists()]
+        if not wanted:
+            return
+        aside = Path("target/aside")
+        for module in wanted:
+            if self.proof(module).exists():
+                (aside / module).mkdir(parents=True, exist_ok=True)
+                shutil.move(self.proof(module), aside / module / "Proof.antt")
+        self.kept.mkdir(parents=True, exist_ok=True)
+        quiet = dict(stdout=subprocess.DEVNULL, stderr=subprocess.DEVNULL)
+        subprocess.run(["rt", "dev", self.name, "--generated", str(self.generated.absolute())], **quiet)
+        out = subprocess.run(["rt", "dev", self.name], stdout=subprocess.PIPE, stderr=subprocess.STDOUT, text=True).stdout
+        (self.kept / "printed").write_text(out)
+        for m in re.finditer(rf"help: write \S*crates/{self.name}/proofs/(\S+)/Proof.antt with these lines.*\n((?:    .*\n|\n)+)", out):
+            (self.kept / m.group(1)).mkdir(parents=True, exist_ok=True)
+            (self.kept / m.group(1) / "skeleton").write_text(re.sub(r"(?m)^    ", "", m.group(2)).rstrip() + "\n")
+        for module in wanted:
+            if (aside / module / "Proof.antt").exists():
+                self.proof(module).parent.mkdir(parents=True, exist_ok=True)
+                shutil.move(aside / module / "Proof.antt", self.proof(module))
+
+    def skeleton(self, module):
+        path = self.kept / module / "skeleton"
+        if not path.exists():
+            sys.exit(f"{module}: no lines were printed; see {self.kept}/printed")
+        return path.read_text()
+
+
+def compact(text):
+    """Name the claims of a cycle's callees once for each member."""
+    for m in re.findall(r"abbrev μ-(\w+) ", text):
+        tuples = rf"({m}-lts\.(?:Need-\S+|spec))\s*\(([^()]*)\)\s*\({m}-at t\)"
+        found = re.search(tuples, text)
+        if not found:
+            continue
+        claims = re.sub(r"\s+", " ", found.group(2)).strip().rstrip(",")
+        text = re.sub(tuples, rf"\1 ({m}-claims t) ({m}-at t)", text)
+        last = list(re.finditer(r"\nabbrev \S+-(?:below|claims) .*\n.*\n\n", text))[-1].end()
+        text = text[:last] + f"abbrev {m}-claims : ℕ → {m}-lts.Claims\n{m}-claims t = ({claims})\n\n" + text[last:]
+    return text
+
+
+def answer_lines(path):
+    """The lines of a file of answers, those that go on joined, the names put in."""
+    lines, names = [], {}
+    for line in path.read_text().split("\n"):
+        if line.startswith(" ") and lines:
+            lines[-1] += "\n   " + line
+        elif line:
+            lines.append(line)
+    for line in lines:
+        line = re.sub(r"\$([A-Z]+)", lambda m: names[m.group(1)], line)
+        if re.match(r"[A-Z]+ := ", line):
+            names.update([line.split(" := ", 1)])
+        else:
+            yield line
+
+
+def answered(crate, module, heads, proof, need, text):
+    """The proof with one need's answer put in."""
+    if need.startswith(("Inv-", "μ-")):
+        proof, hits = re.subn(rf"(\n{re.escape(need)} [^=\n]*=) \?\n", lambda m: f"{m.group(1)} {text}\n", proof)
+    else:
+        used = dict.fromkeys(re.findall(r"\{([a-z0-9-]+)\}", text))
+        at = crate.things(module, *heads[need]) if used else {}
+        lets = "".join(f"\n    let c-{u} = {at[u]} in" for u in used)
+        body = lets + ("\n    " if used else " ") + re.sub(r"\{([a-z0-9-]+)\}", r"c-\1", text)
+        hole = rf"\n({re.escape(need)} (?:t )?c(?: κs)? =) (?:\?|search needs)\n"
+        proof, hits = re.subn(hole, lambda m: f"\n{m.group(1)}{body}\n", proof)
+    if hits != 1:
+        sys.exit(f"{module}: {need}: {hits} holes")
+    return proof
+
+
+def write(crate, module):
+    proof = compact(re.sub(r"-- src/\S+\n", "", crate.skeleton(module)))
+    heads = {m.group(1): ("Lts-" + m.group(2) if m.group(2) else "Lts", m.group(3)) for m in HEAD.finditer(proof)}
+    uses = []
+    for line in answer_lines(crate.answers(module)):
+        if line.startswith(("use ", "-- ")):
+            uses.append(line)
+            continue
+        left, text = line.split(" = ", 1)
+        words = left.split()
+        if words[0] == "measure":
+            proof = proof.replace(f"μ-{words[1]} κs a = ?", f"μ-{words[1]} κs a = {text}")
+        elif words[0] == "unfolding":
+            for need in words[1:]:
+                proof = re.sub(rf"\n({re.escape(need)} (?:t )?c(?: κs)? =)", rf"\nunfolding {text}\n\1", proof, count=1)
+        else:
+            for need in words:
+                proof = answered(crate, module, heads, proof, need, text)
+    proof = re.sub(r" = \?\n", " = search needs\n", proof)
+    save(crate.proof(module), uses, proof)
+
+
+def save(path, uses, proof):
+    """Put the head together: each module is used once, and a name only where it is needed."""
+    module_of = re.compile(r"use (\S+?)(?:\.\{| as|$)")
+    if "search needs" in proof and "borrow.Author.Needs" not in proof:
+        proof = "use borrow.Author.Needs.{needs}\n" + proof
+    have = {module_of.match(u).group(1) for u in uses if u.startswith("use ")}
+    lines = proof.split("\n")
+    rest = "\n".join(l for l in lines if not l.startswith("use "))
+    kept = []
+    for line in lines:
+        if line.startswith("use "):
+            named = line.split(" as ")[1] + "." if " as " in line else None
+            if module_of.match(line).group(1) in have or (named and named not in rest):
+                continue
+            if "Needs.{needs}" in line and "search needs" not in rest:
+                continue
+        kept.append(line)
+    path.parent.mkdir(parents=True, exist_ok=True)
+    path.write_text("\n".join(uses + kept))
+
+
+def main():
+    if len(sys.argv) < 3:
+        sys.exit(__doc__)
+    crate, words = Crate(sys.argv[1]), sys.argv[2:]
+    if words == ["all"]:
+        root = Path(f"crates/{crate.name}/answers")
+        words = sorted(str(p.relative_to(root)) for p in root.glob("**/*") if p.is_file())
+    if words[1:2] in (["list"], ["needs"]):
+        crate.skeletons(words[:1])
+        text = crate.skeleton(words[0])
+        if words[1] == "needs":
+            print(re.sub(r"(?m)^use .*\n", "", text))
+            return
+        heads = {m.group(1): ("Lts-" + m.group(2) if m.group(2) else "Lts", m.group(3)) for m in HEAD.finditer(text)}
+        for key, path in crate.things(words[0], *heads[words[2]]).items():
+            print(key, path.count("before"))
+        return
+    crate.skeletons(words)
+    for module in words:
+        write(crate, module)
+
+
+main()
