@@ -1,0 +1,59 @@
+//! Feeds two programs the same frames and prints the first that they answer differently.
+
+use frames::command_line::{self, number, usage, Stop, FAULT};
+use frames::compare::{Batches, Programs};
+use std::io::{self, Write};
+use std::process::ExitCode;
+
+const HELP: &str = "usage: compare [--timeout SECONDS] A B SEED COUNT
+       compare [--timeout SECONDS] A B --file FILE
+
+A and B are programs that answer frames: paths, or paths and arguments with
+blanks between. Both are run on the same frames, COUNT of SEED or those of FILE,
+in batches. Prints how many were compared and `no difference` (exit status 0),
+or the first frame with different answers, field by field, or how a program
+failed (exit status 1).
+  --timeout SECONDS   how long a program may take for a batch (60)
+";
+
+fn main() -> ExitCode {
+    command_line::run("compare", HELP, program)
+}
+
+fn program(arguments: &[String]) -> Result<ExitCode, Stop> {
+    let (programs, mut batches) = job(arguments)?;
+    let mut compared = 0;
+    loop {
+        let batch = batches.next_batch()?;
+        if let Some(report) = programs.difference(&batch)? {
+            let Programs { a, b, .. } = programs;
+            write!(io::stdout(), "A = {a}\nB = {b}\n{report}")?;
+            return Ok(ExitCode::from(FAULT));
+        }
+        // The empty batch at the end has been run too: no input, no output.
+        if batch.lines.is_empty() {
+            writeln!(io::stdout(), "{compared} frames, no difference")?;
+            return Ok(ExitCode::SUCCESS);
+        }
+        compared += batch.lines.len() as u64;
+    }
+}
+
+fn job(arguments: &[String]) -> Result<(Programs, Batches), Stop> {
+    let (seconds, rest) = match arguments {
+        [option, seconds, rest @ ..] if option == "--timeout" => {
+            (number("SECONDS", seconds)?, rest)
+        }
+        rest => (60, rest),
+    };
+    let [a, b, third, fourth] = rest else {
+        return usage("A, B, and SEED COUNT or --file FILE are wanted");
+    };
+    let batches = match third.as_str() {
+        "--file" => Batches::file(fourth)
+            .map_err(|error| io::Error::new(error.kind(), format!("{fourth}: {error}")))?,
+        seed => Batches::generated(number("SEED", seed)?, number("COUNT", fourth)?),
+    };
+    let (a, b) = (a.clone(), b.clone());
+    Ok((Programs { a, b, seconds }, batches))
+}

@@ -1,0 +1,63 @@
+//! Frames by seed and count, or a table of what the reference answers to them.
+
+use frames::command_line::{self, complain, number, usage, Stop, FAULT};
+use frames::coverage::Coverage;
+use frames::generate::input_line;
+use frames::reference::Reference;
+use std::io::{self, BufWriter, Write};
+use std::process::ExitCode;
+
+const HELP: &str = "usage: generate SEED COUNT > frames
+       generate --coverage SEED COUNT
+
+Writes COUNT lines: frames, and now and then a line that is none. The same seed
+gives the same lines everywhere.
+  --coverage   run the reference on the frames instead, and print how often each
+               form, kind, shape and problem, refusal and extreme occurs; the
+               exit status is 1 if one that can occur does not, or one that
+               cannot does
+";
+
+fn main() -> ExitCode {
+    command_line::run("generate", HELP, program)
+}
+
+fn program(arguments: &[String]) -> Result<ExitCode, Stop> {
+    let (coverage, rest) = match arguments.split_first() {
+        Some((first, rest)) if first == "--coverage" => (true, rest),
+        _ => (false, arguments),
+    };
+    let [seed, count] = rest else {
+        return usage("SEED and COUNT are wanted");
+    };
+    let (seed, count) = (number("SEED", seed)?, number("COUNT", count)?);
+    if coverage {
+        return print_coverage(seed, count);
+    }
+    let mut output = BufWriter::with_capacity(1 << 16, io::stdout().lock());
+    for number in 0..count {
+        output.write_all(&input_line(seed, number))?;
+        output.write_all(b"\n")?;
+    }
+    output.flush()?;
+    Ok(ExitCode::SUCCESS)
+}
+
+fn print_coverage(seed: u64, count: u64) -> Result<ExitCode, Stop> {
+    let mut coverage = Coverage::new();
+    let mut reference = Reference::default();
+    let mut answer = Vec::new();
+    for number in 0..count {
+        let line = input_line(seed, number);
+        answer.clear();
+        reference.answer(&line, &mut answer);
+        coverage.count(&line, &answer);
+    }
+    write!(io::stdout(), "{}", coverage.table())?;
+    let faults = coverage.faults();
+    for fault in &faults {
+        complain(&format!("generate: {fault}"));
+    }
+    let status = if faults.is_empty() { 0 } else { FAULT };
+    Ok(ExitCode::from(status))
+}

@@ -1,0 +1,101 @@
+//! Rows of counts, each with what is expected of it.
+
+use std::fmt::Write;
+
+/// Whether a row's event can occur.
+#[derive(Debug, Clone, Copy, PartialEq, Eq)]
+pub enum Expected {
+    /// It can, so a long enough run has it.
+    Always,
+    /// It cannot.
+    Never,
+}
+
+struct Row {
+    words: String,
+    expected: Expected,
+    count: u64,
+}
+
+/// Some rows under a title.
+pub struct Section {
+    title: &'static str,
+    rows: Vec<Row>,
+}
+
+impl Section {
+    /// A section without rows.
+    pub fn new(title: &'static str) -> Self {
+        let rows = Vec::new();
+        Self { title, rows }
+    }
+
+    /// A section whose rows all occur.
+    pub fn of_words(title: &'static str, words: &[&str]) -> Self {
+        let mut section = Self::new(title);
+        for word in words {
+            section.add(word.to_string(), Expected::Always);
+        }
+        section
+    }
+
+    /// A section whose rows all occur and are numbered from 1.
+    pub fn numbered(title: &'static str, words: &[&str]) -> Self {
+        let mut section = Self::new(title);
+        for (number, word) in (1..).zip(words) {
+            section.add(format!("{number} {word}"), Expected::Always);
+        }
+        section
+    }
+
+    /// Adds a row.
+    pub fn add(&mut self, words: String, expected: Expected) {
+        self.rows.push(Row {
+            words,
+            expected,
+            count: 0,
+        });
+    }
+
+    /// Counts one event of a row.
+    pub fn hit(&mut self, row: usize) {
+        self.rows[row].count += 1;
+    }
+
+    /// Counts one event of a row, if it took place.
+    pub fn hit_if(&mut self, took_place: bool, row: usize) {
+        self.rows[row].count += u64::from(took_place);
+    }
+
+    /// The section for a reader. A row that cannot occur, and did not, is left out.
+    pub fn table(&self) -> String {
+        let mut out = format!("\n{}\n", self.title);
+        let shown = |row: &&Row| row.expected == Expected::Always || row.count > 0;
+        for row in self.rows.iter().filter(shown) {
+            let note = match (row.expected, row.count) {
+                (Expected::Always, 0) => "  MISSING",
+                (Expected::Never, _) => "  UNEXPECTED",
+                _ => "",
+            };
+            let _ = writeln!(out, "{:10}  {}{note}", row.count, row.words);
+        }
+        out
+    }
+
+    /// The rows that are not as expected.
+    pub fn faults(&self) -> Vec<String> {
+        let mut faults = Vec::new();
+        for row in &self.rows {
+            match (row.expected, row.count) {
+                (Expected::Always, 0) => {
+                    faults.push(format!("{}: {} does not occur", self.title, row.words))
+                }
+                (Expected::Never, 1..) => {
+                    faults.push(format!("{}: {} occurs", self.title, row.words))
+                }
+                _ => {}
+            }
+        }
+        faults
+    }
+}

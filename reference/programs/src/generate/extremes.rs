@@ -1,0 +1,159 @@
+//! Frames at the limits: nests around the nesting limit, lists of 0, 1, 254 and 255 tokens,
+//! lines of 0, 1, 254 and 255 bytes.
+
+use super::layout::Draft;
+use super::vocabulary::{self, any_piece, Piece};
+use crate::random::Random;
+use crate::tokens::kind;
+
+/// Lengths at the limits of a line or a list.
+const LENGTHS: [usize; 6] = [0, 1, 254, 255, 254, 255];
+
+/// A frame at some limit.
+pub fn draft(random: &mut Random) -> Draft {
+    match random.below(6) {
+        0..=2 => nest(random),
+        3 => chain(random),
+        4 => tokens_of_one_byte(random),
+        _ => one_long_token(random),
+    }
+}
+
+/// How many terms are opened: mostly around 64, seldom around 1 and 128, which later nesting
+/// limits may be.
+fn nesting(random: &mut Random) -> usize {
+    match random.below(8) {
+        0 => random.between(1, 4),
+        1 => random.between(120, 130),
+        _ => random.between(61, 67),
+    }
+}
+
+/// Minus signs, tildes, pluses and groups around a term, in some operand.
+fn nest(random: &mut Random) -> Draft {
+    let openers = random.pick(&[
+        &["-"][..],
+        &["("],
+        &["~", "-"],
+        &["(", "-"],
+        &["+"],
+        &["(", "+"],
+    ]);
+    let opened: Vec<&str> = (0..nesting(random)).map(|_| random.pick(openers)).collect();
+    let groups = opened.iter().filter(|opener| **opener == "(").count();
+    let closed = match random.below(6) {
+        0 => random.below(groups + 1),
+        1 => groups + 1,
+        _ => groups,
+    };
+    let (before, behind) = surroundings(random);
+    let mut pieces: Vec<Piece> = before.iter().map(|text| word(text)).collect();
+    pieces.extend(opened.iter().map(|opener| Piece::sign(opener)));
+    if !random.one_in(6) {
+        pieces.push(vocabulary::number(random));
+    }
+    pieces.extend((0..closed).map(|_| Piece::sign(")")));
+    pieces.extend(behind.iter().map(|text| word(text)));
+    Draft::tight(&pieces, 0)
+}
+
+/// What stands before and behind a nest: nothing, or the rest of an operand of some form.
+fn surroundings(random: &mut Random) -> (&'static [&'static str], &'static [&'static str]) {
+    random.pick(&[
+        (&[][..], &[][..]),
+        (&[], &[]),
+        (&["#"], &[]),
+        (&["("], &[",", "a0", ")"]),
+        (&[], &["(", "a0", ")"]),
+        (&["(", "["], &["]", ")"]),
+        (&["1", "+"], &["+", "2"]),
+        (&["(", "1", ")", "*"], &["-", "3"]),
+        (&["2", "*"], &["-", "3"]),
+    ])
+}
+
+/// The piece of a sign, a name or a number.
+fn word(text: &str) -> Piece {
+    match text.as_bytes()[0] {
+        b'a'..=b'z' => Piece::new(kind::IDENTIFIER, text),
+        b'0'..=b'9' => Piece::number(text),
+        _ => Piece::sign(text),
+    }
+}
+
+/// Terms or registers joined by operators, as many as the line or the list holds.
+fn chain(random: &mut Random) -> Draft {
+    let length = random.pick(&LENGTHS);
+    let of_registers = random.one_in(3);
+    let one_operator = random.one_in(2);
+    let operator = vocabulary::binary_operator(random);
+    let mut pieces = Vec::new();
+    while pieces.len() < length {
+        if of_registers {
+            pieces.push(vocabulary::register(random));
+            let sign = if one_operator {
+                "/"
+            } else {
+                random.pick(&["/", "/", "-"])
+            };
+            pieces.push(Piece::sign(sign));
+        } else {
+            pieces.push(Piece::number("1"));
+            let other = vocabulary::binary_operator(random);
+            pieces.push(if one_operator {
+                operator.clone()
+            } else {
+                other
+            });
+        }
+    }
+    pieces.truncate(length);
+    Draft::tight(&pieces, 0)
+}
+
+/// A list of tokens of at most one byte each, one sort or any, read from some place.
+fn tokens_of_one_byte(random: &mut Random) -> Draft {
+    let length = random.pick(&LENGTHS);
+    let single = any_piece(random);
+    let of_one_sort = random.one_in(2);
+    let mut pieces = Vec::new();
+    while pieces.len() < length {
+        let piece = if of_one_sort {
+            single.clone()
+        } else {
+            any_piece(random)
+        };
+        let fits = piece.text.len() < 2;
+        pieces.push(if fits {
+            piece
+        } else {
+            Piece::new(kind::ERROR, "")
+        });
+    }
+    let last = pieces.len();
+    let start = random.pick(&[0, 0, 0, 1, last / 2, last.saturating_sub(1), last]);
+    Draft::tight(&pieces, start.min(last))
+}
+
+/// A line of one token, which has every byte or none.
+fn one_long_token(random: &mut Random) -> Draft {
+    let length = random.pick(&LENGTHS);
+    let kinds = [
+        kind::IDENTIFIER,
+        kind::LOCAL_IDENTIFIER,
+        kind::NUMBER,
+        kind::STRING_LITERAL,
+        kind::SIZE_SUFFIX,
+        kind::WHITESPACE,
+        kind::COMMENT,
+        kind::END_OF_LINE,
+        kind::ERROR,
+    ];
+    let kind = match length {
+        0 => random.between(kind::WHITESPACE as usize, kind::ERROR as usize) as u8,
+        _ => random.pick(&kinds),
+    };
+    let byte = random.pick(b"019ax.' ");
+    let text = String::from_utf8(vec![byte; length]).expect("ASCII");
+    Draft::tight(&[Piece::new(kind, &text)], 0)
+}

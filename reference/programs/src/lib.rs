@@ -1,0 +1,31 @@
+//! What the reference's programs share, in reading order.
+//!
+//! | module | holds |
+//! |---|---|
+//! | `hex`, `printable`, `lines`, `command_line` | digits, any bytes, bounded lines, and how every program ends |
+//! | `frame`, `tokens`, `refusal` | a frame's parts and what makes it no input |
+//! | `recover`, `records` | the Rust's tree and diagnostics as document 01's records |
+//! | `answer`, `reference` | an answer line, and the reference's own answer to a frame |
+//! | `names`, `words` | the records in words |
+//! | `lexer` | a text's tokens, for people |
+//! | `random`, `generate`, `coverage` | frames by seed, and what they reach |
+//! | `compare` | two programs on the same frames |
+
+pub mod answer;
+pub mod command_line;
+pub mod compare;
+pub mod coverage;
+pub mod frame;
+pub mod generate;
+pub mod hex;
+pub mod lexer;
+pub mod lines;
+pub mod names;
+pub mod printable;
+pub mod random;
+pub mod records;
+pub mod recover;
+pub mod reference;
+pub mod refusal;
+pub mod tokens;
+pub mod words;

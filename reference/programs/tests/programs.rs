@@ -1,0 +1,216 @@
+//! The programs themselves: bad input, messages with places, exit statuses.
+
+use frames::random::Random;
+use std::io::Write;
+use std::process::{Command, Output, Stdio};
+
+const SAMPLE: &str = "053428613029040200000107000102000002040800040500ff";
+const SAMPLE_ANSWER: &str =
+    "00040100000800050000080204ff0000000000000000ff00000100ffff00010400000000000000";
+
+/// Runs a program of this package on an input.
+fn run(program: &str, arguments: &[&str], input: &[u8]) -> Output {
+    let mut child = Command::new(program)
+        .args(arguments)
+        .stdin(Stdio::piped())
+        .stdout(Stdio::piped())
+        .stderr(Stdio::piped())
+        .spawn()
+        .expect("the program starts");
+    let mut pipe = child.stdin.take().expect("a pipe");
+    let input = input.to_vec();
+    // A program that was called wrongly does not read, which is no fault of the test.
+    let writer = std::thread::spawn(move || drop(pipe.write_all(&input)));
+    let output = child.wait_with_output().expect("the program ends");
+    writer.join().expect("the writing thread ends");
+    output
+}
+
+fn reference(input: &[u8]) -> Output {
+    run(env!("CARGO_BIN_EXE_reference"), &[], input)
+}
+
+fn text(bytes: &[u8]) -> String {
+    String::from_utf8_lossy(bytes).into_owned()
+}
+
+/// How many lines an input has: one more than its line feeds where the last lacks its own.
+fn line_count(input: &[u8]) -> usize {
+    let feeds = input.iter().filter(|byte| **byte == b'\n').count();
+    feeds + usize::from(input.last().is_some_and(|byte| *byte != b'\n'))
+}
+
+#[test]
+fn the_reference_answers_the_sample() {
+    for end in ["", "\n"] {
+        let output = reference(format!("{SAMPLE}{end}").as_bytes());
+        assert_eq!(text(&output.stdout), format!("{SAMPLE_ANSWER}\n"));
+        assert!(output.status.success());
+    }
+}
+
+#[test]
+fn lines_that_are_no_frames_are_refused() {
+    assert_eq!(text(&reference(b"").stdout), "");
+    assert_eq!(text(&reference(b"\n\n").stdout), "0208\n0208\n");
+    for line in [
+        format!("{SAMPLE}\r"),
+        format!(" {SAMPLE}"),
+        SAMPLE.to_uppercase(),
+        SAMPLE[1..].to_string(),
+        format!("{SAMPLE}00"),
+        format!("{SAMPLE}\0"),
+        format!("w{SAMPLE}"),
+    ] {
+        assert_eq!(text(&reference(line.as_bytes()).stdout), "0208\n");
+    }
+}
+
+#[test]
+fn a_line_of_ten_megabytes_is_one_line() {
+    let mut input = vec![b'0'; 10_000_000];
+    assert_eq!(text(&reference(&input).stdout), "0208\n");
+    input.extend(format!("\n{SAMPLE}\n").as_bytes());
+    let wanted = format!("0208\n{SAMPLE_ANSWER}\n");
+    assert_eq!(text(&reference(&input).stdout), wanted);
+}
+
+#[test]
+fn any_bytes_have_an_answer_for_each_line() {
+    let mut random = Random::new(1, 1);
+    let input: Vec<u8> = (0..300_000).map(|_| random.draw() as u8).collect();
+    let output = reference(&input);
+    assert!(output.status.success());
+    assert_eq!(line_count(&output.stdout), line_count(&input));
+}
+
+#[test]
+fn texts_become_frames() {
+    let program = env!("CARGO_BIN_EXE_frame");
+    let output = run(program, &[], b"4(a0)");
+    assert_eq!(text(&output.stdout), format!("{SAMPLE}\n"));
+    let marked = run(program, &["--start", "1", "--mark", "2"], b"4(a0)\n");
+    let wanted = SAMPLE.replace("00ff", "0102");
+    assert_eq!(text(&marked.stdout), format!("{wanted}\n"));
+    let empty = run(program, &[], b"\n");
+    assert_eq!(text(&empty.stdout), "000000ff\n");
+    let blanks = run(program, &["--keep-whitespace"], b" 1");
+    assert_eq!(
+        text(&blanks.stdout),
+        "022031021a00000102000102".to_string() + "00ff\n"
+    );
+}
+
+#[test]
+fn a_text_without_a_frame_is_named() {
+    let input = [b"a\tb\n1\n".to_vec(), vec![b'1'; 300], b"\n\x80".to_vec()].concat();
+    let output = run(env!("CARGO_BIN_EXE_frame"), &[], &input);
+    assert_eq!(line_count(&output.stdout), 1);
+    let messages = text(&output.stderr);
+    assert!(messages.contains("line 1, column 2: byte 09"), "{messages}");
+    assert!(
+        messages.contains("line 3, column 256: a line has at most"),
+        "{messages}"
+    );
+    assert!(messages.contains("line 4, column 1: byte 80"), "{messages}");
+    assert_eq!(output.status.code(), Some(1));
+}
+
+#[test]
+fn answers_in_words() {
+    let program = env!("CARGO_BIN_EXE_decode");
+    let alone = run(program, &[], SAMPLE_ANSWER.as_bytes());
+    assert!(text(&alone.stdout).contains("form                 8 displacement"));
+    let pair = run(program, &[], format!("{SAMPLE} {SAMPLE_ANSWER}").as_bytes());
+    assert!(text(&pair.stdout).contains("base span            2..4 `a0`"));
+    assert!(pair.status.success());
+}
+
+#[test]
+fn what_is_no_answer_is_named() {
+    let input = format!("0208\n0x\n03\n{SAMPLE} 00\n");
+    let output = run(env!("CARGO_BIN_EXE_decode"), &[], input.as_bytes());
+    let messages = text(&output.stderr);
+    assert!(messages.contains("line 2, column 2: `x`"), "{messages}");
+    assert!(
+        messages.contains("line 3, column 1: it begins with 03"),
+        "{messages}"
+    );
+    assert!(
+        messages.contains("line 4, in the answer behind column 51"),
+        "{messages}"
+    );
+    assert_eq!(output.status.code(), Some(1));
+}
+
+#[test]
+fn any_bytes_decode_without_a_crash() {
+    let mut random = Random::new(2, 2);
+    let mut input = Vec::new();
+    for _ in 0..3000 {
+        let mut bytes = vec![
+            random.below(3) as u8,
+            0,
+            random.below(4) as u8,
+            random.below(3) as u8,
+            0,
+        ];
+        let operand = if bytes[0] == 0 { 20 } else { 0 };
+        let rest = operand + 14 * bytes[2] as usize + 10 * bytes[3] as usize;
+        bytes.extend((0..rest).map(|_| random.draw() as u8));
+        input.extend(frames::hex::encode(&bytes));
+        input.push(b'\n');
+    }
+    let output = run(env!("CARGO_BIN_EXE_decode"), &[], &input);
+    assert!(matches!(output.status.code(), Some(0 | 1)));
+    let decoded = text(&output.stdout).matches("\nanswer").count();
+    assert_eq!(decoded + line_count(&output.stderr), 3000);
+}
+
+#[test]
+fn equal_programs_and_different_ones() {
+    let (compare, reference) = (
+        env!("CARGO_BIN_EXE_compare"),
+        env!("CARGO_BIN_EXE_reference"),
+    );
+    let equal = run(compare, &[reference, reference, "1", "25000"], b"");
+    assert_eq!(text(&equal.stdout), "25000 frames, no difference\n");
+    assert_eq!(equal.status.code(), Some(0));
+    let other = run(compare, &[reference, "cat", "1", "10"], b"");
+    assert!(text(&other.stdout).contains("line 1 of the input"));
+    assert_eq!(other.status.code(), Some(1));
+    let crash = run(compare, &[reference, "false", "1", "10"], b"");
+    assert!(text(&crash.stdout).contains("B failed on line 1: it ended with exit status: 1"));
+    assert_eq!(crash.status.code(), Some(1));
+}
+
+#[test]
+fn wrong_calls_have_a_usage_message() {
+    for (program, arguments) in [
+        (env!("CARGO_BIN_EXE_reference"), &["x"][..]),
+        (env!("CARGO_BIN_EXE_frame"), &["--start", "256"]),
+        (env!("CARGO_BIN_EXE_frame"), &["--mark"]),
+        (env!("CARGO_BIN_EXE_generate"), &["1"]),
+        (env!("CARGO_BIN_EXE_generate"), &["1", "-3"]),
+        (env!("CARGO_BIN_EXE_compare"), &["a", "b", "c", "d"]),
+        (env!("CARGO_BIN_EXE_decode"), &["x"]),
+    ] {
+        let output = run(program, arguments, b"");
+        assert_eq!(output.status.code(), Some(2), "{program}");
+        assert!(text(&output.stderr).contains("usage: "), "{program}");
+    }
+}
+
+#[test]
+fn a_closed_output_ends_a_program_quietly() {
+    let mut child = Command::new(env!("CARGO_BIN_EXE_generate"))
+        .args(["1", "1000000"])
+        .stdout(Stdio::piped())
+        .stderr(Stdio::piped())
+        .spawn()
+        .expect("the program starts");
+    drop(child.stdout.take());
+    let output = child.wait_with_output().expect("the program ends");
+    assert!(output.status.success());
+    assert_eq!(text(&output.stderr), "");
+}
