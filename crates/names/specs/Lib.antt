@@ -1,5 +1,6 @@
 -- What the leaves mean, in reading order.
 pub mod Choice
+pub mod Kinds
 pub mod Tokens
 pub mod Places
 pub mod Letters

@@ -3,7 +3,7 @@ ghost use mathlib.Core.Path.{_≡_};
 ghost use Rattle.names.specs.Letters.{lower, spelled};
 
 // The small letter of a letter, and any other byte itself.
-pub fn lower(byte: u8) -> u8
+pub(crate) fn lower(byte: u8) -> u8
     ensures { λ r. ⌜ r ≡ lower byte ⌝ }
 {
     if byte < 65 {
@@ -16,7 +16,7 @@ pub fn lower(byte: u8) -> u8
 }
 
 // Whether a name in small letters is this word.
-pub fn spells(name: &[u8], word: &[u8]) -> bool
+pub(crate) fn spells(name: &[u8], word: &[u8]) -> bool
     ensures { λ r. ⌜ r ≡ spelled (now (word .entry)) (now (name .entry)) ⌝ }
 {
     if name.len() != word.len() {

@@ -1,4 +1,5 @@
 // The leaves of the operand reader: tokens and their texts, and what a text spells.
+pub mod kinds;
 mod letters;
 mod literals;
 mod numbers;
@@ -6,7 +7,6 @@ mod registers;
 mod sizes;
 mod tokens;
 
-pub use letters::spells;
 pub use literals::Literal;
 pub use literals::string_literal_bytes;
 pub use numbers::Number;
@@ -24,6 +24,5 @@ pub use sizes::suffix_run;
 pub use tokens::Peeked;
 pub use tokens::Token;
 pub use tokens::detail_defined;
-pub use tokens::text;
 pub use tokens::text_of;
 pub use tokens::token_at;

@@ -1,69 +1,10 @@
 // The tokens of a line: four bytes each in the lent list, a kind, a detail, a start and an end.
+use crate::kinds::NUMBER;
+use crate::kinds::STRING_LITERAL;
 ghost use mathlib.Core.Path.{_≡_};
 ghost use lib.ListN.{drop, getD};
 ghost use Rattle.names.specs.Tokens.{tokenAt, detailDefined};
 ghost use Rattle.names.specs.Places.{textOf};
-
-// `TokenKind`, by its number.
-pub const IDENTIFIER: u8 = 0;
-
-pub const LOCAL_IDENTIFIER: u8 = 1;
-
-pub const NUMBER: u8 = 2;
-
-pub const STRING_LITERAL: u8 = 3;
-
-pub const SIZE_SUFFIX: u8 = 4;
-
-pub const HASH: u8 = 5;
-
-pub const COMMA: u8 = 6;
-
-pub const LEFT_PAREN: u8 = 7;
-
-pub const RIGHT_PAREN: u8 = 8;
-
-pub const LEFT_BRACKET: u8 = 9;
-
-pub const RIGHT_BRACKET: u8 = 10;
-
-pub const LEFT_BRACE: u8 = 11;
-
-pub const RIGHT_BRACE: u8 = 12;
-
-pub const COLON: u8 = 13;
-
-pub const PLUS: u8 = 14;
-
-pub const MINUS: u8 = 15;
-
-pub const STAR: u8 = 16;
-
-pub const SLASH: u8 = 17;
-
-pub const BACKSLASH: u8 = 18;
-
-pub const AMPERSAND: u8 = 19;
-
-pub const BANG: u8 = 20;
-
-pub const PIPE: u8 = 21;
-
-pub const CARET: u8 = 22;
-
-pub const TILDE: u8 = 23;
-
-pub const SHIFT_LEFT: u8 = 24;
-
-pub const SHIFT_RIGHT: u8 = 25;
-
-pub const WHITESPACE: u8 = 26;
-
-pub const COMMENT: u8 = 27;
-
-pub const END_OF_LINE: u8 = 28;
-
-pub const ERROR: u8 = 29;
 
 pub struct Token {
     pub kind: u8,
@@ -101,14 +42,14 @@ pub fn detail_defined(kind: u8, detail: u8) -> bool
     ensures { λ r. ⌜ r ≡ detailDefined kind detail ⌝ }
 {
     match kind {
-        2 => detail < 4,
-        3 => detail < 2,
+        NUMBER => detail < 4,
+        STRING_LITERAL => detail < 2,
         _ => { if detail == 0 { kind < 30 } else { false } }
     }
 }
 
 // The part of the line under a span, empty where the span does not lie within the line.
-pub fn text(line: &[u8], start: usize, end: usize) -> &[u8]
+pub(crate) fn text(line: &[u8], start: usize, end: usize) -> &[u8]
     ensures { λ r. ⌜ now r ≡ textOf (now (line .entry)) start end ⌝ }
 {
     if end < start {
@@ -121,7 +62,7 @@ pub fn text(line: &[u8], start: usize, end: usize) -> &[u8]
 }
 
 // A text's first byte, 0 where it has none.
-pub fn first(text: &[u8]) -> u8
+pub(crate) fn first(text: &[u8]) -> u8
     ensures { λ r. ⌜ r ≡ getD (now (text .entry)) 0 0 ⌝ }
 {
     if text.len() == 0 {
@@ -131,7 +72,7 @@ pub fn first(text: &[u8]) -> u8
 }
 
 // A text without its first byte.
-pub fn behind_first(text: &[u8]) -> &[u8]
+pub(crate) fn behind_first(text: &[u8]) -> &[u8]
     ensures { λ r. ⌜ now r ≡ drop 1 (now (text .entry)) ⌝ }
 {
     if text.len() == 0 {

@@ -1,0 +1,5 @@
+-- What reading an expression means, in reading order.
+pub mod Trees
+pub mod Diagnostics
+pub mod Reader
+pub mod Expressions

@@ -1,0 +1,3 @@
+-- What reading an operand means, in reading order.
+pub mod Operands
+pub mod Operand
