@@ -3,3 +3,4 @@ pub mod Trees
 pub mod Diagnostics
 pub mod Reader
 pub mod Expressions
+pub mod Records

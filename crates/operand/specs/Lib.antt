@@ -1,3 +1,4 @@
 -- What reading an operand means, in reading order.
 pub mod Operands
 pub mod Operand
+pub mod Records

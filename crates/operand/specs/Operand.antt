@@ -128,21 +128,23 @@ expectClose o k shape = bump (is Kinds.rightParen) (λ c x. answer (some (c .end
 
 -- ---- parse_predecrement
 
+-- step over the token at the cursor, which has been seen
+unfoldable pub over : {A : Type 0} → Reader A → Reader A
+over p = bump any (λ k x. p) λ u. p
+
 unfoldable pub predecremented : ℕ → Register → Maybe ℕ → Reader (Maybe Operand)
 predecremented start r (some e) = answer (some (O.predecrement r (span start e)))
 predecremented start r none = answer none
 
--- the register inside; that one stands there has been seen, so the last way is never taken
-unfoldable pub predecrementRegister : ℕ → Token → Token → Reader (Maybe Operand)
-predecrementRegister o minus k =
-    bump anAddressRegister (λ t x. expectClose o k 4 >>= predecremented (minus .start) (registerFrom t x)) λ u.
-    bump aRegister (λ t x. notAnAddressRegister o 4 t) λ u.
-    answer none
+-- behind the register r, whose token is t
+unfoldable pub predecrementClose : ℕ → Token → Token → Token → Register → Reader (Maybe Operand)
+predecrementClose o minus k t r = elim (leb 8 (r .index)) [
+  | true ↦ expectClose o k 4 >>= predecremented (minus .start) r
+  | false ↦ notAnAddressRegister o 4 t
+]
 
-unfoldable pub parsePredecrement : ℕ → Reader (Maybe Operand)
-parsePredecrement o =
-    bump (is Kinds.minus) (λ minus x. bump (is Kinds.leftParen) (λ k y. predecrementRegister o minus k) λ u. answer none) λ u.
-    answer none
+unfoldable pub parsePredecrement : ℕ → Token → Token → Token → List ℕ → Reader (Maybe Operand)
+parsePredecrement o minus k t x = over (over (over (predecrementClose o minus k t (registerFrom t x))))
 
 -- ---- parse_register_list
 
@@ -178,7 +180,7 @@ nextItem again o items (some item) =
 nextItem again o items none = answer none
 
 unfoldable pub listLoop : ℕ → ℕ → List RegisterListItem → Register → Reader (Maybe Operand)
-listLoop zero o items r = answer none
+listLoop zero o items r = listed o (items ++ (single r ∷ []))
 listLoop (suc fuel) o items r = listItem r >>= nextItem (listLoop fuel o) o items
 
 unfoldable pub parseRegisterList : ℕ → Register → Reader (Maybe Operand)
@@ -186,27 +188,27 @@ parseRegisterList o r = listLoop fuel o [] r
 
 -- ---- parse_register_operand
 
+unfoldable pub registerDirect : Register → Span → Operand
+registerDirect r s = pick (leb 8 (r .index)) (O.addressRegisterDirect r s) (O.dataRegisterDirect r s)
+
 unfoldable pub parseRegisterOperand : ℕ → Token → List ℕ → Reader (Maybe Operand)
 parseRegisterOperand o t x =
     let r = registerFrom t x in
     peek 0 (λ k y. either (eqb (k .kind) Kinds.minus) (eqb (k .kind) Kinds.slash)) (λ k y. parseRegisterList o r) λ u.
-    answer (some (elim (leb 8 (r .index)) [ true ↦ O.addressRegisterDirect r (spanOf t) | false ↦ O.dataRegisterDirect r (spanOf t) ]))
+    answer (some (registerDirect r (spanOf t)))
 
 -- ---- parse_index_register
 
 unfoldable pub scaleOf : ℕ → Bool
 scaleOf v = either (eqb v 1) (either (eqb v 2) (either (eqb v 4) (eqb v 8)))
 
+abbrev pub withScale : IndexRegister → ℕ → ℕ → IndexRegister
+withScale x v e = record { register = x .register; size = x .size; scale = v; suppressed = x .suppressed; span = span (x .span .start) e }
+
 -- the index register, once its scale's value is known
 unfoldable pub scaled : ℕ → ℕ → IndexRegister → Token → ℕ → Reader (Maybe IndexRegister)
 scaled o shape x k v = elim (scaleOf v) [
-  | true ↦ answer (some (record {
-    register = x .register;
-    size = x .size;
-    scale = v;
-    suppressed = x .suppressed;
-    span = span (x .span .start) (k .end);
-  }))
+  | true ↦ answer (some (withScale x v (k .end)))
   | false ↦ malformed o shape 7
 ]
 
@@ -243,10 +245,8 @@ baseShape undisplaced = 2
 
 -- an index written suppressed makes it a full index (`suppressed_index`)
 unfoldable pub indexedOperand : ℕ → Displacement → BaseRegister → (IndexRegister → Span → Operand) → IndexRegister → Maybe ℕ → Reader (Maybe Operand)
-indexedOperand o d base plain x (some e) = answer (some (elim (x .suppressed) [
-  | true ↦ O.fullIndex d base (indexed x) 0 undisplaced (span o e)
-  | false ↦ plain x (span o e)
-]))
+indexedOperand o d base plain x (some e) =
+    answer (some (pick (x .suppressed) (O.fullIndex d base (indexed x) 0 undisplaced (span o e)) (plain x (span o e))))
 indexedOperand o d base plain x none = answer none
 
 unfoldable pub closedIndex : ℕ → Token → ℕ → (IndexRegister → Maybe ℕ → Reader (Maybe Operand)) → Maybe IndexRegister → Reader (Maybe Operand)
@@ -291,20 +291,20 @@ pub record Registers : Type 0 where
   pub base : BaseRegister
   pub index : Index
 
+abbrev pub registers : BaseRegister → Index → Registers
+registers b x = record { base = b; index = x }
+
 unfoldable pub indexAlone : BaseRegister → Maybe IndexRegister → Reader (Maybe Registers)
-indexAlone base (some x) = answer (some (record { base = base; index = indexed x }))
+indexAlone base (some x) = answer (some (registers base (indexed x)))
 indexAlone base none = answer none
 
 -- behind a base: a comma and an index, or neither
 unfoldable pub afterBaseRegister : Setting → ℕ → ℕ → BaseRegister → Reader (Maybe Registers)
 afterBaseRegister s o shape base =
     here λ i l.
-    peek 0 (is Kinds.comma)
-    (λ c x.
     peek 1 (anIndex s (i + 1))
-    (λ t y. bump (is Kinds.comma) (λ c x. parseIndexRegister s o shape >>= indexAlone base) λ u. answer none) λ u.
-    answer (some (record { base = base; index = unindexed }))) λ u.
-    answer (some (record { base = base; index = unindexed }))
+    (λ t x. bump (is Kinds.comma) (λ c y. parseIndexRegister s o shape >>= indexAlone base) λ u. answer (some (registers base unindexed))) λ u.
+    answer (some (registers base unindexed))
 
 -- a size or a scale makes an address register an index
 unfoldable pub sizeOrScale : Test
@@ -335,11 +335,11 @@ closes paren comma t x = either (both paren (eqb (t .kind) Kinds.rightParen)) (e
 
 -- a suppressed register, a data register that is no base, or an address register with a size or a scale
 unfoldable pub startsAFullIndex : {A : Type 0} → Setting → (Unit {0} → Reader A) → (Unit {0} → Reader A) → Reader A
-startsAFullIndex s yes no =
+startsAFullIndex s hit miss =
     here λ i l.
-    peek 0 (unmarked s i isSuppressed) (λ t x. peek 1 (closes true true) (λ k y. yes tt) no) λ u.
-    peek 0 anAddressRegister (λ t x. peek 1 (closes false false) (λ k y. yes tt) no) λ u.
-    peek 0 aRegister (λ t x. peek 1 (closes true false) (λ k y. yes tt) no) no
+    peek 0 (unmarked s i isSuppressed) (λ t x. peek 1 (closes true true) (λ k y. hit tt) miss) λ u.
+    peek 0 anAddressRegister (λ t x. peek 1 (closes false false) (λ k y. hit tt) miss) λ u.
+    peek 0 aRegister (λ t x. peek 1 (closes true false) (λ k y. hit tt) miss) miss
 
 -- ---- parse_full_index
 
@@ -379,7 +379,7 @@ abbrev pub inner : Displacement → Registers → Inner
 inner d r = record { displacement = d; registers = r }
 
 abbrev pub noRegisters : Registers
-noRegisters = record { base = O.omitted; index = unindexed }
+noRegisters = registers O.omitted unindexed
 
 unfoldable pub innerRegisters : Displacement → Maybe Registers → Reader (Maybe Inner)
 innerRegisters d (some r) = answer (some (inner d r))
@@ -404,14 +404,17 @@ pub record Outer : Type 0 where
   pub indirection : ℕ
   pub displacement : Displacement
 
+abbrev pub outer : Index → ℕ → Displacement → Outer
+outer x n d = record { index = x; indirection = n; displacement = d }
+
 unfoldable pub outerDisplaced : Index → ℕ → Maybe Displacement → Reader (Maybe Outer)
-outerDisplaced x n (some d) = answer (some (record { index = x; indirection = n; displacement = d }))
+outerDisplaced x n (some d) = answer (some (outer x n d))
 outerDisplaced x n none = answer none
 
 unfoldable pub outerIndexed : Setting → ℕ → Maybe IndexRegister → Reader (Maybe Outer)
 outerIndexed s o (some x) =
     bump (is Kinds.comma) (λ c y. parseSizedDisplacement s o >>= outerDisplaced (indexed x) 2) λ u.
-    answer (some (record { index = indexed x; indirection = 2; displacement = undisplaced }))
+    answer (some (outer (indexed x) 2 undisplaced))
 outerIndexed s o none = answer none
 
 -- an index goes inside the brackets or behind them, not both
@@ -426,7 +429,7 @@ parseOuter s o x =
     here λ i l.
     peek 0 (anIndex s i) (λ t z. outerIndex s o x) λ u.
     parseSizedDisplacement s o >>= outerDisplaced x 1) λ u.
-    answer (some (record { index = x; indirection = 1; displacement = undisplaced }))
+    answer (some (outer x 1 undisplaced))
 
 unfoldable pub memoryIndirect : ℕ → Inner → Outer → Maybe ℕ → Reader (Maybe Operand)
 memoryIndirect o n u (some e) =
@@ -458,7 +461,7 @@ finishExpressionOperand o e = takeSizeSuffix (spanE e .start) >>= absoluteSize o
 
 -- the tail `(An)`, `(An,Xn)`, `(pc)`, `(pc,Xn)` behind a displacement, or no tail
 unfoldable pub displacementTail : Setting → ℕ → Expr → (Unit {0} → Reader (Maybe Operand)) → Reader (Maybe Operand)
-displacementTail s o e no = bump (is Kinds.leftParen) (λ k x. parseBaseAndIndex s o k (displaced e 0)) no
+displacementTail s o e miss = bump (is Kinds.leftParen) (λ k x. parseBaseAndIndex s o k (displaced e 0)) miss
 
 -- ---- parse_expression_operand
 
@@ -480,9 +483,10 @@ groupedOperand s o k e close =
     displacementTail s o e λ u.
     expressionFrom (s .limit) (withSpan e (span (k .start) (close .end))) >>= finishExpressionOperand o
 
+-- the comma behind the size has been seen
 unfoldable pub sizedBase : Setting → ℕ → Token → Expr → Suffix → Reader (Maybe Operand)
-sizedBase s o k e bare = answer none
-sizedBase s o k e (suffixed size t) = bump (is Kinds.comma) (λ c x. parseFullIndex s o k (displaced e size)) λ u. answer none
+sizedBase s o k e bare = over (parseFullIndex s o k (displaced e 0))
+sizedBase s o k e (suffixed size t) = over (parseFullIndex s o k (displaced e size))
 
 -- an Error token has been reported by the lexer
 unfoldable pub unexpected : Token → Reader (Maybe Operand)
@@ -510,10 +514,10 @@ parenthesised s o k = parseExpression (s .limit) >>= parenthesisedExpression s o
 
 -- a register or the program counter, and then a parenthesis, a comma or the end
 unfoldable pub startsABase : {A : Type 0} → (Unit {0} → Reader A) → (Unit {0} → Reader A) → Reader A
-startsABase yes no =
+startsABase hit miss =
     peek 0 (λ t x. either (aRegister t x) (aProgramCounter t x))
-    (λ t x. peek 1 any (λ k y. peek 1 (λ k y. either (eqb (k .kind) Kinds.rightParen) (eqb (k .kind) Kinds.comma)) (λ k y. yes tt) no) yes)
-    no
+    (λ t x. peek 1 any (λ k y. peek 1 (λ k y. either (eqb (k .kind) Kinds.rightParen) (eqb (k .kind) Kinds.comma)) (λ k y. hit tt) miss) hit)
+    miss
 
 unfoldable pub parseParenthesisedOperand : Setting → ℕ → Token → Reader (Maybe Operand)
 parseParenthesisedOperand s o k =
@@ -524,20 +528,22 @@ parseParenthesisedOperand s o k =
 
 -- ---- parse_operand
 
-unfoldable pub specialFrom : Token → SpecialRegister → Reader (Maybe Operand)
-specialFrom t (SpecialRegister.Is n) = answer (some (O.specialRegister n (spanOf t)))
-specialFrom t SpecialRegister.Not = answer none
+unfoldable pub specialIndex : SpecialRegister → ℕ
+specialIndex (SpecialRegister.Is n) = n
+specialIndex SpecialRegister.Not = 0
 
 unfoldable pub nameOrExpression : Setting → ℕ → Reader (Maybe Operand)
 nameOrExpression s o =
     bump aRegister (λ t x. parseRegisterOperand o t x) λ u.
-    bump (name λ x. isSpecial (specialOf x)) (λ t x. specialFrom t (specialOf x)) λ u.
+    bump (name λ x. isSpecial (specialOf x)) (λ t x. answer (some (O.specialRegister (specialIndex (specialOf x)) (spanOf t)))) λ u.
     parseExpressionOperand s o
 
--- `looks_like_predecrement`
-unfoldable pub looksLikePredecrement : {A : Type 0} → (Unit {0} → Reader A) → (Unit {0} → Reader A) → Reader A
-looksLikePredecrement yes no =
-    peek 0 (is Kinds.minus) (λ t x. peek 1 (is Kinds.leftParen) (λ k y. peek 2 aRegister (λ r z. yes tt) no) no) no
+-- `looks_like_predecrement`: a parenthesis and a register behind the minus
+unfoldable pub minusOperand : Setting → ℕ → Token → Reader (Maybe Operand)
+minusOperand s o minus =
+    peek 1 (is Kinds.leftParen)
+    (λ k y. peek 2 aRegister (λ t x. parsePredecrement o minus k t x) λ u. parseExpressionOperand s o) λ u.
+    parseExpressionOperand s o
 
 -- o is where the first token starts
 unfoldable pub operandFrom : Setting → ℕ → Reader (Maybe Operand)
@@ -545,7 +551,7 @@ operandFrom s o =
     peek 0 (is Kinds.comma) (λ k x. raise (operandExpected (spanOf k)) (answer none)) λ u.
     bump (is Kinds.hash) (λ k x. parseImmediate s o k) λ u.
     bump (is Kinds.leftParen) (λ k x. parseParenthesisedOperand s o k) λ u.
-    looksLikePredecrement (λ u. parsePredecrement o) λ u.
+    peek 0 (is Kinds.minus) (λ k x. minusOperand s o k) λ u.
     nameOrExpression s o
 
 unfoldable pub parseOperand : Setting → Reader (Maybe Operand)
