@@ -4,3 +4,5 @@ pub mod Diagnostics
 pub mod Reader
 pub mod Expressions
 pub mod Records
+pub mod Laws
+pub mod Costs
