@@ -1,7 +1,7 @@
 -- What each reader of expressions costs and leaves: how many nodes and diagnostics for the tokens it consumes, how far it has looked,
 -- and that it does not fail in silence.
 -- Assumes nothing.
-use mathlib.Core.Path.{_≡_, refl}
+use mathlib.Core.Path.{_≡_, refl, sym, _∙_}
 use mathlib.Core.Bool.{Bool, true, false}
 use mathlib.Core.List.{List}
 use Prim.Native.Nat.{ℕ, zero, suc, _+_, _≤_, _<_, max}
@@ -21,9 +21,12 @@ use Rattle.expressions.specs.Trees.{Span, Expr, number, characterLiteral
 use Rattle.expressions.specs.Diagnostics.{dotInName}
 use Rattle.expressions.specs.Reader.{Reader, answer, raise}
 use Rattle.expressions.specs.Expressions.{Term, read, reported, absent, Suffix, suffixed, known, suffixRun, takeSizeSuffix, operated, parseExpressionFrom, climbed, parseExpressionOf, isUnary, negated, plussed, valued, named, grouped, parsePrefixTerm, tooDeep, parsePrefix, parseExpression, expressionFrom, fuel}
-use Rattle.expressions.specs.Laws.{holds, All, Law, call, PlusBefore}
+use Rattle.expressions.specs.Laws.{holds, All, all-choose, Law, call, PlusBefore}
 
-size-withSpan : (e : Expr) (t : Span) → size (withSpan e t) ≡ size e
+pub true-false : true ≡ false → ⊥
+true-false z = let y : _≡_ {A = ℕ} 0 1 = cc in omega arith
+
+pub size-withSpan : (e : Expr) (t : Span) → size (withSpan e t) ≡ size e
 unfolding size withSpan
 size-withSpan (number b v s) t = refl
 size-withSpan (characterLiteral q o s) t = refl
@@ -62,11 +65,7 @@ module _ (at : ℕ → Place) (w : ℕ) (clean : Clean at w) where
 
   suffixRun-cost : (from : ℕ) (k : Token) (run : List ℕ) (i l d r : ℕ) → All (suffixRun from k run) at (Taken i d r) (i + 1) l d r
   unfolding All suffixRun
-  suffixRun-cost from k run i l d r = go (leb 2 (length run))
-    where
-      go : (b : Bool) → All (elim b [ true ↦ raise (dotInName (spanOf k) from) (answer (suffixed 0 (spanOf k))) | false ↦ known k (sizeOf run) ]) at (Taken i d r) (i + 1) l d r
-      go true = omega arith
-      go false = known-cost k (sizeOf run) i l d r
+  suffixRun-cost from k run i l d r = all-choose (leb 2 (length run)) _ _ _ _ _ _ _ _ (omega arith) (known-cost k (sizeOf run) i l d r)
 
   pub suffix-cost : (from i l d r : ℕ) → Law (takeSizeSuffix from) at (Taken i d r) i l d r
   unfolding All takeSizeSuffix
@@ -173,3 +172,36 @@ module _ (at : ℕ → Place) (w : ℕ) (clean : Clean at w) where
   pub from-cost : (room : ℕ) (left : Expr) (i l d r : ℕ) → Law (expressionFrom room left) at (Spent (size left) i d r) i l d r
   unfolding expressionFrom
   from-cost room left i l d r = climb-cost fuel _ (prefix-cost fuel room) 1 left i l d r
+
+  -- ---- an expression that begins with a minus consumes it, and a term too where it is read
+
+  abbrev pub Signed : ℕ → ℕ → ℕ → ℕ → ℕ → ℕ → Term → Type 0
+  Signed i d r j e s (read x) = (i + 2 ≤ j) × (i + size x ≤ j) × (e + i ≤ d + j) × (s ≤ max r j)
+  Signed i d r j e s reported = (i + 1 ≤ j) × (e + i ≤ d + j + 1) × (d + w ≤ e) × (s ≤ max r j)
+  Signed i d r j e s absent = ⊥
+
+  module _ {i : ℕ} {k : Token} {x : List ℕ} (h : at i ≡ stands k x) (q : eqb (k .kind) Kinds.minus ≡ true) where
+    seen : holds isUnary (at i) ≡ true
+    unfolding holds isUnary
+    seen = rw (h, holds, q)
+
+    unary-prefix : (f room l d r : ℕ) → Law (parsePrefix f (suc room)) at (Signed i d r) i l d r
+    unfolding All parsePrefix parsePrefixTerm negated size
+    unary-prefix f room l d r =
+        let sm = clean .small in
+        record {
+          all = (
+            (λ k x h q. call (prefix-cost f room _ _ _ _) λ j e s. elim [ read y ↦ omega arith | reported ↦ omega arith | absent ↦ omega arith ]),
+            λ no-unary. absurd (true-false (sym seen ∙ no-unary)),
+          );
+        }
+
+    pub unary-expression : (room l d r : ℕ) → Law (parseExpression (suc room)) at (Signed i d r) i l d r
+    unfolding All parseExpression parseExpressionOf climbed
+    unary-expression room l d r = record {
+      all = call (unary-prefix fuel room l d r) λ j e s. elim [
+        | read y ↦ λ a b c g m. call (climb-cost fuel _ (prefix-cost fuel (suc room)) _ _ _ _ _ _) (omega arith)
+        | reported ↦ omega arith
+        | absent ↦ λ a b c g m. absurd g
+      ];
+    }

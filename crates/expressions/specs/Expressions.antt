@@ -15,7 +15,7 @@ use Rattle.names.specs.declared.sizes.SizeSuffix.{SizeSuffix}
 use Rattle.names.specs.declared.numbers.Number.{Number}
 use Rattle.expressions.specs.Trees.{Span, span, noSpan, empty, spanOf, Expr, number, characterLiteral, symbol, currentAddress, unary, binary, spanE, withSpan}
 use Rattle.expressions.specs.Diagnostics.{numberTooLarge, unknownSizeSuffix, dotInName, unclosedParenthesis, nestingTooDeep, registerInExpression, expressionExpected, plusIsNotAUnaryOperator}
-use Rattle.expressions.specs.Reader.{Test, is, any, Reader, answer, here, raise, bump, peek, _>>=_}
+use Rattle.expressions.specs.Reader.{Test, is, any, Reader, answer, here, raise, bump, peek, _>>=_, choose}
 
 -- `Result<Expr, TermError>`
 pub data Term : Type 0 where
@@ -35,10 +35,7 @@ known k SizeSuffix.Not = raise (unknownSizeSuffix (spanOf k)) (answer (suffixed 
 
 -- a run of two letters or more is a dot inside a name, which began at `from`
 unfoldable pub suffixRun : ℕ → Token → List ℕ → Reader Suffix
-suffixRun from k run = elim (leb 2 (length run)) [
-  | true ↦ raise (dotInName (spanOf k) from) (answer (suffixed 0 (spanOf k)))
-  | false ↦ known k (sizeOf run)
-]
+suffixRun from k run = choose (leb 2 (length run)) (raise (dotInName (spanOf k) from) (answer (suffixed 0 (spanOf k)))) (known k (sizeOf run))
 
 unfoldable pub takeSizeSuffix : ℕ → Reader Suffix
 takeSizeSuffix from = bump (is Kinds.sizeSuffix) (λ k x. suffixRun from k (runOf x)) λ u. answer bare

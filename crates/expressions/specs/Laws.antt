@@ -13,7 +13,7 @@ use Rattle.names.specs.Places.{Place, nothing, stands}
 use Rattle.names.specs.declared.tokens.Token.{Token}
 use Rattle.expressions.specs.Trees.{Span, spanOf}
 use Rattle.expressions.specs.Diagnostics.{Diagnostic}
-use Rattle.expressions.specs.Reader.{Test, Reading, after, Reader, answer, bind, here, raise, bump, peek, run, met, reach}
+use Rattle.expressions.specs.Reader.{Test, Reading, after, Reader, answer, bind, here, raise, bump, peek, choose, run, met, reach}
 
 -- ---- a test at a place, by cases
 
@@ -249,3 +249,8 @@ call h g = weaken _ _ _ _ _ _ _ _ (h .all) g
 pub law-run : {A : Type 0} {p : Reader A} {at : ℕ → Place} {R : ℕ → ℕ → ℕ → A → Type 0} {i l d r : ℕ}
     → Law p at R i l d r → R (run p at i l .cursor) (d + length (run p at i l .raised)) (reach p at i l r) (run p at i l .value)
 law-run h = all-run _ _ _ _ _ _ _ (h .all)
+
+pub all-choose : {A : Type 0} (b : Bool) (p q : Reader A) (at : ℕ → Place) (Q : ℕ → ℕ → ℕ → A → Type 0) (i l d r : ℕ)
+    → All p at Q i l d r → All q at Q i l d r → All (choose b p q) at Q i l d r
+all-choose true p q at Q i l d r g h = g
+all-choose false p q at Q i l d r g h = h

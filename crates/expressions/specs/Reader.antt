@@ -40,6 +40,11 @@ infixl 20 _>>=_
 abbrev pub _>>=_ : {A B : Type 0} → Reader B → (B → Reader A) → Reader A
 _>>=_ p f = bind p f
 
+-- one reader or the other, by a test
+abbrev pub choose : {A : Type 0} → Bool → Reader A → Reader A → Reader A
+choose true p q = p
+choose false p q = q
+
 abbrev pub reading : {A : Type 0} → ℕ → ℕ → List Diagnostic → A → Reading A
 reading i l ds a = record { cursor = i; end = l; raised = ds; value = a }
 

@@ -2,3 +2,4 @@
 pub mod Operands
 pub mod Operand
 pub mod Records
+pub mod Costs

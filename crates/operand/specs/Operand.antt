@@ -16,7 +16,7 @@ use Rattle.names.specs.declared.registers.SpecialRegister.{SpecialRegister}
 use Rattle.names.specs.declared.registers.Suppressed.{Suppressed}
 use Rattle.expressions.specs.Trees.{Span, span, noSpan, empty, spanOf, Expr, spanE, withSpan}
 use Rattle.expressions.specs.Diagnostics.{operandExpected, unclosedParenthesis, malformedOperand, malformedOpen, unexpectedTokenInOperand, registerExpectedInRegisterList, registerRangeOutOfOrder, expressionExpected}
-use Rattle.expressions.specs.Reader.{Test, is, any, Reading, Reader, answer, here, raise, bump, peek, _>>=_, run}
+use Rattle.expressions.specs.Reader.{Test, is, any, Reading, Reader, answer, here, raise, bump, peek, _>>=_, choose, run}
 use Rattle.expressions.specs.Expressions.{Term, read, reported, absent, Suffix, suffixed, bare, takeSizeSuffix, valued, fuel, parseExpression, expressionFrom}
 use Rattle.operand.specs.Operands.{Register, IndexRegister, BaseRegister, Displacement, displaced, undisplaced, Index, indexed, unindexed, RegisterListItem, single, range, Operand, Maybe, some, none}
 use Rattle.operand.specs.Operands as O
@@ -108,10 +108,9 @@ notAnAddressRegister o shape k = here λ i l. raise (malformedOperand shape 2 (s
 -- a size of 3 is long, the one that an immediate may have; 0 is one that is not known
 unfoldable pub immediateSize : ℕ → Token → Expr → Suffix → Reader (Maybe Operand)
 immediateSize o hash e bare = answer (some (O.immediate e false (span (hash .start) (spanE e .end))))
-immediateSize o hash e (suffixed size s) = elim (eqb size 3) [
-  | true ↦ answer (some (O.immediate e true (span (hash .start) (s .end))))
-  | false ↦ elim (eqb size 0) [ true ↦ answer (some (O.immediate e false (span (hash .start) (s .end)))) | false ↦ malformed o 1 1 ]
-]
+immediateSize o hash e (suffixed size s) =
+    choose (eqb size 3) (answer (some (O.immediate e true (span (hash .start) (s .end)))))
+    (choose (eqb size 0) (answer (some (O.immediate e false (span (hash .start) (s .end))))) (malformed o 1 1))
 
 unfoldable pub immediateValue : ℕ → Token → Term → Reader (Maybe Operand)
 immediateValue o hash (read e) = takeSizeSuffix (spanE e .start) >>= immediateSize o hash e
@@ -138,10 +137,7 @@ predecremented start r none = answer none
 
 -- behind the register r, whose token is t
 unfoldable pub predecrementClose : ℕ → Token → Token → Token → Register → Reader (Maybe Operand)
-predecrementClose o minus k t r = elim (leb 8 (r .index)) [
-  | true ↦ expectClose o k 4 >>= predecremented (minus .start) r
-  | false ↦ notAnAddressRegister o 4 t
-]
+predecrementClose o minus k t r = choose (leb 8 (r .index)) (expectClose o k 4 >>= predecremented (minus .start) r) (notAnAddressRegister o 4 t)
 
 unfoldable pub parsePredecrement : ℕ → Token → Token → Token → List ℕ → Reader (Maybe Operand)
 parsePredecrement o minus k t x = over (over (over (predecrementClose o minus k t (registerFrom t x))))
@@ -158,10 +154,7 @@ registerExpected sign =
 unfoldable pub ranged : Register → Register → Reader (Maybe RegisterListItem)
 ranged r q =
     let s = span (r .span .start) (q .span .end) in
-    elim (ltb (q .index) (r .index)) [
-      | true ↦ raise (registerRangeOutOfOrder (r .index) (q .index) s) (answer (some (range r q s)))
-      | false ↦ answer (some (range r q s))
-    ]
+    choose (ltb (q .index) (r .index)) (raise (registerRangeOutOfOrder (r .index) (q .index) s) (answer (some (range r q s)))) (answer (some (range r q s)))
 
 -- the item that begins with the register r
 unfoldable pub listItem : Register → Reader (Maybe RegisterListItem)
@@ -207,10 +200,7 @@ withScale x v e = record { register = x .register; size = x .size; scale = v; su
 
 -- the index register, once its scale's value is known
 unfoldable pub scaled : ℕ → ℕ → IndexRegister → Token → ℕ → Reader (Maybe IndexRegister)
-scaled o shape x k v = elim (scaleOf v) [
-  | true ↦ answer (some (withScale x v (k .end)))
-  | false ↦ malformed o shape 7
-]
+scaled o shape x k v = choose (scaleOf v) (answer (some (withScale x v (k .end)))) (malformed o shape 7)
 
 unfoldable pub indexScale : ℕ → ℕ → IndexRegister → Reader (Maybe IndexRegister)
 indexScale o shape x =
