@@ -6,3 +6,4 @@ pub mod Expressions
 pub mod Records
 pub mod Laws
 pub mod Costs
+pub mod Fuel

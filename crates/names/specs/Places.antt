@@ -1,11 +1,15 @@
 -- What stands at a place: nothing, or a token with the bytes of its text.
 -- Assumes nothing.
+use mathlib.Core.Path.{_≡_, refl}
+use mathlib.Core.Bool.{Bool, true, false}
 use mathlib.Core.List.{List, []}
-use Prim.Native.Nat.{ℕ, _-_}
+use Prim.Native.Nat.{ℕ, _-_, _<_}
+use native.Mathlib.Omega.{arith}
+use borrow.Author.Tests.{leb-false}
 use lib.Dec.{leb}
 use lib.ListN.{length, take, drop}
 use Rattle.names.specs.Choice.{pick, both}
-use Rattle.names.specs.Tokens.{tokenAt}
+use Rattle.names.specs.Tokens.{count, tokenFrom, tokenAt}
 use Rattle.names.specs.declared.tokens.Token.{Token}
 use Rattle.names.specs.declared.tokens.Peeked.{Peeked}
 use Rattle.names.specs.declared.tokens.Peeked.the-variants.{Is, End}
@@ -25,3 +29,12 @@ placed L (Is t) = stands t (textOf L (t .start) (t .end))
 
 unfoldable pub place : List ℕ → List ℕ → ℕ → Place
 place L T i = placed L (tokenAt T i)
+
+-- a token stands below the count
+pub below : (L T : List ℕ) (i : ℕ) (t : Token) (x : List ℕ) → place L T i ≡ stands t x → i < count T
+unfolding place placed tokenAt
+below L T i t x h = go (leb (count T) i) refl h
+  where
+    go : (b : Bool) → leb (count T) i ≡ b → placed L (pick b End (Is (tokenFrom T i))) ≡ stands t x → i < count T
+    go true q g = let z : _≡_ {A = ℕ} 0 1 = cc in omega arith
+    go false q g = leb-false (count T) i q

@@ -15,11 +15,12 @@ use Rattle.names.specs.declared.tokens.Peeked.the-variants.{Is, End}
 abbrev pub count : List ℕ → ℕ
 count T = length T / 4
 
+abbrev pub tokenFrom : List ℕ → ℕ → Token
+tokenFrom T i = record { kind = getD T (4 * i) 0; detail = getD T (4 * i + 1) 0; start = getD T (4 * i + 2) 0; end = getD T (4 * i + 3) 0 }
+
 -- the token at a place, or the end
 unfoldable pub tokenAt : List ℕ → ℕ → Peeked
-tokenAt T i =
-    pick (leb (count T) i) End
-    (Is (record { kind = getD T (4 * i) 0; detail = getD T (4 * i + 1) 0; start = getD T (4 * i + 2) 0; end = getD T (4 * i + 3) 0 }))
+tokenAt T i = pick (leb (count T) i) End (Is (tokenFrom T i))
 
 -- the kinds are 0 to 29; the detail of a number is its base, 0 to 3, of a string its quote, 0 or 1, of any other kind 0
 unfoldable pub detailDefined : ℕ → ℕ → Bool

@@ -2,4 +2,9 @@
 pub mod Operands
 pub mod Operand
 pub mod Records
+pub mod Mask
+pub mod Entry
 pub mod Costs
+pub mod Readings
+pub mod Fuel
+pub mod Conditions

@@ -1,0 +1,177 @@
+-- The buyer's conditions, as theorems over the definition. Each stands under the buyer's words; what they lean on is in Readings.antt and Fuel.antt.
+-- Assumes nothing.
+use mathlib.Core.Path.{_≡_, refl, sym, _∙_, ap, ap₂}
+use mathlib.Core.Bool.{Bool, true, false, not}
+use mathlib.Core.List.{List, [], _∷_}
+use Prim.Native.Nat.{ℕ, _+_, _*_, _%_, _≤_, _<_, max}
+use native.Mathlib.Omega.{arith}
+use borrow.Author.Tests.{ltb-false}
+use lib.Dec.{eqb, ltb}
+use lib.ListN.{length}
+use Rattle.names.specs.Choice.{pick, both, either}
+use Rattle.names.specs.Kinds
+use Rattle.names.specs.Tokens.{count}
+use Rattle.names.specs.Places.{Place, nothing, stands, below}
+use Rattle.names.specs.declared.tokens.Token.{Token}
+use Rattle.expressions.specs.Trees.{Expr}
+use Rattle.expressions.specs.Diagnostics.{Diagnostic}
+use Rattle.expressions.specs.Reader.{Reading, run, _>>=_}
+use Rattle.expressions.specs.Expressions.{fuel, parsePrefix, parseExpressionFrom}
+use Rattle.expressions.specs.Laws.{Every, Fine}
+use Rattle.expressions.specs.Costs.{true-false}
+use Rattle.expressions.specs.Fuel.{turn, climb-equation}
+use Rattle.operand.specs.Operands.{Register, RegisterListItem, Operand, Maybe, some, none}
+use Rattle.operand.specs.Operand.{Setting, readingOf, listItem, nextItem, listLoop}
+use Rattle.operand.specs.Records.{sizeM, nodesM, operandRecord, diagnosticRecords}
+use Rattle.operand.specs.Entry.{Input, placeOf, conditions, firstOf, refusal, setting, readingAt}
+use Rattle.operand.specs.Readings as R
+use Rattle.operand.specs.Readings.{gap}
+use Rattle.operand.specs.Fuel.{list-equation}
+
+-- "An input is valid if no refusal of the table applies to it."
+abbrev pub Valid : Input → Type 0
+Valid a = refusal a ≡ 0
+
+-- ---- what a valid input has
+
+abbrev AllFalse : List Bool → Type 0
+AllFalse [] = Unit {0}
+AllFalse (b ∷ bs) = (b ≡ false) × AllFalse bs
+
+none-holds : (n : ℕ) (bs : List Bool) → 0 < n → firstOf n bs ≡ 0 → AllFalse bs
+unfolding firstOf
+none-holds n [] p h = tt
+none-holds n (true ∷ bs) p h = absurd (omega arith)
+none-holds n (false ∷ bs) p h = (refl, none-holds (n + 1) bs (omega arith) h)
+
+right-false : (b c : Bool) → either b c ≡ false → c ≡ false
+right-false true c h = absurd (true-false h)
+right-false false c h = h
+
+-- a list of at most 255 tokens, and a start within it
+pub valid-bounds : (a : Input) → Valid a → (count (a .tokens) ≤ 255) × (a .start ≤ count (a .tokens))
+unfolding refusal conditions
+valid-bounds a v =
+    let h = none-holds 1 (conditions a) (omega arith) v in
+    (ltb-false 255 (count (a .tokens)) (right-false (not (eqb (length (a .tokens) % 4) 0)) _ (h .1 .1 .0)), ltb-false (count (a .tokens)) (a .start) (h .1 .1 .1 .1 .0))
+
+module _ (limit : ℕ) (lim : 1 ≤ limit) (a : Input) where
+  abbrev pub answered : Reading (Maybe Operand)
+  answered = readingAt limit a
+
+  -- ---- condition 1
+
+  -- "the cursor neither goes back nor passes the end"
+  pub cursor-bounds : Valid a → (a .start ≤ answered .cursor) × (answered .cursor ≤ count (a .tokens))
+  cursor-bounds v = (
+    R.forward (setting limit a) (placeOf a) (a .start),
+    R.within (setting limit a) (placeOf a) (count (a .tokens)) (a .start) (λ j k x h. below (a .line) (a .tokens) j k x h) (valid-bounds a v .1),
+  )
+
+  -- "No operand is never silent (unless the start is the end or an Error token stood from there on)."
+  pub never-silent : (k : Token) (x : List ℕ) → placeOf a (a .start) ≡ stands k x
+      → ((j : ℕ) (t : Token) (y : List ℕ) → a .start ≤ j → placeOf a j ≡ stands t y → eqb (t .kind) Kinds.error ≡ false)
+      → answered .value ≡ none → 0 < length (answered .raised)
+  never-silent k x there quiet e = R.never-silent (setting limit a) lim (placeOf a) (a .start) k x there quiet e
+
+  -- "A reading adds at most twice its consumed tokens plus one." (The number is at most the consumed tokens plus one.)
+  pub diagnostics-bound : length (answered .raised) + 2 * a .start ≤ 2 * answered .cursor + 1
+  diagnostics-bound = omega (arith, R.raised-few (setting limit a) lim (placeOf a) (a .start), R.forward (setting limit a) (placeOf a) (a .start))
+
+  -- so 511 records are enough
+  pub records-enough : Valid a → length (answered .raised) ≤ 511
+  records-enough v = omega (arith, diagnostics-bound, cursor-bounds v .0, cursor-bounds v .1, valid-bounds a v .0)
+
+  -- the nodes are at most the consumed tokens
+  pub nodes-bound : sizeM (answered .value) + a .start ≤ answered .cursor
+  nodes-bound = R.nodes-few (setting limit a) lim (placeOf a) (a .start)
+
+  -- so 255 of fourteen bytes are enough
+  pub nodes-enough : Valid a → 14 * sizeM (answered .value) ≤ 3570
+  nodes-enough v = omega (arith, nodes-bound, cursor-bounds v .1, valid-bounds a v .0)
+
+  -- "PlusIsNotAUnaryOperator": its plus stands before the cursor, never at it
+  pub plus-before-cursor : Every (λ d. Fine (placeOf a) d (answered .cursor)) (answered .raised)
+  plus-before-cursor = R.plus-before (setting limit a) lim (placeOf a) (a .start)
+
+-- ---- condition 3
+
+-- "Two inputs are alike at a place if both lists have a token there with the same kind, detail, start and end, over the same bytes of their lines,
+-- or if neither list has one."
+abbrev pub AlikeAt : Input → Input → ℕ → Type 0
+AlikeAt a b j = placeOf a j ≡ placeOf b j
+
+-- the operand's record, or none
+abbrev pub recordM : Maybe Operand → Maybe (List ℕ)
+recordM (some x) = some (operandRecord x)
+recordM none = none
+
+-- "Answers are the same if both have an operand, with the same record, or both have none; the cursor is the same; as many nodes are used, with the same
+-- records; and as many diagnostics are added, the same records in the same order."
+pub record SameAnswer (r q : Reading (Maybe Operand)) : Type 0 where
+  pub operand : recordM (r .value) ≡ recordM (q .value)
+  pub cursor : r .cursor ≡ q .cursor
+  pub nodesUsed : sizeM (r .value) ≡ sizeM (q .value)
+  pub nodes : nodesM (r .value) ≡ nodesM (q .value)
+  pub added : length (r .raised) ≡ length (q .raised)
+  pub diagnostics : diagnosticRecords (r .raised) ≡ diagnosticRecords (q .raised)
+
+same-answer : {r q : Reading (Maybe Operand)} → r ≡ q → SameAnswer r q
+same-answer e = record {
+  operand = ap (λ r. recordM (r .value)) e;
+  cursor = ap (λ r. r .cursor) e;
+  nodesUsed = ap (λ r. sizeM (r .value)) e;
+  nodes = ap (λ r. nodesM (r .value)) e;
+  added = ap (λ r. length (r .raised)) e;
+  diagnostics = ap (λ r. diagnosticRecords (r .raised)) e;
+}
+
+-- what two inputs have in common that are given the same start and mark, and are alike from the start through a place
+pub record AlikeThrough (a b : Input) (last : ℕ) : Type 0 where
+  pub start : a .start ≡ b .start
+  pub mark : a .mark ≡ b .mark
+  pub places : (j : ℕ) → a .start ≤ j → j ≤ last → AlikeAt a b j
+
+-- "What stands behind the cursor's token changes nothing: two valid inputs alike from the start through the cursor (one place further where there is no
+-- operand) have the same answer." `gap` is 0 for an operand and 1 for none; there is no exception.
+pub local : (limit : ℕ) → 1 ≤ limit → (a b : Input) → Valid a → Valid b
+    → AlikeThrough a b (readingAt limit a .cursor + gap (readingAt limit a .value))
+    → SameAnswer (readingAt limit a) (readingAt limit b)
+local limit lim a b va vb h =
+    same-answer
+    (R.local (setting limit a) lim (placeOf a) (a .start) (placeOf b) (h .places)
+    ∙ ap₂ (λ m i. readingOf (record { limit = limit; mark = m }) (placeOf b) i) (h .mark) (h .start))
+
+-- a diagnostic of kind 13 whose plus is the token at this place
+unfoldable pub plusAt : Place → List Diagnostic → Bool
+plusAt p [] = false
+plusAt nothing (d ∷ ds) = false
+plusAt (stands t x) (d ∷ ds) =
+    either (both (eqb (d .kind) 13) (both (eqb (d .span .start) (t .start)) (eqb (d .span .end) (t .end)))) (plusAt (stands t x) ds)
+
+-- how far two inputs must be alike as the condition was first written: one place further too where a plus that is no unary operator stands at the cursor
+unfoldable pub asWritten : Input → Reading (Maybe Operand) → ℕ
+asWritten a r = r .cursor + max (gap (r .value)) (pick (plusAt (placeOf a (r .cursor)) (r .raised)) 1 0)
+
+-- the condition with that exception, which is never needed
+pub local-as-written : (limit : ℕ) → 1 ≤ limit → (a b : Input) → Valid a → Valid b → AlikeThrough a b (asWritten a (readingAt limit a))
+    → SameAnswer (readingAt limit a) (readingAt limit b)
+unfolding asWritten
+local-as-written limit lim a b va vb h =
+    local limit lim a b va vb (record { start = h .start; mark = h .mark; places = λ j x y. h .places j x (omega arith) })
+
+-- ---- the definition means what it says
+
+-- The fuel never decides: for every valid input, the climb of `parse_expression_from` and the loop of `parse_register_list` satisfy their own equations.
+pub fuel-never-decides : (a : Input) → Valid a → (room min : ℕ) (left : Expr) (i l : ℕ)
+    → run (parseExpressionFrom fuel (parsePrefix fuel room) min left) (placeOf a) i l
+    ≡ run (turn (parseExpressionFrom fuel (parsePrefix fuel room)) (parsePrefix fuel room) min left) (placeOf a) i l
+unfolding fuel
+fuel-never-decides a v room min left i l =
+    climb-equation (placeOf a) (count (a .tokens)) (λ j k x h. below (a .line) (a .tokens) j k x h) (omega (arith, valid-bounds a v .0)) room min left i l
+
+pub list-fuel-never-decides : (a : Input) → Valid a → (o : ℕ) (items : List RegisterListItem) (r : Register) (i l : ℕ)
+    → run (listLoop fuel o items r) (placeOf a) i l ≡ run (listItem r >>= nextItem (listLoop fuel o) o items) (placeOf a) i l
+unfolding fuel
+list-fuel-never-decides a v o items r i l =
+    list-equation (placeOf a) (count (a .tokens)) (λ j k x h. below (a .line) (a .tokens) j k x h) (omega (arith, valid-bounds a v .0)) o items r i l

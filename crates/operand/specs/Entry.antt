@@ -1,0 +1,148 @@
+-- The call of document 01: what is lent and given, the refusals, and what comes back, with every byte of both stores.
+-- Assumes nothing.
+use mathlib.Core.Path.{_≡_, refl}
+use mathlib.Core.Bool.{Bool, true, false, not}
+use mathlib.Core.List.{List, [], _∷_, _++_}
+use Prim.Native.Nat.{ℕ, zero, suc, _+_, _-_, _*_, _/_, _%_}
+use Prim.Native.String.{String}
+use lib.Dec.{eqb, leb, ltb}
+use lib.ListN.{length, take, drop, replicate}
+use Rattle.names.specs.Choice.{pick, both, either}
+use Rattle.names.specs.Kinds
+use Rattle.names.specs.Tokens.{count, detailDefined}
+use Rattle.names.specs.Places.{Place, place, textOf}
+use Rattle.names.specs.Letters.{bytes, same}
+use Rattle.expressions.specs.Reader.{Reading}
+use Rattle.operand.specs.Operands.{Operand, Maybe, some, none}
+use Rattle.operand.specs.Operand.{Setting, readingOf}
+use Rattle.operand.specs.Records.{sizeM, nodesM, operandRecord, diagnosticRecords}
+use Rattle.operand.specs.Mask.{maskM}
+
+-- what a call lends and gives: a line, four-byte tokens, a start, a symbol mark, a node store, a diagnostic list with its used count
+pub record Input : Type 0 where
+  pub line : List ℕ
+  pub tokens : List ℕ
+  pub start : ℕ
+  pub mark : ℕ
+  pub nodes : List ℕ
+  pub diagnostics : List ℕ
+  pub used : ℕ
+
+-- what stands at each place
+abbrev pub placeOf : Input → ℕ → Place
+placeOf a j = place (a .line) (a .tokens) j
+
+-- ---- refusals
+
+-- the bytes that the node store must have for 255 records, and the diagnostic records that must be free
+unfoldable pub nodeBytes : ℕ
+nodeBytes = 3570
+
+unfoldable pub freeRecords : ℕ
+freeRecords = 511
+
+unfoldable pub foreign : List ℕ → Bool
+foreign [] = false
+foreign (c ∷ cs) = either (either (ltb c 32) (ltb 126 c)) (foreign cs)
+
+-- the signs, from kind 5 (`#`) on
+abbrev pub signs : List String
+signs =
+    "#" ∷ "," ∷ "(" ∷ ")" ∷ "[" ∷ "]" ∷ "{" ∷ "}" ∷ ":" ∷ "+" ∷ "-" ∷ "*" ∷ "/" ∷ "\\" ∷ "&" ∷ "!" ∷ "|" ∷ "^" ∷ "~" ∷ "<<" ∷ ">>" ∷ []
+
+-- a kind beyond the signs may be spelled in any way
+unfoldable pub spelledAs : List String → ℕ → List ℕ → Bool
+spelledAs [] n x = true
+spelledAs (w ∷ ws) zero x = same x (bytes w)
+spelledAs (w ∷ ws) (suc n) x = spelledAs ws n x
+
+-- a number of this base begins with its prefix: `$`, `%`, `@`
+unfoldable pub prefixed : ℕ → List ℕ → Bool
+prefixed base [] = eqb base 0
+prefixed base (c ∷ cs) =
+    either (eqb base 0) (eqb c (pick (eqb base 1) 36 (pick (eqb base 2) 37 64)))
+
+-- by its kind: a number has its prefix, one of kind 0 to 4 is not empty, a sign is spelled so
+unfoldable pub wellSpelled : ℕ → ℕ → List ℕ → Bool
+wellSpelled kind detail x =
+    pick (leb kind 4)
+    (both (not (eqb (length x) 0)) (either (not (eqb kind Kinds.number)) (prefixed detail x)))
+    (spelledAs signs (kind - 5) x)
+
+-- a token behind one that ends at p
+unfoldable pub goodToken : List ℕ → ℕ → ℕ → ℕ → ℕ → ℕ → Bool
+goodToken L p kind detail start end =
+    both (detailDefined kind detail)
+    (both (leb start end) (both (leb end (length L)) (both (leb p start) (wellSpelled kind detail (textOf L start end)))))
+
+-- each token is good, from the one behind p on
+unfoldable pub goodTokens : List ℕ → ℕ → List ℕ → Bool
+goodTokens L p [] = true
+goodTokens L p (k ∷ []) = true
+goodTokens L p (k ∷ d ∷ []) = true
+goodTokens L p (k ∷ d ∷ s ∷ []) = true
+goodTokens L p (k ∷ d ∷ s ∷ e ∷ ts) = both (goodToken L p k d s e) (goodTokens L e ts)
+
+-- the conditions of the refusals 1 to 7, each alone: long line, foreign byte, bad list, bad token, bad start, short nodes, short diagnostics
+unfoldable pub conditions : Input → List Bool
+conditions a =
+    ltb 255 (length (a .line))
+    ∷ foreign (a .line)
+    ∷ either (not (eqb (length (a .tokens) % 4) 0)) (ltb 255 (count (a .tokens)))
+    ∷ not (goodTokens (a .line) 0 (a .tokens))
+    ∷ ltb (count (a .tokens)) (a .start)
+    ∷ ltb (length (a .nodes)) nodeBytes
+    ∷ ltb (length (a .diagnostics) / 10) (a .used + freeRecords)
+    ∷ []
+
+-- the number of the first that holds, counted from n, and 0 if none does
+unfoldable pub firstOf : ℕ → List Bool → ℕ
+firstOf n [] = 0
+firstOf n (b ∷ bs) = pick b n (firstOf (n + 1) bs)
+
+-- the number of the refusal, 0 for none
+unfoldable pub refusal : Input → ℕ
+refusal a = firstOf 1 (conditions a)
+
+-- ---- the answer
+
+-- an operand by its record, or none, with the cursor, the nodes used, the diagnostics added and the mask; or a refusal by its number
+pub data Answer : Type 0 where
+  operand : List ℕ → ℕ → ℕ → ℕ → ℕ → Answer
+  noOperand : ℕ → ℕ → Answer
+  refused : ℕ → Answer
+
+-- the answer, and both stores afterwards
+pub record Outcome : Type 0 where
+  pub answer : Answer
+  pub nodes : List ℕ
+  pub diagnostics : List ℕ
+
+abbrev pub setting : ℕ → Input → Setting
+setting limit a = record { limit = limit; mark = a .mark }
+
+-- the reading of an input, at a nesting limit
+abbrev pub readingAt : ℕ → Input → Reading (Maybe Operand)
+readingAt limit a = readingOf (setting limit a) (placeOf a) (a .start)
+
+unfoldable pub answerOf : Reading (Maybe Operand) → Maybe Operand → Answer
+answerOf r (some x) = operand (operandRecord x) (r .cursor) (sizeM (some x)) (length (r .raised)) (maskM (some x))
+answerOf r none = noOperand (r .cursor) (length (r .raised))
+
+-- the nodes' records, zeros up to the 255th, and the bytes past them
+unfoldable pub nodesAfter : Maybe Operand → List ℕ → List ℕ
+nodesAfter v N = nodesM v ++ (replicate (nodeBytes - 14 * sizeM v) 0 ++ drop nodeBytes N)
+
+-- the used records, the added ones, and the bytes past them
+unfoldable pub diagnosticsAfter : Reading (Maybe Operand) → ℕ → List ℕ → List ℕ
+diagnosticsAfter r used D = take (10 * used) D ++ (diagnosticRecords (r .raised) ++ drop (10 * (used + length (r .raised))) D)
+
+-- a refusal leaves both stores as they were
+unfoldable pub outcomeOf : ℕ → Input → ℕ → Outcome
+outcomeOf limit a zero =
+    let r = readingAt limit a in
+    record { answer = answerOf r (r .value); nodes = nodesAfter (r .value) (a .nodes); diagnostics = diagnosticsAfter r (a .used) (a .diagnostics) }
+outcomeOf limit a (suc k) = record { answer = refused (suc k); nodes = a .nodes; diagnostics = a .diagnostics }
+
+unfoldable pub outcome : ℕ → Input → Outcome
+outcome limit a = outcomeOf limit a (refusal a)

@@ -1,0 +1,49 @@
+-- The fuel of the register list never decides.
+-- Assumes nothing.
+use mathlib.Core.Path.{_≡_, refl, _∙_, ap}
+use mathlib.Core.List.{List, [], _∷_, _++_}
+use Prim.Native.Nat.{ℕ, zero, suc, _+_, _≤_, _<_}
+use native.Mathlib.Omega.{arith}
+use Rattle.names.specs.Places.{Place, stands}
+use Rattle.names.specs.declared.tokens.Token.{Token}
+use Rattle.expressions.specs.Reader.{Reader, Reading, after, answer, bind, _>>=_, run}
+use Rattle.expressions.specs.Expressions.{fuel}
+use Rattle.expressions.specs.Fuel.{Alike, same-alike, flip, bind-alike, bump-alike, bump-past}
+use Rattle.operand.specs.Operands.{Register, RegisterListItem, single, Operand, Maybe, some, none}
+use Rattle.operand.specs.Operand.{registerFrom, listItem, listed, nextItem, listLoop}
+
+then : {A : Type 0} {at : ℕ → Place} {i l : ℕ} {p q r : Reader A} → Alike at i l p q → Alike at i l q r → Alike at i l p r
+then f g = record { same = f .same ∙ g .same }
+
+-- a reader that only answers leaves the next one where it was
+answer-bind : {A B : Type 0} {at : ℕ → Place} {i l : ℕ} {p : Reader B} {f : B → Reader A} (b : B) → Alike at i l p (answer b) → Alike at i l (bind p f) (f b)
+unfolding run
+answer-bind {at = at} {i = i} {l = l} {f = f} b h = record { same = ap (λ r. after (r .raised) (run (f (r .value)) at (r .cursor) (r .end))) (h .same) }
+
+module _ (at : ℕ → Place) (count : ℕ) (ends : (j : ℕ) (k : Token) (x : List ℕ) → at j ≡ stands k x → j < count) (o : ℕ) where
+  -- past the tokens the list ends
+  list-past : (g : ℕ) (items : List RegisterListItem) (r : Register) (i l : ℕ) → count ≤ i
+      → Alike at i l (listItem r >>= nextItem (listLoop g o) o items) (listed o (items ++ (single r ∷ [])))
+  unfolding listItem nextItem
+  list-past g items r i l h =
+      then (answer-bind (some (single r)) (bump-past (λ k x e. omega (arith, ends i k x e)))) (bump-past (λ k x e. omega (arith, ends i k x e)))
+
+  list-fuel : (f g : ℕ) (items : List RegisterListItem) (r : Register) (i l : ℕ) → count ≤ f + i → count ≤ g + i
+      → Alike at i l (listLoop f o items r) (listLoop g o items r)
+  unfolding listLoop nextItem
+  list-fuel zero zero items r i l a b = same-alike
+  list-fuel zero (suc g) items r i l a b = flip (list-past g items r i l (omega arith))
+  list-fuel (suc f) zero items r i l a b = list-past f items r i l (omega arith)
+  list-fuel (suc f) (suc g) items r i l a b = bind-alike same-alike λ j m. elim [
+    | some x ↦ λ h. bump-alike
+        (λ k y e q. bump-alike (λ t z e₂ q₂. list-fuel f g (items ++ (x ∷ [])) (registerFrom t z) (j + 1 + 1) _ (omega arith) (omega arith)) same-alike)
+        same-alike
+    | none ↦ λ h. same-alike
+  ]
+
+-- the list loop satisfies its own equation, for every list that has no more tokens than the fuel
+pub list-equation : (at : ℕ → Place) (count : ℕ) → ((j : ℕ) (k : Token) (x : List ℕ) → at j ≡ stands k x → j < count) → count ≤ fuel
+    → (o : ℕ) (items : List RegisterListItem) (r : Register) (i l : ℕ)
+    → run (listLoop fuel o items r) at i l ≡ run (listItem r >>= nextItem (listLoop fuel o) o items) at i l
+unfolding listLoop
+list-equation at count ends few o items r i l = list-fuel at count ends o fuel (suc fuel) items r i l (omega arith) (omega arith) .same

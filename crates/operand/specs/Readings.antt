@@ -1,0 +1,108 @@
+-- What holds of every reading of an operand, over whatever places.
+-- Assumes nothing.
+use mathlib.Core.Path.{_≡_, refl, sym, _∙_, ap}
+use mathlib.Core.Bool.{Bool, true, false}
+use mathlib.Core.List.{List}
+use Prim.Native.Nat.{ℕ, _+_, _*_, _≤_, _<_, max}
+use native.Mathlib.Omega.{arith}
+use borrow.Author.Tests.{ltb-true, ltb-false, lt-ltb, le-ltb}
+use lib.Dec.{eqb, ltb}
+use lib.ListN.{length}
+use Rattle.names.specs.Choice.{pick}
+use Rattle.names.specs.Kinds
+use Rattle.names.specs.Places.{Place, nothing, stands}
+use Rattle.names.specs.declared.tokens.Token.{Token}
+use Rattle.expressions.specs.Reader.{any, Reading, reading, run, met}
+use Rattle.expressions.specs.Laws as L
+use Rattle.expressions.specs.Laws.{holds, All, Law, call, law-run, Every, Fine, all-fine, met-yes}
+use Rattle.expressions.specs.Costs.{Clean, true-false}
+use Rattle.operand.specs.Operands.{Operand, Maybe, some, none}
+use Rattle.operand.specs.Operand.{Setting, parseOperand, operandFrom, readingOf}
+use Rattle.operand.specs.Records.{sizeO, sizeM}
+use Rattle.operand.specs.Costs.{operand-from-cost}
+
+-- how far past the cursor a reading has looked: nowhere, and one place where there is no operand
+unfoldable pub gap : {A : Type 0} → Maybe A → ℕ
+gap (some x) = 0
+gap none = 1
+
+clean-0 : (at : ℕ → Place) → Clean at 0
+clean-0 at = record { small = omega arith; none = λ j k x h q. refl }
+
+module _ (s : Setting) (lim : 1 ≤ s .limit) (at : ℕ → Place) (i : ℕ) where
+  abbrev Whole : ℕ → ℕ → ℕ → Maybe Operand → Type 0
+  Whole j e r v = (sizeM v + i ≤ j) × (e + i ≤ j + 1) × (r ≤ j + gap v)
+
+  whole : Law (parseOperand s) at Whole i 0 0 i
+  unfolding All parseOperand sizeM gap
+  whole = record {
+    all = (
+      (λ k x h q. call (operand-from-cost at 0 (clean-0 at) s (k .start) i 0 0 (max i (i + 0)) lim (omega arith)) λ j e r. elim [ some x ↦ omega arith | none ↦ omega arith ]),
+      λ n. omega arith,
+    );
+  }
+
+  pub nodes-few : sizeM (readingOf s at i .value) + i ≤ readingOf s at i .cursor
+  unfolding readingOf
+  nodes-few = law-run whole .0
+
+  pub raised-few : length (readingOf s at i .raised) + i ≤ readingOf s at i .cursor + 1
+  unfolding readingOf
+  raised-few = omega (arith, law-run whole .1)
+
+  pub plus-before : Every (λ d. Fine at d (readingOf s at i .cursor)) (readingOf s at i .raised)
+  unfolding readingOf
+  plus-before = all-fine _ _ _ _ _ _ _ (whole .all)
+
+  -- a reading depends on the places from its start through its cursor, and one further where there is no operand
+  pub local : (at′ : ℕ → Place) → ((j : ℕ) → i ≤ j → j ≤ readingOf s at i .cursor + gap (readingOf s at i .value) → at j ≡ at′ j)
+      → readingOf s at i ≡ readingOf s at′ i
+  unfolding readingOf
+  local at′ h =
+      let f = L.forward (parseOperand s) at i 0 in
+      L.local (parseOperand s) at at′ i 0 i λ j a b. h j a (omega (arith, law-run whole .2))
+
+pub forward : (s : Setting) (at : ℕ → Place) (i : ℕ) → i ≤ readingOf s at i .cursor
+unfolding readingOf
+forward s at i = L.forward (parseOperand s) at i 0
+
+pub within : (s : Setting) (at : ℕ → Place) (count i : ℕ) → ((j : ℕ) (k : Token) (x : List ℕ) → at j ≡ stands k x → j < count) → i ≤ count
+    → readingOf s at i .cursor ≤ count
+unfolding readingOf
+within s at count i ends h = L.within (parseOperand s) at count i 0 ends h
+
+-- ---- never in silence
+
+-- nothing before the place i
+unfoldable pub from : ℕ → (ℕ → Place) → ℕ → Place
+from i at j = pick (ltb j i) nothing (at j)
+
+from-same : (i : ℕ) (at : ℕ → Place) (j : ℕ) → i ≤ j → at j ≡ from i at j
+unfolding from
+from-same i at j h = rw (le-ltb j i h)
+
+-- from a token on, the reading is that of `operandFrom`
+started : (s : Setting) (at : ℕ → Place) (i : ℕ) (k : Token) (x : List ℕ) → at i ≡ stands k x → readingOf s at i ≡ run (operandFrom s (k .start)) at i 0
+unfolding readingOf run parseOperand
+started s at i k x there = let e : i + 0 ≡ i = omega arith in met-yes any _ _ (at (i + 0)) k x (rw e there) refl
+
+module _ (s : Setting) (lim : 1 ≤ s .limit) (at : ℕ → Place) (i : ℕ) (k : Token) (x : List ℕ) (there : at i ≡ stands k x)
+    (quiet : (j : ℕ) (t : Token) (y : List ℕ) → i ≤ j → at j ≡ stands t y → eqb (t .kind) Kinds.error ≡ false) where
+  clean-1 : Clean (from i at) 1
+  unfolding from
+  clean-1 = record { small = omega arith; none = λ j t y h q. go j t y (ltb j i) refl h q }
+    where
+      go : (j : ℕ) (t : Token) (y : List ℕ) (b : Bool) → ltb j i ≡ b → pick b nothing (at j) ≡ stands t y → eqb (t .kind) Kinds.error ≡ true → _≡_ {A = ℕ} 1 0
+      go j t y true e h q = let z : _≡_ {A = ℕ} 0 1 = cc in absurd (omega arith)
+      go j t y false e h q = absurd (true-false (sym q ∙ quiet j t y (ltb-false j i e) h))
+
+  same-from : readingOf s at i ≡ run (operandFrom s (k .start)) (from i at) i 0
+  same-from =
+      local s lim at i (from i at) (λ j a b. from-same i at j a)
+      ∙ started s (from i at) i k x (sym (from-same i at i (omega arith)) ∙ there)
+
+  pub never-silent : readingOf s at i .value ≡ none → 0 < length (readingOf s at i .raised)
+  never-silent e =
+      let l = law-run (operand-from-cost (from i at) 1 clean-1 s (k .start) i 0 0 i lim (omega arith)) in
+      let n = rw same-from at e in
+      rw same-from (omega (arith, (rw n at l) .1))
