@@ -8,3 +8,4 @@ pub mod Costs
 pub mod Readings
 pub mod Fuel
 pub mod Conditions
+pub mod Trials

@@ -6,7 +6,8 @@ use Prim.Native.Nat.{ℕ, _+_, _-_, _/_, _%_, _*_}
 use lib.ListN.{length}
 use Rattle.expressions.specs.Trees.{Span, noSpan, Expr, size}
 use Rattle.expressions.specs.Diagnostics.{Diagnostic, diagnosticRecord}
-use Rattle.expressions.specs.Records.{absent, record14, nodes}
+use Rattle.expressions.specs.Reader.{Reading}
+use Rattle.expressions.specs.Records.{absent, record14, nodes, lowFirst}
 use Rattle.operand.specs.Operands.{Register, IndexRegister, Displacement, displaced, undisplaced, Index, indexed, unindexed, RegisterListItem, single, range, Operand, Maybe, some, none}
 use Rattle.operand.specs.Operands as O
 
@@ -129,3 +130,9 @@ nodesM none = []
 unfoldable pub diagnosticRecords : List Diagnostic → List ℕ
 diagnosticRecords [] = []
 diagnosticRecords (d ∷ ds) = diagnosticRecord d ++ diagnosticRecords ds
+
+-- the program's answer: 0 for an operand or 1 for none, the cursor, the nodes used, the diagnostics (two bytes, low first), and the records
+unfoldable pub answerLine : Reading (Maybe Operand) → Maybe Operand → List ℕ
+answerLine r (some x) =
+    0 ∷ r .cursor ∷ sizeO x ∷ (lowFirst 2 (length (r .raised)) ++ (operandRecord x ++ (nodesO x ++ diagnosticRecords (r .raised))))
+answerLine r none = 1 ∷ r .cursor ∷ 0 ∷ (lowFirst 2 (length (r .raised)) ++ diagnosticRecords (r .raised))

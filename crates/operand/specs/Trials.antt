@@ -1,0 +1,212 @@
+-- The trial lines that document 01 marks: one table, and one theorem.
+-- Assumes nothing.
+use mathlib.Core.Path.{_≡_, refl}
+use mathlib.Core.Bool.{Bool, true, false}
+use mathlib.Core.List.{List, [], _∷_, _++_}
+use Prim.Native.Nat.{ℕ, zero, suc, _+_, _-_, _*_}
+use Prim.Native.String.{String}
+use lib.Dec.{eqb}
+use lib.ListN.{length, getD, replicate}
+use Rattle.names.specs.Choice.{both}
+use Rattle.names.specs.Kinds
+use Rattle.names.specs.Places.{place}
+use Rattle.names.specs.Letters.{bytes, same}
+use Rattle.names.specs.Numbers.{figure}
+use Rattle.expressions.specs.Trees.{Expr, number, characterLiteral, symbol, currentAddress, unary, binary, spanE}
+use Rattle.expressions.specs.Diagnostics.{Diagnostic}
+use Rattle.expressions.specs.Reader.{Reading}
+use Rattle.operand.specs.Operands.{Displacement, displaced, undisplaced, Operand, Maybe, some, none}
+use Rattle.operand.specs.Operands as O
+use Rattle.operand.specs.Operand.{readingOf}
+use Rattle.operand.specs.Records.{operandRecord, answerLine}
+use Rattle.names.specs.Tokens as Names·Tokens
+use Rattle.names.specs.Places as Names·Places
+use Rattle.names.specs.Letters as Names·Letters
+use Rattle.names.specs.Registers as Names·Registers
+use Rattle.names.specs.Sizes as Names·Sizes
+use Rattle.names.specs.Numbers as Names·Numbers
+use Rattle.expressions.specs.Trees as Expressions·Trees
+use Rattle.expressions.specs.Diagnostics as Expressions·Diagnostics
+use Rattle.expressions.specs.Reader as Expressions·Reader
+use Rattle.expressions.specs.Expressions as Expressions·Expressions
+use Rattle.expressions.specs.Records as Expressions·Records
+use Rattle.operand.specs.Operand as Operand·Operand
+use Rattle.operand.specs.Records as Operand·Records
+
+-- what is claimed of a line
+pub data Claim : Type 0 where
+  -- the program's answer, in hexadecimal
+  answers : String → Claim
+  form : ℕ → Claim
+  noOperand : Claim
+  cursor : ℕ → Claim
+  -- the kinds of the diagnostics, in order
+  kinds : List ℕ → Claim
+  -- the first one's problem
+  problem : ℕ → Claim
+  -- the first tree, with each operation in parentheses
+  tree : String → Claim
+  -- its root's span, and a name's own
+  span : ℕ → ℕ → Claim
+  name : ℕ → ℕ → Claim
+
+-- a text with its tokens, four bytes each
+pub record Trial : Type 0 where
+  pub text : List ℕ
+  pub tokens : List ℕ
+  pub claims : List Claim
+
+-- ---- whether a reading meets a claim
+
+unfoldable pub hexadecimal : List ℕ → List ℕ
+hexadecimal [] = []
+hexadecimal (c ∷ []) = []
+hexadecimal (c ∷ d ∷ cs) = (16 * figure c + figure d) ∷ hexadecimal cs
+
+-- a tree of one-digit numbers
+unfoldable pub shown : Expr → List ℕ
+shown (number b v s) = (48 + v) ∷ []
+shown (characterLiteral q o s) = 39 ∷ []
+shown (symbol o s) = 97 ∷ []
+shown (currentAddress s) = 42 ∷ []
+shown (unary o e s) = 40 ∷ getD (bytes "-~") o 0 ∷ (shown e ++ (41 ∷ []))
+shown (binary o l r s) = 40 ∷ (shown l ++ (getD (bytes "+-*/\\&|^<>") o 0 ∷ (shown r ++ (41 ∷ []))))
+
+unfoldable pub treeD : Displacement → Maybe Expr
+treeD (displaced e n) = some e
+treeD undisplaced = none
+
+unfoldable pub treeO : Operand → Maybe Expr
+treeO (O.immediate e l s) = some e
+treeO (O.dataRegisterDirect r s) = none
+treeO (O.addressRegisterDirect r s) = none
+treeO (O.specialRegister n s) = none
+treeO (O.indirect r s) = none
+treeO (O.postincrement r s) = none
+treeO (O.predecrement r s) = none
+treeO (O.displacement e r s) = some e
+treeO (O.index d r x s) = treeD d
+treeO (O.pcDisplacement e s) = some e
+treeO (O.pcIndex d x s) = treeD d
+treeO (O.fullIndex d b x n e s) = treeD d
+treeO (O.absolute e n s) = some e
+treeO (O.registerList items s) = none
+
+unfoldable pub kindsOf : List Diagnostic → List ℕ
+kindsOf [] = []
+kindsOf (d ∷ ds) = d .kind ∷ kindsOf ds
+
+unfoldable pub problemIs : ℕ → List Diagnostic → Bool
+problemIs n [] = false
+problemIs n (d ∷ ds) = eqb (d .problem) n
+
+unfoldable pub treeIs : String → Maybe Expr → Bool
+treeIs t (some e) = same (shown e) (bytes t)
+treeIs t none = false
+
+unfoldable pub spanIs : ℕ → ℕ → Maybe Expr → Bool
+spanIs s n (some e) = both (eqb (spanE e .start) s) (eqb (spanE e .end) n)
+spanIs s n none = false
+
+unfoldable pub ownIs : ℕ → ℕ → Expr → Bool
+ownIs s n (number b v t) = false
+ownIs s n (characterLiteral q o t) = both (eqb (o .start) s) (eqb (o .end) n)
+ownIs s n (symbol o t) = both (eqb (o .start) s) (eqb (o .end) n)
+ownIs s n (currentAddress t) = false
+ownIs s n (unary o e t) = false
+ownIs s n (binary o l r t) = false
+
+unfoldable pub nameIs : ℕ → ℕ → Maybe Expr → Bool
+nameIs s n (some e) = ownIs s n e
+nameIs s n none = false
+
+unfoldable pub treeM : Maybe Operand → Maybe Expr
+treeM (some x) = treeO x
+treeM none = none
+
+unfoldable pub formIs : ℕ → Maybe Operand → Bool
+formIs n (some x) = eqb (getD (operandRecord x) 0 0) n
+formIs n none = false
+
+unfoldable pub isNone : Maybe Operand → Bool
+isNone (some x) = false
+isNone none = true
+
+unfoldable pub meets : Reading (Maybe Operand) → Claim → Bool
+meets r (answers t) = same (answerLine r (r .value)) (hexadecimal (bytes t))
+meets r (form n) = formIs n (r .value)
+meets r noOperand = isNone (r .value)
+meets r (cursor n) = eqb (r .cursor) n
+meets r (kinds ks) = same (kindsOf (r .raised)) ks
+meets r (problem n) = problemIs n (r .raised)
+meets r (tree t) = treeIs t (treeM (r .value))
+meets r (span s n) = spanIs s n (treeM (r .value))
+meets r (name s n) = nameIs s n (treeM (r .value))
+
+unfoldable pub meetsAll : Reading (Maybe Operand) → List Claim → Bool
+meetsAll r [] = true
+meetsAll r (c ∷ cs) = both (meets r c) (meetsAll r cs)
+
+-- read from the first token on, with at most 64 terms open and no symbol mark
+unfoldable pub holdsFor : Trial → Bool
+holdsFor t = meetsAll (readingOf (record { limit = 64; mark = 255 }) (place (t .text) (t .tokens)) 0) (t .claims)
+
+unfoldable pub holdForAll : List Trial → Bool
+holdForAll [] = true
+holdForAll (t ∷ ts) = both (holdsFor t) (holdForAll ts)
+
+-- ---- the table
+
+-- a sign, one byte long, at an offset
+abbrev pub sign : ℕ → ℕ → List ℕ → List ℕ
+sign kind at rest = kind ∷ 0 ∷ at ∷ (at + 1) ∷ rest
+
+-- any other token
+abbrev pub token : ℕ → ℕ → ℕ → List ℕ → List ℕ
+token kind start end rest = kind ∷ 0 ∷ start ∷ end ∷ rest
+
+abbrev pub digit : ℕ → List ℕ → List ℕ
+digit at rest = token Kinds.number at (at + 1) rest
+
+abbrev pub register : ℕ → List ℕ → List ℕ
+register at rest = token Kinds.identifier at (at + 2) rest
+
+abbrev pub trial : String → List ℕ → List Claim → Trial
+trial t ts cs = record { text = bytes t; tokens = ts; claims = cs }
+
+-- n minus signs from an offset on, and then `1`
+unfoldable pub minusTokens : ℕ → ℕ → List ℕ
+minusTokens at zero = digit at []
+minusTokens at (suc n) = sign Kinds.minus at (minusTokens (at + 1) n)
+
+unfoldable pub minuses : ℕ → List Claim → Trial
+minuses n cs = record { text = replicate n 45 ++ (49 ∷ []); tokens = minusTokens 0 n; claims = cs }
+
+unfoldable pub table : List Trial
+table =
+    trial "4(a0)" (digit 0 (sign Kinds.leftParen 1 (register 2 (sign Kinds.rightParen 4 []))))
+        (answers "00040100000800050000080204ff0000000000000000ff00000100ffff00010400000000000000" ∷ [])
+    ∷ trial "" [] (noOperand ∷ cursor 0 ∷ kinds [] ∷ [])
+    ∷ trial "(d0)" (sign Kinds.leftParen 0 (register 1 (sign Kinds.rightParen 3 []))) (form 12 ∷ kinds [] ∷ [])
+    ∷ trial "(pc)" (sign Kinds.leftParen 0 (register 1 (sign Kinds.rightParen 3 []))) (noOperand ∷ kinds (7 ∷ []) ∷ problem 4 ∷ [])
+    ∷ trial "a0-d0" (register 0 (sign Kinds.minus 2 (register 3 []))) (form 14 ∷ kinds (10 ∷ []) ∷ [])
+    ∷ trial "d0-d1-d2" (register 0 (sign Kinds.minus 2 (register 3 (sign Kinds.minus 5 (register 6 []))))) (form 14 ∷ cursor 3 ∷ kinds [] ∷ [])
+    ∷ trial "1+2*/3" (digit 0 (sign Kinds.plus 1 (digit 2 (sign Kinds.star 3 (sign Kinds.slash 4 (digit 5 [])))))) (tree "((1+2)/3)" ∷ kinds (12 ∷ []) ∷ [])
+    ∷ trial "2*3&1" (digit 0 (sign Kinds.star 1 (digit 2 (sign Kinds.ampersand 3 (digit 4 []))))) (tree "(2*(3&1))" ∷ kinds [] ∷ [])
+    ∷ trial "(1)+2(a0)"
+        (sign Kinds.leftParen 0 (digit 1 (sign Kinds.rightParen 2 (sign Kinds.plus 3 (digit 4 (sign Kinds.leftParen 5 (register 6 (sign Kinds.rightParen 8 []))))))))
+        (form 13 ∷ cursor 5 ∷ [])
+    ∷ trial "($10).w" (sign Kinds.leftParen 0 (Kinds.number ∷ 1 ∷ 1 ∷ 4 ∷ sign Kinds.rightParen 4 (token Kinds.sizeSuffix 5 7 []))) (form 13 ∷ kinds [] ∷ [])
+    ∷ trial "($10.w)" (sign Kinds.leftParen 0 (Kinds.number ∷ 1 ∷ 1 ∷ 4 ∷ token Kinds.sizeSuffix 4 6 (sign Kinds.rightParen 6 []))) (noOperand ∷ [])
+    ∷ trial "([])" (sign Kinds.leftParen 0 (sign Kinds.leftBracket 1 (sign Kinds.rightBracket 2 (sign Kinds.rightParen 3 [])))) (form 12 ∷ kinds [] ∷ [])
+    ∷ trial "(name)" (sign Kinds.leftParen 0 (token Kinds.identifier 1 5 (sign Kinds.rightParen 5 []))) (span 0 6 ∷ name 1 5 ∷ kinds [] ∷ [])
+    ∷ minuses 63 (form 13 ∷ cursor 64 ∷ kinds [] ∷ [])
+    ∷ minuses 64 (noOperand ∷ kinds (6 ∷ []) ∷ [])
+    -- not at the second plus, as the paper has it: the unary plus is stepped over
+    ∷ trial "1++5" (digit 0 (sign Kinds.plus 1 (sign Kinds.plus 2 (digit 3 [])))) (form 13 ∷ cursor 4 ∷ tree "(1+5)" ∷ kinds (13 ∷ []) ∷ [])
+    ∷ []
+
+-- each line is read as claimed
+pub trials : holdForAll table ≡ true
+unfolding Names·Tokens.tokenAt Names·Tokens.detailDefined Names·Places.textOf Names·Places.placed Names·Places.place Names·Letters.lower Names·Letters.lowered Names·Letters.same Names·Letters.spelled Names·Registers.pair Names·Registers.register Names·Registers.registerOf Names·Registers.programCounter Names·Registers.numbered Names·Registers.specialOf Names·Registers.suppressing Names·Registers.suppressed Names·Registers.suppressedOf Names·Registers.oneOf Names·Registers.reserved Names·Sizes.runOf Names·Sizes.letterSize Names·Sizes.sizeOf Names·Numbers.radixOf Names·Numbers.prefixOf Names·Numbers.width Names·Numbers.figure Names·Numbers.isDigit Names·Numbers.scan Names·Numbers.digitsOf Names·Numbers.inBase Names·Numbers.numberOf Expressions·Trees.spanE Expressions·Trees.withSpan Expressions·Trees.size Expressions·Diagnostics.diagnosticRecord Expressions·Reader.met Expressions·Reader.run Expressions·Reader.reach Expressions·Expressions.known Expressions·Expressions.suffixRun Expressions·Expressions.takeSizeSuffix Expressions·Expressions.precedence Expressions·Expressions.binaryOperator Expressions·Expressions.operator Expressions·Expressions.operated Expressions·Expressions.parseExpressionFrom Expressions·Expressions.climbed Expressions·Expressions.parseExpressionOf Expressions·Expressions.isUnary Expressions·Expressions.unaryOperator Expressions·Expressions.negated Expressions·Expressions.plussed Expressions·Expressions.valued Expressions·Expressions.named Expressions·Expressions.grouped Expressions·Expressions.parsePrefixTerm Expressions·Expressions.tooDeep Expressions·Expressions.parsePrefix Expressions·Expressions.fuel Expressions·Expressions.parseExpression Expressions·Expressions.expressionFrom Expressions·Records.lowFirst Expressions·Records.nodes Operand·Operand.isAddress Operand·Operand.isSuppressed Operand·Operand.isSuppressedRegister Operand·Operand.isSuppressedAddress Operand·Operand.aRegister Operand·Operand.anAddressRegister Operand·Operand.aProgramCounter Operand·Operand.unmarked Operand·Operand.anIndex Operand·Operand.aBaseOrAnIndex Operand·Operand.indexOf Operand·Operand.suppressedIndex Operand·Operand.registerFrom Operand·Operand.malformed Operand·Operand.unclosed Operand·Operand.steppedOver Operand·Operand.notAnAddressRegister Operand·Operand.immediateSize Operand·Operand.immediateValue Operand·Operand.parseImmediate Operand·Operand.expectClose Operand·Operand.over Operand·Operand.predecremented Operand·Operand.predecrementClose Operand·Operand.parsePredecrement Operand·Operand.registerExpected Operand·Operand.ranged Operand·Operand.listItem Operand·Operand.listed Operand·Operand.nextItem Operand·Operand.listLoop Operand·Operand.parseRegisterList Operand·Operand.registerDirect Operand·Operand.parseRegisterOperand Operand·Operand.scaleOf Operand·Operand.scaled Operand·Operand.indexScale Operand·Operand.indexSize Operand·Operand.indexRegister Operand·Operand.parseIndexRegister Operand·Operand.baseShape Operand·Operand.indexedOperand Operand·Operand.closedIndex Operand·Operand.closedBase Operand·Operand.afterBase Operand·Operand.closedCounter Operand·Operand.afterCounter Operand·Operand.parseBaseAndIndex Operand·Operand.indexAlone Operand·Operand.afterBaseRegister Operand·Operand.sizeOrScale Operand·Operand.noBase Operand·Operand.parseBaseAndIndexRegisters Operand·Operand.closes Operand·Operand.startsAFullIndex Operand·Operand.fullIndexed Operand·Operand.closedRegisters Operand·Operand.parseFullIndex Operand·Operand.sized Operand·Operand.displacementValue Operand·Operand.parseSizedDisplacement Operand·Operand.innerRegisters Operand·Operand.innerDisplaced Operand·Operand.parseInner Operand·Operand.outerDisplaced Operand·Operand.outerIndexed Operand·Operand.outerIndex Operand·Operand.parseOuter Operand·Operand.memoryIndirect Operand·Operand.outerClosed Operand·Operand.innerClosed Operand·Operand.parseMemoryIndirect Operand·Operand.absoluteSize Operand·Operand.finishExpressionOperand Operand·Operand.displacementTail Operand·Operand.expressionOperand Operand·Operand.parseExpressionOperand Operand·Operand.groupedOperand Operand·Operand.sizedBase Operand·Operand.unexpected Operand·Operand.afterExpression Operand·Operand.parenthesisedExpression Operand·Operand.parenthesised Operand·Operand.startsABase Operand·Operand.parseParenthesisedOperand Operand·Operand.specialIndex Operand·Operand.nameOrExpression Operand·Operand.minusOperand Operand·Operand.operandFrom Operand·Operand.parseOperand Operand·Operand.readingOf Operand·Records.itemRecord Operand·Records.itemRecords Operand·Records.sizeD Operand·Records.nodesD Operand·Records.sizeO Operand·Records.nodesO Operand·Records.displacementPart Operand·Records.basePart Operand·Records.flag Operand·Records.indexPart Operand·Records.operandRecord Operand·Records.sizeM Operand·Records.nodesM Operand·Records.diagnosticRecords Operand·Records.answerLine hexadecimal shown treeD treeO kindsOf problemIs treeIs spanIs ownIs nameIs treeM formIs isNone meets meetsAll holdsFor holdForAll minusTokens minuses table
+trials = refl
