@@ -98,7 +98,6 @@ module _ (at : ℕ → Place) (w : ℕ) (clean : Clean at w) where
 
   -- ---- the terms, where t is a term one level down
 
-
   -- `Parser::number` raises at most one
   abbrev pub Valued : ℕ → ℕ → ℕ → ℕ → ℕ → ℕ → ℕ → Type 0
   Valued i d r j e s v = (j ≡ i) × (e ≤ d + 1) × (s ≤ max r j)

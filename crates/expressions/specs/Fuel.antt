@@ -71,6 +71,11 @@ module _ (at : ℕ → Place) (count : ℕ) (ends : (j : ℕ) (k : Token) (x : L
 unfoldable pub turn : (ℕ → Expr → Reader Expr) → Reader Term → ℕ → Expr → Reader Expr
 turn again prefix min left = bump (operator min) (λ k x. prefix >>= operated again min left k) λ u. answer left
 
+-- the fuel is enough for the longest list of document 01
+pub fuel-enough : 255 ≤ fuel
+unfolding fuel
+fuel-enough = omega arith
+
 -- the climb satisfies its own equation, for every list that has no more tokens than the fuel
 pub climb-equation : (at : ℕ → Place) (count : ℕ) → ((j : ℕ) (k : Token) (x : List ℕ) → at j ≡ stands k x → j < count) → count ≤ fuel
     → (room min : ℕ) (left : Expr) (i l : ℕ)

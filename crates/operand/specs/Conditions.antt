@@ -19,7 +19,7 @@ use Rattle.expressions.specs.Reader.{Reading, run, _>>=_}
 use Rattle.expressions.specs.Expressions.{fuel, parsePrefix, parseExpressionFrom}
 use Rattle.expressions.specs.Laws.{Every, Fine}
 use Rattle.expressions.specs.Costs.{true-false}
-use Rattle.expressions.specs.Fuel.{turn, climb-equation}
+use Rattle.expressions.specs.Fuel.{turn, fuel-enough, climb-equation}
 use Rattle.operand.specs.Operands.{Register, RegisterListItem, Operand, Maybe, some, none}
 use Rattle.operand.specs.Operand.{Setting, readingOf, listItem, nextItem, listLoop}
 use Rattle.operand.specs.Records.{sizeM, nodesM, operandRecord, diagnosticRecords}
@@ -166,12 +166,10 @@ local-as-written limit lim a b va vb h =
 pub fuel-never-decides : (a : Input) → Valid a → (room min : ℕ) (left : Expr) (i l : ℕ)
     → run (parseExpressionFrom fuel (parsePrefix fuel room) min left) (placeOf a) i l
     ≡ run (turn (parseExpressionFrom fuel (parsePrefix fuel room)) (parsePrefix fuel room) min left) (placeOf a) i l
-unfolding fuel
 fuel-never-decides a v room min left i l =
-    climb-equation (placeOf a) (count (a .tokens)) (λ j k x h. below (a .line) (a .tokens) j k x h) (omega (arith, valid-bounds a v .0)) room min left i l
+    climb-equation (placeOf a) (count (a .tokens)) (λ j k x h. below (a .line) (a .tokens) j k x h) (omega (arith, valid-bounds a v .0, fuel-enough)) room min left i l
 
 pub list-fuel-never-decides : (a : Input) → Valid a → (o : ℕ) (items : List RegisterListItem) (r : Register) (i l : ℕ)
     → run (listLoop fuel o items r) (placeOf a) i l ≡ run (listItem r >>= nextItem (listLoop fuel o) o items) (placeOf a) i l
-unfolding fuel
 list-fuel-never-decides a v o items r i l =
-    list-equation (placeOf a) (count (a .tokens)) (λ j k x h. below (a .line) (a .tokens) j k x h) (omega (arith, valid-bounds a v .0)) o items r i l
+    list-equation (placeOf a) (count (a .tokens)) (λ j k x h. below (a .line) (a .tokens) j k x h) (omega (arith, valid-bounds a v .0, fuel-enough)) o items r i l

@@ -181,10 +181,12 @@ module _ (at : ℕ → Place) (w : ℕ) (clean : Clean at w) where
       → ((x : IndexRegister) (z : Span) → sizeO (f x z) ≡ sizeD y) → (x : IndexRegister) (i l d r : ℕ)
       → Law (Operand.expectClose o k shape >>= Operand.indexedOperand o y b f x) at (Left sizeO 1 (sizeD y) 0 i d r) i l d r
   unfolding All Operand.indexedOperand
-  indexed-cost o k shape y b f e x i l d r = record { all = call (close-cost o k shape _ _ _ _) λ j e₂ s. elim [
-    | some n ↦ λ a c g h m. let z = indexed-size y b f e x (span o n) (x .suppressed) in omega arith
-    | none ↦ omega arith
-  ] }
+  indexed-cost o k shape y b f e x i l d r = record {
+    all = call (close-cost o k shape _ _ _ _) λ j e₂ s. elim [
+      | some n ↦ λ a c g h m. let z = indexed-size y b f e x (span o n) (x .suppressed) in omega arith
+      | none ↦ omega arith
+    ];
+  }
 
   closed-base-cost : (o : ℕ) (q : Register) (y : Displacement) (close : Token) (i l d r : ℕ) → Law (Operand.closedBase o q y close) at (Left sizeO 0 (sizeD y) 0 i d r) i l d r
   unfolding All Operand.closedBase sizeO sizeD

@@ -36,7 +36,7 @@ module _ (at : ℕ → Place) (count : ℕ) (ends : (j : ℕ) (k : Token) (x : L
   list-fuel (suc f) zero items r i l a b = list-past f items r i l (omega arith)
   list-fuel (suc f) (suc g) items r i l a b = bind-alike same-alike λ j m. elim [
     | some x ↦ λ h. bump-alike
-        (λ k y e q. bump-alike (λ t z e₂ q₂. list-fuel f g (items ++ (x ∷ [])) (registerFrom t z) (j + 1 + 1) _ (omega arith) (omega arith)) same-alike)
+        (λ k y e q. bump-alike (λ t z e₂ q₂. list-fuel f g _ _ (j + 1 + 1) _ (omega arith) (omega arith)) same-alike)
         same-alike
     | none ↦ λ h. same-alike
   ]
