@@ -17,7 +17,8 @@ use Rattle.names.specs.Numbers.{numberOf}
 use Rattle.names.specs.declared.tokens.Token.{Token}
 use Rattle.names.specs.declared.sizes.SizeSuffix.{SizeSuffix}
 use Rattle.names.specs.declared.numbers.Number.{Number}
-use Rattle.expressions.specs.Trees.{Span, Expr, number, characterLiteral, symbol, currentAddress, unary, binary, spanOf, withSpan, size}
+use Rattle.expressions.specs.Trees.{Expr, number, characterLiteral, symbol, currentAddress, unary, binary, spanOf, withSpan, size}
+use Rattle.expressions.specs.declared.records.Span.{Span}
 use Rattle.expressions.specs.Diagnostics.{dotInName}
 use Rattle.expressions.specs.Reader.{Reader, answer, raise}
 use Rattle.expressions.specs.Expressions.{Term, read, reported, absent, Suffix, suffixed, known, suffixRun, takeSizeSuffix, operated, parseExpressionFrom, climbed, parseExpressionOf, isUnary, negated, plussed, valued, named, grouped, parsePrefixTerm, tooDeep, parsePrefix, parseExpression, expressionFrom, fuel}

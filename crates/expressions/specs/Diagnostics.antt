@@ -2,21 +2,14 @@
 -- Assumes nothing.
 use mathlib.Core.List.{List, [], _∷_}
 use Prim.Native.Nat.{ℕ, _+_}
-use Rattle.expressions.specs.Trees.{Span, span, empty, noSpan}
+use Rattle.expressions.specs.Trees.{span, empty, noSpan}
+use Rattle.expressions.specs.declared.records.Span.{Span}
+use Rattle.expressions.specs.declared.records.Diagnostic.{Diagnostic}
 
--- text: what the message quotes, or two registers. related: a span that it points at, if `hasRelated` is 1
-pub record Diagnostic : Type 0 where
-  pub kind : ℕ
-  pub shape : ℕ
-  pub problem : ℕ
-  pub span : Span
-  pub text : Span
-  pub related : Span
-  pub hasRelated : ℕ
-
+-- its fields are the code's. text: what the message quotes, or two registers. related: a span that it points at, if `has_related` is 1
 abbrev pub diagnostic : ℕ → ℕ → ℕ → Span → Span → Diagnostic
 diagnostic kind shape problem span text =
-    record { kind = kind; shape = shape; problem = problem; span = span; text = text; related = noSpan; hasRelated = 0 }
+    record { kind = kind; shape = shape; problem = problem; span = span; text = text; related = noSpan; «has_related» = 0 }
 
 -- a kind with no shape and no problem
 abbrev pub plain : ℕ → Span → Span → Diagnostic
@@ -49,7 +42,7 @@ malformedOperand shape problem s text = diagnostic 7 shape problem s text
 
 -- the same, with the parenthesis that is never closed
 abbrev pub malformedOpen : ℕ → ℕ → Span → Span → Diagnostic
-malformedOpen shape problem s paren = record { kind = 7; shape = shape; problem = problem; span = s; text = noSpan; related = paren; hasRelated = 1 }
+malformedOpen shape problem s paren = record { kind = 7; shape = shape; problem = problem; span = s; text = noSpan; related = paren; «has_related» = 1 }
 
 abbrev pub unexpectedTokenInOperand : Span → Diagnostic
 unexpectedTokenInOperand s = plain 8 s s
@@ -76,4 +69,4 @@ plusIsNotAUnaryOperator s term = plain 13 s term
 -- document 01's ten bytes
 unfoldable pub diagnosticRecord : Diagnostic → List ℕ
 diagnosticRecord d =
-    d .kind ∷ d .shape ∷ d .problem ∷ d .span .start ∷ d .span .end ∷ d .text .start ∷ d .text .end ∷ d .related .start ∷ d .related .end ∷ d .hasRelated ∷ []
+    d .kind ∷ d .shape ∷ d .problem ∷ d .span .start ∷ d .span .end ∷ d .text .start ∷ d .text .end ∷ d .related .start ∷ d .related .end ∷ d .«has_related» ∷ []

@@ -4,6 +4,7 @@ pub mod Diagnostics
 pub mod Reader
 pub mod Expressions
 pub mod Records
+pub mod Stores
 pub mod Examples
 pub mod Laws
 pub mod Costs

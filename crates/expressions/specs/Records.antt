@@ -2,7 +2,8 @@
 -- Assumes nothing.
 use mathlib.Core.List.{List, [], _∷_, _++_}
 use Prim.Native.Nat.{ℕ, zero, suc, _+_, _-_, _/_, _%_}
-use Rattle.expressions.specs.Trees.{Span, Expr, number, characterLiteral, symbol, currentAddress, unary, binary, size}
+use Rattle.expressions.specs.Trees.{Expr, number, characterLiteral, symbol, currentAddress, unary, binary, size}
+use Rattle.expressions.specs.declared.records.Span.{Span}
 
 -- n bytes of a number, the low byte first
 unfoldable pub lowFirst : ℕ → ℕ → List ℕ

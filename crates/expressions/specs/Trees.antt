@@ -2,11 +2,7 @@
 -- Assumes nothing.
 use Prim.Native.Nat.{ℕ, _+_}
 use Rattle.names.specs.declared.tokens.Token.{Token}
-
--- byte offsets in the line, the end excluded
-pub record Span : Type 0 where
-  pub start : ℕ
-  pub end : ℕ
+use Rattle.expressions.specs.declared.records.Span.{Span}
 
 abbrev pub span : ℕ → ℕ → Span
 span s e = record { start = s; end = e }

@@ -1,1 +1,5 @@
-// Expressions: terms, levels and trees. The definitions stand in specs/; the code is to follow.
+// Expressions: terms, levels and trees, read into lent stores of records.
+mod records;
+
+pub use records::Diagnostic;
+pub use records::Span;

@@ -3,7 +3,8 @@
 use mathlib.Core.Bool.{Bool}
 use mathlib.Core.List.{List}
 use Prim.Native.Nat.{ℕ}
-use Rattle.expressions.specs.Trees.{Span, Expr}
+use Rattle.expressions.specs.Trees.{Expr}
+use Rattle.expressions.specs.declared.records.Span.{Span}
 
 -- a register, and the span of its token
 pub record Register : Type 0 where

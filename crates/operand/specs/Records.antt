@@ -4,8 +4,10 @@ use mathlib.Core.Bool.{Bool, true, false}
 use mathlib.Core.List.{List, [], _∷_, _++_}
 use Prim.Native.Nat.{ℕ, _+_, _-_, _/_, _%_, _*_}
 use lib.ListN.{length}
-use Rattle.expressions.specs.Trees.{Span, noSpan, Expr, size}
-use Rattle.expressions.specs.Diagnostics.{Diagnostic, diagnosticRecord}
+use Rattle.expressions.specs.Trees.{noSpan, Expr, size}
+use Rattle.expressions.specs.declared.records.Span.{Span}
+use Rattle.expressions.specs.Diagnostics.{diagnosticRecord}
+use Rattle.expressions.specs.declared.records.Diagnostic.{Diagnostic}
 use Rattle.expressions.specs.Reader.{Reading}
 use Rattle.expressions.specs.Records.{absent, record14, nodes, lowFirst}
 use Rattle.operand.specs.Operands.{Register, IndexRegister, Displacement, displaced, undisplaced, Index, indexed, unindexed, RegisterListItem, single, range, Operand, Maybe, some, none}

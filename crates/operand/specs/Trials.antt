@@ -13,7 +13,7 @@ use Rattle.names.specs.Places.{place}
 use Rattle.names.specs.Letters.{bytes, same}
 use Rattle.names.specs.Numbers.{figure}
 use Rattle.expressions.specs.Trees.{Expr, spanE}
-use Rattle.expressions.specs.Diagnostics.{Diagnostic}
+use Rattle.expressions.specs.declared.records.Diagnostic.{Diagnostic}
 use Rattle.expressions.specs.Reader.{Reading}
 use Rattle.expressions.specs.Examples.{shown, ownIs}
 use Rattle.operand.specs.Operands.{Displacement, displaced, undisplaced, Operand, Maybe, some, none}

@@ -1,0 +1,2 @@
+-- Laws that the proofs share, in the order of the code.
+pub mod Bytes
