@@ -1,2 +1,3 @@
 -- Laws that the proofs share, in the order of the code.
 pub mod Bytes
+pub mod Tables

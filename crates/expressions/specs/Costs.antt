@@ -21,7 +21,7 @@ use Rattle.expressions.specs.Trees.{Expr, number, characterLiteral, symb
 use Rattle.expressions.specs.declared.records.Span.{Span}
 use Rattle.expressions.specs.Diagnostics.{dotInName}
 use Rattle.expressions.specs.Reader.{Reader, answer, raise}
-use Rattle.expressions.specs.Expressions.{Term, read, reported, absent, Suffix, suffixed, known, suffixRun, takeSizeSuffix, operated, parseExpressionFrom, climbed, parseExpressionOf, isUnary, negated, plussed, valued, named, grouped, parsePrefixTerm, tooDeep, parsePrefix, parseExpression, expressionFrom, fuel}
+use Rattle.expressions.specs.Expressions.{Term, read, reported, absent, Suffix, suffixed, known, suffixRun, takeSizeSuffix, operated, parseExpressionFrom, climbed, parseExpressionOf, isUnary, negated, plussed, valued, named, grouped, leafTerm, parsePrefixTerm, tooDeep, parsePrefix, parseExpression, expressionFrom, fuel}
 use Rattle.expressions.specs.Laws.{holds, All, all-choose, Law, call, PlusBefore}
 
 pub true-false : true ≡ false → ⊥
@@ -117,6 +117,26 @@ module _ (at : ℕ → Place) (w : ℕ) (clean : Clean at w) where
   plus-before : {i j : ℕ} {k : Token} {x : List ℕ} → at i ≡ stands k x → eqb (k .kind) Kinds.plus ≡ true → i < j → PlusBefore at (spanOf k) j
   plus-before {i} {k = k} {x = x} h q g = record { place = i; before = g; token = k; text = x; found = h; plus = eqb-true (k .kind) Kinds.plus q; spans = refl }
 
+  leaf-cost : (i l d r : ℕ) → Law leafTerm at (Cost i d r) i l d r
+  unfolding All leafTerm size
+  leaf-cost i l d r =
+      let sm = clean .small in
+      record {
+        all = (
+          (λ k x h q. omega arith),
+          λ _. (
+            (λ k x h q. call (valued-cost k _ _ _ _ _) (omega arith)),
+            λ _. (
+              (λ k x h q. omega arith),
+              λ _. (
+                (λ k x h q. named-cost k (reserved x) i _ d r),
+                λ _. ((λ k x h q. omega arith), λ _. ((λ k x h q. omega (arith, clean .none i k x h q)), λ _. omega arith)),
+              ),
+            ),
+          ),
+        );
+      }
+
   pub term-cost : (f : ℕ) (t : Reader Term) → Costs t → Costs (parsePrefixTerm f t)
   unfolding All parsePrefixTerm negated plussed grouped size
   term-cost f t ht i l d r =
@@ -131,30 +151,12 @@ module _ (at : ℕ → Place) (w : ℕ) (clean : Clean at w) where
               | absent ↦ λ a b c g m. (plus-before h q (omega arith), omega arith)
             ]),
             λ _. (
-              (λ k x h q. omega arith),
-              λ _. (
-                (λ k x h q. call (valued-cost k _ _ _ _ _) (omega arith)),
-                λ _. (
-                  (λ k x h q. omega arith),
-                  λ _. (
-                    (λ k x h q. named-cost k (reserved x) i _ d r),
-                    λ _. (
-                      (λ k x h q. omega arith),
-                      λ _. (
-                        (λ k x h q. call (expressionOf-cost f t ht _ _ _ _) λ j e s. elim [
-                          | read y ↦ λ a b c g m. ((λ k₂ x₂ h₂ q₂. rw size-withSpan (omega arith)), λ _. omega arith)
-                          | reported ↦ omega arith
-                          | absent ↦ omega arith
-                        ]),
-                        λ _. (
-                          (λ k x h q. omega (arith, clean .none i k x h q)),
-                          λ _. omega arith,
-                        ),
-                      ),
-                    ),
-                  ),
-                ),
-              ),
+              (λ k x h q. call (expressionOf-cost f t ht _ _ _ _) λ j e s. elim [
+                | read y ↦ λ a b c g m. ((λ k₂ x₂ h₂ q₂. rw size-withSpan (omega arith)), λ _. omega arith)
+                | reported ↦ omega arith
+                | absent ↦ omega arith
+              ]),
+              λ _. leaf-cost i l d r .all,
             ),
           ),
         );

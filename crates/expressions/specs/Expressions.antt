@@ -128,19 +128,24 @@ grouped k (read e) =
 grouped k reported = answer reported
 grouped k absent = raise (expressionExpected (spanOf k)) (answer reported)
 
--- prefix: a term one level down
-unfoldable pub parsePrefixTerm : ℕ → Reader Term → Reader Term
-parsePrefixTerm fuel prefix =
-    bump isUnary (λ k x. prefix >>= negated k) λ u.
-    bump (is Kinds.plus) (λ k x. prefix >>= plussed k) λ u.
+-- a term of one token
+unfoldable pub leafTerm : Reader Term
+leafTerm =
     bump (is Kinds.star) (λ k x. answer (read (currentAddress (spanOf k)))) λ u.
     bump (is Kinds.number) (λ k x. valued k (numberOf (k .detail) x) >>= λ v. answer (read (number (k .detail) v (spanOf k)))) λ u.
     bump (is Kinds.stringLiteral) (λ k x. answer (read (characterLiteral (k .detail) (spanOf k) (spanOf k)))) λ u.
     bump (is Kinds.identifier) (λ k x. named k (reserved x)) λ u.
     bump (is Kinds.localIdentifier) (λ k x. answer (read (symbol (spanOf k) (spanOf k)))) λ u.
-    bump (is Kinds.leftParen) (λ k x. parseExpressionOf fuel prefix >>= grouped k) λ u.
     bump (is Kinds.error) (λ k x. answer reported) λ u.
     answer absent
+
+-- prefix: a term one level down. The kinds exclude each other, so that the order of the tests is free
+unfoldable pub parsePrefixTerm : ℕ → Reader Term → Reader Term
+parsePrefixTerm fuel prefix =
+    bump isUnary (λ k x. prefix >>= negated k) λ u.
+    bump (is Kinds.plus) (λ k x. prefix >>= plussed k) λ u.
+    bump (is Kinds.leftParen) (λ k x. parseExpressionOf fuel prefix >>= grouped k) λ u.
+    leafTerm
 
 -- ---- parse_prefix
 

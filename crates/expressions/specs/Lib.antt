@@ -5,6 +5,7 @@ pub mod Reader
 pub mod Expressions
 pub mod Records
 pub mod Stores
+pub mod Terms
 pub mod Examples
 pub mod Laws
 pub mod Costs

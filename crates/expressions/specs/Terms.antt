@@ -1,0 +1,67 @@
+-- What the functions that read terms ask, and what they tell: the answer and both stores, by the reading that the definition gives.
+-- Assumes nothing.
+use mathlib.Core.Path.{_≡_}
+use mathlib.Core.List.{List, [], _∷_, _++_}
+use Prim.Native.Nat.{ℕ, _+_, _*_, _≤_, _<_}
+use lib.ListN.{length, take, drop}
+use Rattle.names.specs.Tokens.{count}
+use Rattle.names.specs.declared.tokens.Token.{Token}
+use Rattle.expressions.specs.Trees.{Expr, spanE, size}
+use Rattle.expressions.specs.declared.records.Span.{Span}
+use Rattle.expressions.specs.declared.records.Diagnostic.{Diagnostic}
+use Rattle.expressions.specs.declared.terms.Counters.{Counters}
+use Rattle.expressions.specs.declared.terms.Parsed.{Parsed}
+use Rattle.expressions.specs.declared.terms.Parsed.the-variants as parsed
+use Rattle.expressions.specs.declared.terms.Step.{Step}
+use Rattle.expressions.specs.Reader.{Reading}
+use Rattle.expressions.specs.Expressions.{Term, read, reported, absent}
+use Rattle.expressions.specs.Records.{nodes, record14, lowFirst}
+use Rattle.expressions.specs.Stores.{nodeBytes, added, PutTold, PushTold}
+
+-- behind a token
+abbrev pub stepped : Counters → Token → Counters
+stepped c t = record { at = c .at + 1; end = t .end; nodes = c .nodes; diagnostics = c .diagnostics }
+
+-- ---- a term as the answer has it
+
+unfoldable pub parsedOf : Term → Parsed
+parsedOf (read e) = parsed.Read (spanE e)
+parsedOf reported = parsed.Reported
+parsedOf absent = parsed.Absent
+
+unfoldable pub sizeT : Term → ℕ
+sizeT (read e) = size e
+sizeT reported = 0
+sizeT absent = 0
+
+unfoldable pub nodesT : ℕ → Term → List ℕ
+nodesT b (read e) = nodes b e
+nodesT b reported = []
+nodesT b absent = []
+
+-- the answer r and the stores N′ and D′ are what the reading s says, from the node n and the diagnostic d on
+pub record Told (s : Reading Term) (N D N′ D′ : List ℕ) (n d : ℕ) (r : Step) : Type 0 where
+  pub what : r .parsed ≡ parsedOf (s .value)
+  pub at : r .counters .at ≡ s .cursor
+  pub end : r .counters .end ≡ s .end
+  pub total : r .counters .nodes ≡ n + sizeT (s .value)
+  pub seen : r .counters .diagnostics ≡ d + length (s .raised)
+  pub bytes : take (14 * r .counters .nodes) N′ ≡ take (14 * n) N ++ nodesT n (s .value)
+  pub past : drop nodeBytes N′ ≡ drop nodeBytes N
+  pub more : D′ ≡ added D d (s .raised)
+
+-- ---- the parts that are no readers of their own
+
+pub record LeafTold (N N′ : List ℕ) (c : Counters) (kind detail : ℕ) (s : Span) (value : ℕ) (r : Step) : Type 0 where
+  pub what : r .parsed ≡ parsed.Read s
+  pub at : r .counters .at ≡ c .at
+  pub end : r .counters .end ≡ c .end
+  pub seen : r .counters .diagnostics ≡ c .diagnostics
+  pub put : PutTold N N′ (c .nodes) (record14 kind detail 255 255 s (lowFirst 8 value)) (r .counters .nodes)
+
+pub record DeepTold (D D′ : List ℕ) (c : Counters) (x : Diagnostic) (r : Step) : Type 0 where
+  pub what : r .parsed ≡ parsed.Reported
+  pub at : r .counters .at ≡ c .at
+  pub end : r .counters .end ≡ c .end
+  pub same : r .counters .nodes ≡ c .nodes
+  pub push : PushTold D D′ (c .diagnostics) x (r .counters .diagnostics)

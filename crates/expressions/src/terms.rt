@@ -1,0 +1,134 @@
+// Terms, expressions and the climb over levels: `parse_prefix`, `parse_expression` and `parse_expression_from` call each other.
+use crate::records::Diagnostic;
+use crate::records::Span;
+use crate::records::plain;
+use crate::records::push_diagnostic;
+use crate::records::put_node;
+use names::Token;
+use names::kinds;
+ghost use mathlib.Core.Path.{_≡_};
+ghost use Prim.Native.Nat.{ℕ, _+_, _*_, _≤_, _<_};
+ghost use lib.ListN.{length};
+ghost use Rattle.expressions.specs.Trees.{spanOf};
+ghost use Rattle.expressions.specs.Expressions.{precedence, binaryOperator};
+ghost use Rattle.expressions.specs.Terms.{stepped, LeafTold, DeepTold};
+
+// What is read so far: the cursor, the end of the last token, and how many records the stores hold.
+pub struct Counters {
+    pub at: usize,
+    pub end: u8,
+    pub nodes: usize,
+    pub diagnostics: usize,
+}
+
+// A term: read, with its root's span; failed and reported; or not there.
+pub enum Parsed {
+    Read(Span),
+    Reported,
+    Absent,
+}
+
+pub struct Step {
+    pub parsed: Parsed,
+    pub counters: Counters,
+}
+
+// The level of each kind of token as a binary operator, 0 for a kind that is none.
+const LEVELS: [u8; 30] = [
+    0, 0, 0, 0, 0, 0, 0, 0, 0, 0, 0, 0, 0, 0, 1, 1, 2, 2, 2, 3, 3, 3, 3, 0, 4, 4, 0, 0, 0, 0,
+];
+
+// The number of each kind as a binary operator, 9 for a kind that is none.
+const OPERATORS: [u8; 30] = [
+    9, 9, 9, 9, 9, 9, 9, 9, 9, 9, 9, 9, 9, 9, 0, 1, 2, 3, 4, 5, 6, 6, 7, 9, 8, 9, 9, 9, 9, 9,
+];
+
+fn precedence(kind: u8) -> u8
+    ensures { λ r. ⌜ r ≡ precedence kind ⌝ }
+{
+    if 30 <= kind {
+        return 0;
+    }
+    let i = kind as usize;
+    LEVELS[i]
+}
+
+fn binary_operator(kind: u8) -> u8
+    ensures { λ r. ⌜ r ≡ binaryOperator kind ⌝ }
+{
+    if 30 <= kind {
+        return 9;
+    }
+    let i = kind as usize;
+    OPERATORS[i]
+}
+
+fn span_of(token: Token) -> Span
+    ensures { λ r. ⌜ r ≡ spanOf token ⌝ }
+{
+    Span {
+        start: token.start,
+        end: token.end,
+    }
+}
+
+// Behind a token that stands at the cursor.
+fn step_over(c: Counters, token: Token) -> Counters
+    requires { ⌜ c .at < 256 ⌝ }
+    ensures { λ r. ⌜ r ≡ stepped c token ⌝ }
+{
+    Counters {
+        at: c.at + 1,
+        end: token.end,
+        nodes: c.nodes,
+        diagnostics: c.diagnostics,
+    }
+}
+
+// A name's or a literal's own span, as the last eight bytes of its record hold it.
+fn own(span: Span) -> u64
+    ensures { λ r. ⌜ r ≡ span .start + 256 * span .end ⌝ }
+{
+    (span.start as u64) + 256 * (span.end as u64)
+}
+
+// A node without children, and the term that it is.
+fn read_leaf(
+    nodes: &mut [u8],
+    c: Counters,
+    kind: u8,
+    detail: u8,
+    span: Span,
+    value: u64,
+) -> Step
+    requires { ⌜ (c .nodes < 255) × (3570 ≤ length (now nodes)) ⌝ }
+    ensures { λ r. ⌜ LeafTold (now (nodes .entry)) (now (nodes .exit)) c kind detail span value r ⌝ }
+{
+    let m = put_node(nodes, c.nodes, kind, detail, 255, 255, span, value);
+    Step {
+        parsed: Parsed::Read(span),
+        counters: Counters {
+            at: c.at,
+            end: c.end,
+            nodes: m,
+            diagnostics: c.diagnostics,
+        },
+    }
+}
+
+// Raises a diagnostic: the term has failed and leaves no node.
+fn report(diagnostics: &mut [u8], c: Counters, x: Diagnostic) -> Step
+    requires { ⌜ 10 * c .diagnostics + 10 ≤ length (now diagnostics) ⌝ }
+    ensures { λ r. ⌜ DeepTold (now (diagnostics .entry)) (now (diagnostics .exit)) c x r ⌝ }
+{
+    let d = push_diagnostic(diagnostics, c.diagnostics, x);
+    Step {
+        parsed: Parsed::Reported,
+        counters: Counters {
+            at: c.at,
+            end: c.end,
+            nodes: c.nodes,
+            diagnostics: d,
+        },
+    }
+}
