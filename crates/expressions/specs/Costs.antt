@@ -21,7 +21,7 @@ use Rattle.expressions.specs.Trees.{Expr, number, characterLiteral, symb
 use Rattle.expressions.specs.declared.records.Span.{Span}
 use Rattle.expressions.specs.Diagnostics.{dotInName}
 use Rattle.expressions.specs.Reader.{Reader, answer, raise}
-use Rattle.expressions.specs.Expressions.{Term, read, reported, absent, Suffix, suffixed, known, suffixRun, takeSizeSuffix, operated, parseExpressionFrom, climbed, parseExpressionOf, isUnary, negated, plussed, valued, named, grouped, leafTerm, parsePrefixTerm, tooDeep, parsePrefix, parseExpression, expressionFrom, fuel}
+use Rattle.expressions.specs.Expressions.{Term, read, reported, absent, Suffix, suffixed, known, suffixRun, takeSizeSuffix, operated, parseExpressionFrom, climbed, parseExpressionOf, isUnary, negated, plussed, valued, named, grouped, numberTerm, leafTerm, parsePrefixTerm, tooDeep, parsePrefix, parseExpression, expressionFrom, fuel}
 use Rattle.expressions.specs.Laws.{holds, All, all-choose, Law, call, PlusBefore}
 
 pub true-false : true ≡ false → ⊥
@@ -118,7 +118,7 @@ module _ (at : ℕ → Place) (w : ℕ) (clean : Clean at w) where
   plus-before {i} {k = k} {x = x} h q g = record { place = i; before = g; token = k; text = x; found = h; plus = eqb-true (k .kind) Kinds.plus q; spans = refl }
 
   leaf-cost : (i l d r : ℕ) → Law leafTerm at (Cost i d r) i l d r
-  unfolding All leafTerm size
+  unfolding All leafTerm numberTerm size
   leaf-cost i l d r =
       let sm = clean .small in
       record {

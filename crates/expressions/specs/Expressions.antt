@@ -128,11 +128,14 @@ grouped k (read e) =
 grouped k reported = answer reported
 grouped k absent = raise (expressionExpected (spanOf k)) (answer reported)
 
+unfoldable pub numberTerm : Token → List ℕ → Reader Term
+numberTerm k x = valued k (numberOf (k .detail) x) >>= λ v. answer (read (number (k .detail) v (spanOf k)))
+
 -- a term of one token
 unfoldable pub leafTerm : Reader Term
 leafTerm =
     bump (is Kinds.star) (λ k x. answer (read (currentAddress (spanOf k)))) λ u.
-    bump (is Kinds.number) (λ k x. valued k (numberOf (k .detail) x) >>= λ v. answer (read (number (k .detail) v (spanOf k)))) λ u.
+    bump (is Kinds.number) (λ k x. numberTerm k x) λ u.
     bump (is Kinds.stringLiteral) (λ k x. answer (read (characterLiteral (k .detail) (spanOf k) (spanOf k)))) λ u.
     bump (is Kinds.identifier) (λ k x. named k (reserved x)) λ u.
     bump (is Kinds.localIdentifier) (λ k x. answer (read (symbol (spanOf k) (spanOf k)))) λ u.

@@ -5,6 +5,7 @@ use mathlib.Core.List.{List, [], _∷_, _++_}
 use Prim.Native.Nat.{ℕ, _+_, _*_, _≤_, _<_}
 use lib.ListN.{length, take, drop}
 use Rattle.names.specs.Tokens.{count}
+use Rattle.names.specs.Places.{Place}
 use Rattle.names.specs.declared.tokens.Token.{Token}
 use Rattle.expressions.specs.Trees.{Expr, spanE, size}
 use Rattle.expressions.specs.declared.records.Span.{Span}
@@ -13,7 +14,7 @@ use Rattle.expressions.specs.declared.terms.Counters.{Counters}
 use Rattle.expressions.specs.declared.terms.Parsed.{Parsed}
 use Rattle.expressions.specs.declared.terms.Parsed.the-variants as parsed
 use Rattle.expressions.specs.declared.terms.Step.{Step}
-use Rattle.expressions.specs.Reader.{Reading}
+use Rattle.expressions.specs.Reader.{Reading, Reader, run}
 use Rattle.expressions.specs.Expressions.{Term, read, reported, absent}
 use Rattle.expressions.specs.Records.{nodes, record14, lowFirst}
 use Rattle.expressions.specs.Stores.{nodeBytes, added, PutTold, PushTold}
@@ -65,3 +66,14 @@ pub record DeepTold (D D′ : List ℕ) (c : Counters) (x : Diagnostic) (r : Ste
   pub end : r .counters .end ≡ c .end
   pub same : r .counters .nodes ≡ c .nodes
   pub push : PushTold D D′ (c .diagnostics) x (r .counters .diagnostics)
+
+-- ---- what a term of one token asks, behind that token, and what it tells
+
+pub record LeafAsks (N D : List ℕ) (c : Counters) : Type 0 where
+  pub number : c .nodes < 255
+  pub long : 3570 ≤ length N
+  pub room : 10 * c .diagnostics + 10 ≤ length D
+
+-- the reader p, which looks at no place, from the counters c on
+pub record ReaderTold (p : Reader Term) (N D N′ D′ : List ℕ) (c : Counters) (r : Step) : Type 0 where
+  pub told : (at : ℕ → Place) → Told (run p at (c .at) (c .end)) N D N′ D′ (c .nodes) (c .diagnostics) r

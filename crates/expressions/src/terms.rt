@@ -4,14 +4,17 @@ use crate::records::Span;
 use crate::records::plain;
 use crate::records::push_diagnostic;
 use crate::records::put_node;
+use names::Number;
 use names::Token;
 use names::kinds;
 ghost use mathlib.Core.Path.{_≡_};
 ghost use Prim.Native.Nat.{ℕ, _+_, _*_, _≤_, _<_};
 ghost use lib.ListN.{length};
 ghost use Rattle.expressions.specs.Trees.{spanOf};
-ghost use Rattle.expressions.specs.Expressions.{precedence, binaryOperator};
-ghost use Rattle.expressions.specs.Terms.{stepped, LeafTold, DeepTold};
+ghost use Rattle.names.specs.Places.{textOf};
+ghost use Rattle.names.specs.Registers.{reserved};
+ghost use Rattle.expressions.specs.Expressions.{precedence, binaryOperator, numberTerm, named};
+ghost use Rattle.expressions.specs.Terms.{stepped, LeafAsks, LeafTold, DeepTold, ReaderTold};
 
 // What is read so far: the cursor, the end of the last token, and how many records the stores hold.
 pub struct Counters {
@@ -87,7 +90,7 @@ fn step_over(c: Counters, token: Token) -> Counters
 
 // A name's or a literal's own span, as the last eight bytes of its record hold it.
 fn own(span: Span) -> u64
-    ensures { λ r. ⌜ r ≡ span .start + 256 * span .end ⌝ }
+    ensures { λ r. ⌜ (r ≡ span .start + 256 * span .end) × (span .start < 256) × (span .end < 256) ⌝ }
 {
     (span.start as u64) + 256 * (span.end as u64)
 }
@@ -131,4 +134,54 @@ fn report(diagnostics: &mut [u8], c: Counters, x: Diagnostic) -> Step
             diagnostics: d,
         },
     }
+}
+
+// A number's term, behind its token.
+fn number_leaf(
+    line: &[u8],
+    nodes: &mut [u8],
+    diagnostics: &mut [u8],
+    c: Counters,
+    token: Token,
+) -> Step
+    requires { ⌜ LeafAsks (now nodes) (now diagnostics) c ⌝ }
+    ensures { λ r. ⌜ ReaderTold (numberTerm token (textOf (now (line .entry)) (token .start) (token .end))) (now (nodes .entry)) (now (diagnostics .entry)) (now (nodes .exit)) (now (diagnostics .exit)) c r ⌝ }
+{
+    let text = names::text_of(line, token);
+    let detail = token.detail;
+    let span = span_of(token);
+    let number = names::parse_number(detail, text);
+    match number {
+        Number::Value(v) => read_leaf(nodes, c, 1, detail, span, v),
+        Number::TooLarge => {
+            let d = push_diagnostic(diagnostics, c.diagnostics, plain(1, span, span));
+            let e = Counters {
+                at: c.at,
+                end: c.end,
+                nodes: c.nodes,
+                diagnostics: d,
+            };
+            read_leaf(nodes, e, 1, detail, span, 0)
+        }
+        Number::Invalid => read_leaf(nodes, c, 1, detail, span, 0),
+    }
+}
+
+// A name's term, behind its token: a reserved name is none.
+fn name_leaf(
+    line: &[u8],
+    nodes: &mut [u8],
+    diagnostics: &mut [u8],
+    c: Counters,
+    token: Token,
+) -> Step
+    requires { ⌜ LeafAsks (now nodes) (now diagnostics) c ⌝ }
+    ensures { λ r. ⌜ ReaderTold (named token (reserved (textOf (now (line .entry)) (token .start) (token .end)))) (now (nodes .entry)) (now (diagnostics .entry)) (now (nodes .exit)) (now (diagnostics .exit)) c r ⌝ }
+{
+    let text = names::text_of(line, token);
+    let span = span_of(token);
+    if names::is_reserved_name(text) {
+        return report(diagnostics, c, plain(11, span, span));
+    }
+    read_leaf(nodes, c, 3, 0, span, own(span))
 }
