@@ -7,21 +7,27 @@ use Prim.Native.Nat.{ℕ, _+_, _*_, _/_, _%_, _<_, _≤_}
 use native.Mathlib.Nat.{add-zero, div-eq-of-lt, add-mul-div-left, div-add-mod}
 use native.Mathlib.Omega.{arith}
 use lib.ListN.{length, take}
-use Rattle.names.specs.Places.{Place}
+use Rattle.names.specs.Kinds
+use Rattle.names.specs.Registers.{reserved}
+use Rattle.names.specs.Tokens.{tokenAt}
+use Rattle.names.specs.Places.{Place, stands, textOf, placed, place}
+use Rattle.names.specs.declared.tokens.Peeked.the-variants as peeked
 use Rattle.names.specs.Numbers.{numberOf}
 use Rattle.names.specs.declared.tokens.Token.{Token}
 use Rattle.names.specs.declared.numbers.Number.{Number}
-use Rattle.expressions.specs.Trees.{Expr, number, characterLiteral, symbol, currentAddress, spanOf, spanE, size}
+use Rattle.expressions.specs.Trees.{Expr, number, characterLiteral, symbol, currentAddress, spanOf, spanE, size, empty, noSpan}
 use Rattle.expressions.specs.declared.records.Span.{Span}
 use Rattle.expressions.specs.declared.records.Diagnostic.{Diagnostic}
 use Rattle.expressions.specs.declared.terms.Counters.{Counters}
 use Rattle.expressions.specs.declared.terms.Step.{Step}
-use Rattle.expressions.specs.Diagnostics.{plain, numberTooLarge, registerInExpression, diagnosticRecord}
+use Rattle.expressions.specs.declared.terms.Parsed.the-variants as parsed
+use Rattle.expressions.specs.Diagnostics.{plain, nestingTooDeep, numberTooLarge, registerInExpression, diagnosticRecord}
 use Rattle.expressions.specs.Reader.{Reading, reading, run, answer, _>>=_}
-use Rattle.expressions.specs.Expressions.{Term, read, reported, absent, valued, numberTerm, named}
+use Rattle.expressions.specs.Expressions.{Term, read, reported, absent, valued, numberTerm, named, leafTerm, tooDeep}
 use Rattle.expressions.specs.Records.{nodes, record14, lowFirst, own}
 use Rattle.expressions.specs.Stores.{written, added, PushTold}
-use Rattle.expressions.specs.Terms.{parsedOf, sizeT, nodesT, Told, LeafTold, DeepTold, ReaderTold}
+use Rattle.expressions.specs.Terms.{parsedOf, sizeT, nodesT, stepped, Told, LeafTold, DeepTold, ReaderTold, TokenTold, DepthTold}
+use Rattle.expressions.proofs.Branches.{leaf-star, leaf-number, leaf-string, leaf-name, leaf-local, leaf-error, leaf-other, deep-there, deep-end}
 
 -- ---- diagnostics added in two runs
 
@@ -147,4 +153,87 @@ module _ (N D : List ℕ) (c : Counters) (k : Token) (x : List ℕ) where
         rw e
         (leaf-told N N′ D D c r (symbol (spanOf k) (spanOf k)) 3 0 v (c .diagnostics) (spanOf k) [] (rw g at h)
         (rw (w .0, own-bytes (spanOf k) (w .1) (w .2))) refl refl (added-nil D _) (sym (add-zero _)));
+  }
+
+-- ---- a term of one token, by its kind
+
+-- nothing is read
+pub absent-told : (N D : List ℕ) (c : Counters) → Told (reading (c .at) (c .end) [] absent) N D N D (c .nodes) (c .diagnostics) (record { parsed = parsed.Absent; counters = c })
+unfolding parsedOf sizeT nodesT
+absent-told N D c = record {
+  what = refl;
+  at = refl;
+  end = refl;
+  total = sym (add-zero _);
+  seen = sym (add-zero _);
+  bytes = sym (append-nil _);
+  past = refl;
+  more = added-nil D _;
+}
+
+module _ (N D : List ℕ) (c : Counters) (k : Token) (x : List ℕ) where
+  module _ {N′ : List ℕ} {r : Step} {s : Span} {q : Counters} (step : q ≡ stepped c k) (sp : s ≡ spanOf k) where
+    pub star-told : k .kind ≡ Kinds.star → LeafTold N N′ q 4 0 s 0 r → TokenTold leafTerm k x N D N′ D c r
+    unfolding nodes spanE size lowFirst
+    star-told e h = record {
+      told = λ at there.
+          rw (leaf-star at (c .at) (c .end) k x there e)
+          (leaf-told N N′ D D (stepped c k) r (currentAddress (spanOf k)) 4 0 0 (c .diagnostics) (spanOf k) [] (rw (step, sp) at h) refl refl refl (added-nil D _) (sym (add-zero _)));
+    }
+
+    module _ {v detail : ℕ} (w : (v ≡ s .start + 256 * s .end) × (s .start < 256) × (s .end < 256)) where
+      own-told : (e : Expr) (kind : ℕ) → LeafTold N N′ q kind detail s v r → nodes (c .nodes) e ≡ record14 kind detail 255 255 (spanOf k) (own (spanOf k)) → spanE e ≡ spanOf k → size e ≡ 1
+          → Told (reading (c .at + 1) (k .end) [] (read e)) N D N′ D (c .nodes) (c .diagnostics) r
+      own-told e kind h b f g =
+          let z = rw sp at w in
+          leaf-told N N′ D D (stepped c k) r e kind detail v (c .diagnostics) (spanOf k) [] (rw (step, sp) at h) (b ∙ rw (z .0, own-bytes (spanOf k) (z .1) (z .2))) f g (added-nil D _) (sym (add-zero _))
+
+      pub string-told : k .kind ≡ Kinds.stringLiteral → detail ≡ k .detail → LeafTold N N′ q 2 detail s v r → TokenTold leafTerm k x N D N′ D c r
+      unfolding nodes spanE size
+      string-told e f h = record {
+        told = λ at there. rw (leaf-string at (c .at) (c .end) k x there e) (own-told (characterLiteral (k .detail) (spanOf k) (spanOf k)) 2 h (rw f) refl refl);
+      }
+
+      pub local-told : k .kind ≡ Kinds.localIdentifier → detail ≡ 0 → LeafTold N N′ q 3 detail s v r → TokenTold leafTerm k x N D N′ D c r
+      unfolding nodes spanE size
+      local-told e f h = record {
+        told = λ at there. rw (leaf-local at (c .at) (c .end) k x there e) (own-told (symbol (spanOf k) (spanOf k)) 3 h (rw f) refl refl);
+      }
+
+  module _ {N′ D′ : List ℕ} {r : Step} {q : Counters} (step : q ≡ stepped c k) where
+    pub number-told : k .kind ≡ Kinds.number → ReaderTold (numberTerm k x) N D N′ D′ q r → TokenTold leafTerm k x N D N′ D′ c r
+    number-told e h = record { told = λ at there. rw (leaf-number at (c .at) (c .end) k x there e) ((rw step at h) .told at) }
+
+    pub name-told : k .kind ≡ Kinds.identifier → ReaderTold (named k (reserved x)) N D N′ D′ q r → TokenTold leafTerm k x N D N′ D′ c r
+    name-told e h = record { told = λ at there. rw (leaf-name at (c .at) (c .end) k x there e) ((rw step at h) .told at) }
+
+  pub error-told : {q : Counters} → q ≡ stepped c k → k .kind ≡ Kinds.error → TokenTold leafTerm k x N D N D c (record { parsed = parsed.Reported; counters = q })
+  unfolding parsedOf sizeT nodesT
+  error-told step e = record {
+    told = λ at there.
+        rw (leaf-error at (c .at) (c .end) k x there e, step)
+        (record { what = refl; at = refl; end = refl; total = sym (add-zero _); seen = sym (add-zero _); bytes = sym (append-nil _); past = refl; more = added-nil D _ });
+  }
+
+  pub other-told : (k .kind ≡ Kinds.star → ⊥) → (k .kind ≡ Kinds.number → ⊥) → (k .kind ≡ Kinds.stringLiteral → ⊥) → (k .kind ≡ Kinds.identifier → ⊥)
+      → (k .kind ≡ Kinds.localIdentifier → ⊥) → (k .kind ≡ Kinds.error → ⊥) → TokenTold leafTerm k x N D N D c (record { parsed = parsed.Absent; counters = c })
+  other-told a b e f g h = record { told = λ at there. rw (leaf-other at (c .at) (c .end) k x there a b e f g h) (absent-told N D c) }
+
+-- ---- the depth
+
+module _ (T D : List ℕ) (c : Counters) where
+  pub deep-token : {D′ : List ℕ} {r : Step} {t : Token} {s : Span} {y : Diagnostic} → tokenAt T (c .at) ≡ peeked.Is t → s ≡ spanOf t → y ≡ plain 6 s noSpan
+      → DeepTold D D′ c y r → DepthTold T D D′ c r
+  unfolding place placed
+  deep-token {D′} {r} {t} {y = y} e f g h = record {
+    told = λ L N.
+        let z : y ≡ nestingTooDeep (spanOf t) = g ∙ rw f in
+        rw (deep-there (place L T) (c .at) (c .end) t (textOf L (t .start) (t .end)) (rw e)) (report-told N D D′ c (nestingTooDeep (spanOf t)) r (rw z at h));
+  }
+
+  pub deep-past : {D′ : List ℕ} {r : Step} {y : Diagnostic} → tokenAt T (c .at) ≡ peeked.End → y ≡ plain 6 (empty (c .end)) noSpan
+      → DeepTold D D′ c y r → DepthTold T D D′ c r
+  unfolding place placed
+  deep-past {D′} {r} e g h = record {
+    told = λ L N. rw (deep-end (place L T) (c .at) (c .end) (rw e)) (report-told N D D′ c (nestingTooDeep (empty (c .end))) r (rw g at h));
   }

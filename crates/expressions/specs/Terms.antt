@@ -5,7 +5,7 @@ use mathlib.Core.List.{List, [], _∷_, _++_}
 use Prim.Native.Nat.{ℕ, _+_, _*_, _≤_, _<_}
 use lib.ListN.{length, take, drop}
 use Rattle.names.specs.Tokens.{count}
-use Rattle.names.specs.Places.{Place}
+use Rattle.names.specs.Places.{Place, stands, place}
 use Rattle.names.specs.declared.tokens.Token.{Token}
 use Rattle.expressions.specs.Trees.{Expr, spanE, size}
 use Rattle.expressions.specs.declared.records.Span.{Span}
@@ -15,7 +15,7 @@ use Rattle.expressions.specs.declared.terms.Parsed.{Parsed}
 use Rattle.expressions.specs.declared.terms.Parsed.the-variants as parsed
 use Rattle.expressions.specs.declared.terms.Step.{Step}
 use Rattle.expressions.specs.Reader.{Reading, Reader, run}
-use Rattle.expressions.specs.Expressions.{Term, read, reported, absent}
+use Rattle.expressions.specs.Expressions.{Term, read, reported, absent, tooDeep}
 use Rattle.expressions.specs.Records.{nodes, record14, lowFirst}
 use Rattle.expressions.specs.Stores.{nodeBytes, added, PutTold, PushTold}
 
@@ -77,3 +77,11 @@ pub record LeafAsks (N D : List ℕ) (c : Counters) : Type 0 where
 -- the reader p, which looks at no place, from the counters c on
 pub record ReaderTold (p : Reader Term) (N D N′ D′ : List ℕ) (c : Counters) (r : Step) : Type 0 where
   pub told : (at : ℕ → Place) → Told (run p at (c .at) (c .end)) N D N′ D′ (c .nodes) (c .diagnostics) r
+
+-- the reader p, where the token k with the text x stands at the cursor
+pub record TokenTold (p : Reader Term) (k : Token) (x : List ℕ) (N D N′ D′ : List ℕ) (c : Counters) (r : Step) : Type 0 where
+  pub told : (at : ℕ → Place) → at (c .at) ≡ stands k x → Told (run p at (c .at) (c .end)) N D N′ D′ (c .nodes) (c .diagnostics) r
+
+-- the depth is told, whatever the line
+pub record DepthTold (T D D′ : List ℕ) (c : Counters) (r : Step) : Type 0 where
+  pub told : (L N : List ℕ) → Told (run tooDeep (place L T) (c .at) (c .end)) N D N D′ (c .nodes) (c .diagnostics) r

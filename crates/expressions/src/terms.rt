@@ -5,6 +5,7 @@ use crate::records::plain;
 use crate::records::push_diagnostic;
 use crate::records::put_node;
 use names::Number;
+use names::Peeked;
 use names::Token;
 use names::kinds;
 ghost use mathlib.Core.Path.{_≡_};
@@ -13,8 +14,8 @@ ghost use lib.ListN.{length};
 ghost use Rattle.expressions.specs.Trees.{spanOf};
 ghost use Rattle.names.specs.Places.{textOf};
 ghost use Rattle.names.specs.Registers.{reserved};
-ghost use Rattle.expressions.specs.Expressions.{precedence, binaryOperator, numberTerm, named};
-ghost use Rattle.expressions.specs.Terms.{stepped, LeafAsks, LeafTold, DeepTold, ReaderTold};
+ghost use Rattle.expressions.specs.Expressions.{precedence, binaryOperator, numberTerm, named, leafTerm};
+ghost use Rattle.expressions.specs.Terms.{stepped, LeafAsks, LeafTold, DeepTold, ReaderTold, TokenTold, DepthTold};
 
 // What is read so far: the cursor, the end of the last token, and how many records the stores hold.
 pub struct Counters {
@@ -184,4 +185,59 @@ fn name_leaf(
         return report(diagnostics, c, plain(11, span, span));
     }
     read_leaf(nodes, c, 3, 0, span, own(span))
+}
+
+// A term of one token, which stands at the cursor.
+fn parse_leaf(
+    line: &[u8],
+    nodes: &mut [u8],
+    diagnostics: &mut [u8],
+    c: Counters,
+    token: Token,
+) -> Step
+    requires { ⌜ LeafAsks (now nodes) (now diagnostics) c × (c .at < 256) ⌝ }
+    ensures { λ r. ⌜ TokenTold leafTerm token (textOf (now (line .entry)) (token .start) (token .end)) (now (nodes .entry)) (now (diagnostics .entry)) (now (nodes .exit)) (now (diagnostics .exit)) c r ⌝ }
+{
+    let e = step_over(c, token);
+    let span = span_of(token);
+    let detail = token.detail;
+    let kind = token.kind;
+    match kind {
+        kinds::STAR => read_leaf(nodes, e, 4, 0, span, 0),
+        kinds::NUMBER => number_leaf(line, nodes, diagnostics, e, token),
+        kinds::STRING_LITERAL => read_leaf(nodes, e, 2, detail, span, own(span)),
+        kinds::IDENTIFIER => name_leaf(line, nodes, diagnostics, e, token),
+        kinds::LOCAL_IDENTIFIER => read_leaf(nodes, e, 3, 0, span, own(span)),
+        kinds::ERROR => Step {
+            parsed: Parsed::Reported,
+            counters: e,
+        },
+        _ => Step {
+            parsed: Parsed::Absent,
+            counters: c,
+        },
+    }
+}
+
+// More terms are open than may be: told at the token that stands at the cursor, or at the end of the last one.
+fn too_deep(tokens: &[u8], diagnostics: &mut [u8], c: Counters) -> Step
+    requires { ⌜ 10 * c .diagnostics + 10 ≤ length (now diagnostics) ⌝ }
+    ensures { λ r. ⌜ DepthTold (now (tokens .entry)) (now (diagnostics .entry)) (now (diagnostics .exit)) c r ⌝ }
+{
+    let at = c.at;
+    let p = names::token_at(tokens, at);
+    match p {
+        Peeked::Is(t) => {
+            let none = Span { start: 0, end: 0 };
+            report(diagnostics, c, plain(6, span_of(t), none))
+        }
+        Peeked::End => {
+            let none = Span { start: 0, end: 0 };
+            let last = Span {
+                start: c.end,
+                end: c.end,
+            };
+            report(diagnostics, c, plain(6, last, none))
+        }
+    }
 }
