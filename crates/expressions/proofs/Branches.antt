@@ -39,13 +39,14 @@ module _ (at : ℕ → Place) (i l : ℕ) (k : Token) (x : List ℕ) (h : at i �
   pub leaf-name : k .kind ≡ Kinds.identifier → run leafTerm at i l ≡ run (named k (reserved x)) at (i + 1) (k .end)
   unfolding run leafTerm met
   leaf-name e =
-      rw
-      (h,
-      met,
-      other-kind (k .kind) Kinds.identifier Kinds.star e refl,
-      other-kind (k .kind) Kinds.identifier Kinds.number e refl,
-      other-kind (k .kind) Kinds.identifier Kinds.stringLiteral e refl,
-      eq-eqb (k .kind) Kinds.identifier e)
+      rw (
+        h,
+        met,
+        other-kind (k .kind) Kinds.identifier Kinds.star e refl,
+        other-kind (k .kind) Kinds.identifier Kinds.number e refl,
+        other-kind (k .kind) Kinds.identifier Kinds.stringLiteral e refl,
+        eq-eqb (k .kind) Kinds.identifier e,
+      )
 
   pub leaf-local : k .kind ≡ Kinds.localIdentifier → run leafTerm at i l ≡ reading (i + 1) (k .end) [] (read (symbol (spanOf k) (spanOf k)))
   unfolding run leafTerm met
@@ -59,15 +60,16 @@ module _ (at : ℕ → Place) (i l : ℕ) (k : Token) (x : List ℕ) (h : at i �
       → (k .kind ≡ Kinds.localIdentifier → ⊥) → (k .kind ≡ Kinds.error → ⊥) → run leafTerm at i l ≡ reading i l [] absent
   unfolding run leafTerm met
   leaf-other a b c d e f =
-      rw
-      (h,
-      met,
-      ne-eqb (k .kind) Kinds.star a,
-      ne-eqb (k .kind) Kinds.number b,
-      ne-eqb (k .kind) Kinds.stringLiteral c,
-      ne-eqb (k .kind) Kinds.identifier d,
-      ne-eqb (k .kind) Kinds.localIdentifier e,
-      ne-eqb (k .kind) Kinds.error f)
+      rw (
+        h,
+        met,
+        ne-eqb (k .kind) Kinds.star a,
+        ne-eqb (k .kind) Kinds.number b,
+        ne-eqb (k .kind) Kinds.stringLiteral c,
+        ne-eqb (k .kind) Kinds.identifier d,
+        ne-eqb (k .kind) Kinds.localIdentifier e,
+        ne-eqb (k .kind) Kinds.error f,
+      )
 
 -- ---- too deep
 

@@ -3,3 +3,4 @@ pub mod Bytes
 pub mod Tables
 pub mod Branches
 pub mod Leaves
+pub mod Groups

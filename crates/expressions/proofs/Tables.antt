@@ -51,30 +51,32 @@ module _ (k : ℕ) (h : 30 ≤ k) where
   pub level-past : precedence k ≡ 0
   unfolding precedence
   level-past =
-      simp
-      (ne-eqb k 24 (omega arith),
-      ne-eqb k 25 (omega arith),
-      ne-eqb k 19 (omega arith),
-      ne-eqb k 20 (omega arith),
-      ne-eqb k 21 (omega arith),
-      ne-eqb k 22 (omega arith),
-      ne-eqb k 16 (omega arith),
-      ne-eqb k 17 (omega arith),
-      ne-eqb k 18 (omega arith),
-      ne-eqb k 14 (omega arith),
-      ne-eqb k 15 (omega arith))
+      simp (
+        ne-eqb k 24 (omega arith),
+        ne-eqb k 25 (omega arith),
+        ne-eqb k 19 (omega arith),
+        ne-eqb k 20 (omega arith),
+        ne-eqb k 21 (omega arith),
+        ne-eqb k 22 (omega arith),
+        ne-eqb k 16 (omega arith),
+        ne-eqb k 17 (omega arith),
+        ne-eqb k 18 (omega arith),
+        ne-eqb k 14 (omega arith),
+        ne-eqb k 15 (omega arith),
+      )
 
   pub operator-past : binaryOperator k ≡ 9
   unfolding binaryOperator
   operator-past =
-      simp
-      (ne-eqb k 14 (omega arith),
-      ne-eqb k 15 (omega arith),
-      ne-eqb k 16 (omega arith),
-      ne-eqb k 17 (omega arith),
-      ne-eqb k 18 (omega arith),
-      ne-eqb k 19 (omega arith),
-      ne-eqb k 20 (omega arith),
-      ne-eqb k 21 (omega arith),
-      ne-eqb k 22 (omega arith),
-      ne-eqb k 24 (omega arith))
+      simp (
+        ne-eqb k 14 (omega arith),
+        ne-eqb k 15 (omega arith),
+        ne-eqb k 16 (omega arith),
+        ne-eqb k 17 (omega arith),
+        ne-eqb k 18 (omega arith),
+        ne-eqb k 19 (omega arith),
+        ne-eqb k 20 (omega arith),
+        ne-eqb k 21 (omega arith),
+        ne-eqb k 22 (omega arith),
+        ne-eqb k 24 (omega arith),
+      )

@@ -2,22 +2,26 @@
 -- Assumes nothing.
 use mathlib.Core.Path.{_≡_}
 use mathlib.Core.List.{List, [], _∷_, _++_}
-use Prim.Native.Nat.{ℕ, _+_, _*_, _≤_, _<_}
+use Prim.Native.Nat.{ℕ, _+_, _-_, _*_, _≤_, _<_}
 use lib.ListN.{length, take, drop}
-use Rattle.names.specs.Tokens.{count}
+use Rattle.names.specs.Kinds
+use Rattle.names.specs.Tokens.{count, tokenAt}
+use Rattle.names.specs.declared.tokens.Peeked.the-variants as peeked
 use Rattle.names.specs.Places.{Place, stands, place}
 use Rattle.names.specs.declared.tokens.Token.{Token}
-use Rattle.expressions.specs.Trees.{Expr, spanE, size}
+use Rattle.expressions.specs.Trees.{Expr, span, spanOf, spanE, size}
 use Rattle.expressions.specs.declared.records.Span.{Span}
 use Rattle.expressions.specs.declared.records.Diagnostic.{Diagnostic}
 use Rattle.expressions.specs.declared.terms.Counters.{Counters}
 use Rattle.expressions.specs.declared.terms.Parsed.{Parsed}
 use Rattle.expressions.specs.declared.terms.Parsed.the-variants as parsed
 use Rattle.expressions.specs.declared.terms.Step.{Step}
-use Rattle.expressions.specs.Reader.{Reading, Reader, run}
-use Rattle.expressions.specs.Expressions.{Term, read, reported, absent, tooDeep}
+use Rattle.expressions.specs.declared.terms.Chain.{Chain}
+use Rattle.expressions.specs.Diagnostics.{unclosedParenthesis}
+use Rattle.expressions.specs.Reader.{Reading, Reader, run, _>>=_}
+use Rattle.expressions.specs.Expressions.{Term, read, reported, absent, tooDeep, fuel, negated, plussed, grouped, parsePrefix, parseExpression, parseExpressionFrom}
 use Rattle.expressions.specs.Records.{nodes, record14, lowFirst}
-use Rattle.expressions.specs.Stores.{nodeBytes, added, PutTold, PushTold}
+use Rattle.expressions.specs.Stores.{nodeBytes, written, added, PutTold, PushTold}
 
 -- behind a token
 abbrev pub stepped : Counters → Token → Counters
@@ -85,3 +89,103 @@ pub record TokenTold (p : Reader Term) (k : Token) (x : List ℕ) (N D N′ D′
 -- the depth is told, whatever the line
 pub record DepthTold (T D D′ : List ℕ) (c : Counters) (r : Step) : Type 0 where
   pub told : (L N : List ℕ) → Told (run tooDeep (place L T) (c .at) (c .end)) N D N D′ (c .nodes) (c .diagnostics) r
+
+-- ---- the readers that call each other: what they ask
+
+pub record Fit (T N D : List ℕ) (c : Counters) : Type 0 where
+  pub few : count T ≤ 255
+  pub within : c .at ≤ count T
+  pub nodesFit : c .nodes + count T ≤ 255 + c .at
+  pub nodesLong : 3570 ≤ length N
+  pub diagsFit : 10 * c .diagnostics + 10 * count T + 10 ≤ length D + 10 * c .at
+
+-- behind a token, which has left room for a node and a diagnostic
+pub record FitBehind (T N D : List ℕ) (c : Counters) : Type 0 where
+  pub few : count T ≤ 255
+  pub within : c .at ≤ count T
+  pub nodesFit : c .nodes + count T + 1 ≤ 255 + c .at
+  pub nodesLong : 3570 ≤ length N
+  pub diagsFit : 10 * c .diagnostics + 10 * count T + 20 ≤ length D + 10 * c .at
+
+-- behind a tree
+pub record FitClimb (T N D : List ℕ) (c : Counters) : Type 0 where
+  pub few : count T ≤ 255
+  pub within : c .at ≤ count T
+  pub nodesFit : c .nodes + count T ≤ 255 + c .at
+  pub nodesLong : 3570 ≤ length N
+  pub diagsFit : 10 * c .diagnostics + 10 * count T ≤ length D + 10 * c .at
+  pub some : 0 < c .nodes
+
+-- ---- and what they tell
+
+pub record TermTold (s : Reading Term) (T N D N′ D′ : List ℕ) (c : Counters) (r : Step) : Type 0 where
+  pub told : Told s N D N′ D′ (c .nodes) (c .diagnostics) r
+  pub on : c .at ≤ r .counters .at
+  pub within : r .counters .at ≤ count T
+  pub few : r .counters .nodes + c .at ≤ c .nodes + r .counters .at
+  pub quiet : r .counters .diagnostics + c .at ≤ c .diagnostics + r .counters .at + 1
+
+abbrev pub PrefixTold : List ℕ → List ℕ → List ℕ → List ℕ → List ℕ → List ℕ → Counters → ℕ → Step → Type 0
+PrefixTold L T N D N′ D′ c room r = TermTold (run (parsePrefix fuel room) (place L T) (c .at) (c .end)) T N D N′ D′ c r
+
+abbrev pub ExpressionTold : List ℕ → List ℕ → List ℕ → List ℕ → List ℕ → List ℕ → Counters → ℕ → Step → Type 0
+ExpressionTold L T N D N′ D′ c room r = TermTold (run (parseExpression room) (place L T) (c .at) (c .end)) T N D N′ D′ c r
+
+-- the terms behind their first token
+abbrev pub unaryTerm : ℕ → Token → Reader Term
+unaryTerm room k = parsePrefix fuel room >>= negated k
+
+abbrev pub plusTerm : ℕ → Token → Reader Term
+plusTerm room k = parsePrefix fuel room >>= plussed k
+
+abbrev pub groupTerm : ℕ → Token → Reader Term
+groupTerm room k = parseExpression room >>= grouped k
+
+pub record BehindTold (p : Reader Term) (L T N D N′ D′ : List ℕ) (c : Counters) (r : Step) : Type 0 where
+  pub told : Told (run p (place L T) (c .at) (c .end)) N D N′ D′ (c .nodes) (c .diagnostics) r
+  pub on : c .at ≤ r .counters .at
+  pub within : r .counters .at ≤ count T
+  pub few : r .counters .nodes + c .at ≤ c .nodes + r .counters .at + 1
+  pub quiet : r .counters .diagnostics + c .at ≤ c .diagnostics + r .counters .at + 2
+
+-- the climb s, of a tree whose records stand from b on, behind P
+pub record Says (s : Reading Expr) (D N′ D′ P : List ℕ) (b d : ℕ) (r : Chain) : Type 0 where
+  pub span : r .span ≡ spanE (s .value)
+  pub at : r .counters .at ≡ s .cursor
+  pub end : r .counters .end ≡ s .end
+  pub total : r .counters .nodes ≡ b + size (s .value)
+  pub seen : r .counters .diagnostics ≡ d + length (s .raised)
+  pub bytes : take (14 * r .counters .nodes) N′ ≡ P ++ nodes b (s .value)
+  pub more : D′ ≡ added D d (s .raised)
+
+-- whatever tree e the last records hold, and with fuel enough
+pub record ClimbTold (L T N D N′ D′ : List ℕ) (c : Counters) (left : Span) (min room : ℕ) (r : Chain) : Type 0 where
+  pub told : (g : ℕ) → count T ≤ g + c .at → (P : List ℕ) (b : ℕ) (e : Expr) → take (14 * c .nodes) N ≡ P ++ nodes b e → c .nodes ≡ b + size e → left ≡ spanE e
+      → Says (run (parseExpressionFrom g (parsePrefix fuel room) min e) (place L T) (c .at) (c .end)) D N′ D′ P b (c .diagnostics) r
+  pub past : drop nodeBytes N′ ≡ drop nodeBytes N
+  pub some : 0 < r .counters .nodes
+  pub on : c .at ≤ r .counters .at
+  pub within : r .counters .at ≤ count T
+  pub few : r .counters .nodes + c .at ≤ c .nodes + r .counters .at
+  pub quiet : r .counters .diagnostics + c .at ≤ c .diagnostics + r .counters .at
+
+-- ---- the end of a group
+
+pub record CloseAsks (T N D : List ℕ) (first : ℕ) (c : Counters) : Type 0 where
+  pub few : count T ≤ 255
+  pub within : c .at ≤ count T
+  pub nodesFit : c .nodes ≤ 255
+  pub nodesLong : 3570 ≤ length N
+  pub room : 10 * c .diagnostics + 10 ≤ length D
+  pub some : 0 < c .nodes
+
+abbrev pub withNodes : Counters → ℕ → Counters
+withNodes c n = record { at = c .at; end = c .end; nodes = n; diagnostics = c .diagnostics }
+
+-- a parenthesis t closes the group k, whose root gets the whole span; or none does
+pub data CloseTold (T N D N′ D′ : List ℕ) (first : ℕ) (c : Counters) (k : Token) (r : Step) : Type 0 where
+  closed : (t : Token) → tokenAt T (c .at) ≡ peeked.Is t → t .kind ≡ Kinds.rightParen
+      → N′ ≡ written N (14 * (c .nodes - 1) + 4) (k .start ∷ t .end ∷ []) → D′ ≡ D
+      → r .parsed ≡ parsed.Read (span (k .start) (t .end)) → r .counters ≡ stepped c t → CloseTold T N D N′ D′ first c k r
+  unclosed : ((t : Token) → tokenAt T (c .at) ≡ peeked.Is t → t .kind ≡ Kinds.rightParen → ⊥) → N′ ≡ N
+      → DeepTold D D′ (withNodes c first) (unclosedParenthesis (spanOf k)) r → CloseTold T N D N′ D′ first c k r

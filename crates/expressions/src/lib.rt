@@ -4,6 +4,7 @@ mod terms;
 
 pub use records::Diagnostic;
 pub use records::Span;
+pub use terms::Chain;
 pub use terms::Counters;
 pub use terms::Parsed;
 pub use terms::Step;

@@ -4,6 +4,7 @@ use crate::records::Span;
 use crate::records::plain;
 use crate::records::push_diagnostic;
 use crate::records::put_node;
+use crate::records::widen;
 use names::Number;
 use names::Peeked;
 use names::Token;
@@ -14,8 +15,9 @@ ghost use lib.ListN.{length};
 ghost use Rattle.expressions.specs.Trees.{spanOf};
 ghost use Rattle.names.specs.Places.{textOf};
 ghost use Rattle.names.specs.Registers.{reserved};
-ghost use Rattle.expressions.specs.Expressions.{precedence, binaryOperator, numberTerm, named, leafTerm};
-ghost use Rattle.expressions.specs.Terms.{stepped, LeafAsks, LeafTold, DeepTold, ReaderTold, TokenTold, DepthTold};
+ghost use Rattle.expressions.specs.Diagnostics.{expressionExpected, unclosedParenthesis};
+ghost use Rattle.expressions.specs.Expressions.{precedence, binaryOperator, unaryOperator, numberTerm, named, leafTerm};
+ghost use Rattle.expressions.specs.Terms.{stepped, LeafAsks, LeafTold, DeepTold, ReaderTold, TokenTold, DepthTold, Fit, FitBehind, FitClimb, PrefixTold, ExpressionTold, BehindTold, ClimbTold, CloseAsks, CloseTold, withNodes, unaryTerm, plusTerm, groupTerm};
 
 // What is read so far: the cursor, the end of the last token, and how many records the stores hold.
 pub struct Counters {
@@ -37,14 +39,78 @@ pub struct Step {
     pub counters: Counters,
 }
 
+// A tree that is read: its root's span.
+pub struct Chain {
+    pub span: Span,
+    pub counters: Counters,
+}
+
 // The level of each kind of token as a binary operator, 0 for a kind that is none.
 const LEVELS: [u8; 30] = [
-    0, 0, 0, 0, 0, 0, 0, 0, 0, 0, 0, 0, 0, 0, 1, 1, 2, 2, 2, 3, 3, 3, 3, 0, 4, 4, 0, 0, 0, 0,
+    0,
+    0,
+    0,
+    0,
+    0,
+    0,
+    0,
+    0,
+    0,
+    0,
+    0,
+    0,
+    0,
+    0,
+    1,
+    1,
+    2,
+    2,
+    2,
+    3,
+    3,
+    3,
+    3,
+    0,
+    4,
+    4,
+    0,
+    0,
+    0,
+    0,
 ];
 
 // The number of each kind as a binary operator, 9 for a kind that is none.
 const OPERATORS: [u8; 30] = [
-    9, 9, 9, 9, 9, 9, 9, 9, 9, 9, 9, 9, 9, 9, 0, 1, 2, 3, 4, 5, 6, 6, 7, 9, 8, 9, 9, 9, 9, 9,
+    9,
+    9,
+    9,
+    9,
+    9,
+    9,
+    9,
+    9,
+    9,
+    9,
+    9,
+    9,
+    9,
+    9,
+    0,
+    1,
+    2,
+    3,
+    4,
+    5,
+    6,
+    6,
+    7,
+    9,
+    8,
+    9,
+    9,
+    9,
+    9,
+    9,
 ];
 
 fn precedence(kind: u8) -> u8
@@ -97,14 +163,7 @@ fn own(span: Span) -> u64
 }
 
 // A node without children, and the term that it is.
-fn read_leaf(
-    nodes: &mut [u8],
-    c: Counters,
-    kind: u8,
-    detail: u8,
-    span: Span,
-    value: u64,
-) -> Step
+fn read_leaf(nodes: &mut [u8], c: Counters, kind: u8, detail: u8, span: Span, value: u64) -> Step
     requires { ⌜ (c .nodes < 255) × (3570 ≤ length (now nodes)) ⌝ }
     ensures { λ r. ⌜ LeafTold (now (nodes .entry)) (now (nodes .exit)) c kind detail span value r ⌝ }
 {
@@ -239,5 +298,74 @@ fn too_deep(tokens: &[u8], diagnostics: &mut [u8], c: Counters) -> Step
             };
             report(diagnostics, c, plain(6, last, none))
         }
+    }
+}
+
+// A unary operator's number.
+fn unary_operator(kind: u8) -> u8
+    ensures { λ r. ⌜ r ≡ unaryOperator kind ⌝ }
+{
+    if kind == kinds::MINUS { 0 } else { 1 }
+}
+
+// An expression was expected behind this token.
+fn expected_after(token: Token) -> Diagnostic
+    ensures { λ r. ⌜ r ≡ expressionExpected (spanOf token) ⌝ }
+{
+    let end = Span {
+        start: token.end,
+        end: token.end,
+    };
+    plain(12, end, span_of(token))
+}
+
+// A group that is never closed: its nodes, from `first` on, are given up.
+fn unclosed(diagnostics: &mut [u8], first: usize, c: Counters, token: Token) -> Step
+    requires { ⌜ 10 * c .diagnostics + 10 ≤ length (now diagnostics) ⌝ }
+    ensures { λ r. ⌜ DeepTold (now (diagnostics .entry)) (now (diagnostics .exit)) (withNodes c first) (unclosedParenthesis (spanOf token)) r ⌝ }
+{
+    let back = Counters {
+        at: c.at,
+        end: c.end,
+        nodes: first,
+        diagnostics: c.diagnostics,
+    };
+    report(
+        diagnostics,
+        back,
+        plain(5, span_of(token), Span { start: 0, end: 0 }),
+    )
+}
+
+// Behind the expression of a group, whose tree begins at the node `first`: the parenthesis closes it and widens its root, or it is told.
+fn close_group(
+    tokens: &[u8],
+    nodes: &mut [u8],
+    diagnostics: &mut [u8],
+    first: usize,
+    c: Counters,
+    token: Token,
+) -> Step
+    requires { ⌜ CloseAsks (now tokens) (now nodes) (now diagnostics) first c ⌝ }
+    ensures { λ r. ⌜ CloseTold (now (tokens .entry)) (now (nodes .entry)) (now (diagnostics .entry)) (now (nodes .exit)) (now (diagnostics .exit)) first c token r ⌝ }
+{
+    let at = c.at;
+    let p = names::token_at(tokens, at);
+    match p {
+        Peeked::Is(t) => {
+            if t.kind == kinds::RIGHT_PAREN {
+                let span = Span {
+                    start: token.start,
+                    end: t.end,
+                };
+                widen(nodes, c.nodes - 1, span);
+                return Step {
+                    parsed: Parsed::Read(span),
+                    counters: step_over(c, t),
+                };
+            }
+            unclosed(diagnostics, first, c, token)
+        }
+        Peeked::End => unclosed(diagnostics, first, c, token),
     }
 }
