@@ -23,7 +23,13 @@ import subprocess
 import sys
 from pathlib import Path
 
-HEAD = re.compile(r"\n(\S+) : (?:\(t : ℕ\) → )?(?:(\w+)-lts|tie)\.(Need-\S+)")
+HEAD = re.compile(r"\n(\S+) :\s+(?:\(t : ℕ\) → )?(?:([\w-]+)-lts|tie)\.(Need-\S+)")
+
+
+def need_heads(text):
+    """Each need's file of the generated ones, and its name there."""
+    file = lambda member: "Lts-" + member.replace("-", "_") if member else "Lts"
+    return {m.group(1): (file(m.group(2)), m.group(3)) for m in HEAD.finditer(text)}
 
 
 def source_key(crate):
@@ -93,14 +99,14 @@ class Crate:
 
 def compact(text):
     """Name the claims of a cycle's callees once for each member."""
-    for m in re.findall(r"abbrev μ-(\w+) ", text):
+    for m in re.findall(r"abbrev μ-([\w-]+) ", text):
         tuples = rf"({m}-lts\.(?:Need-\S+|spec))\s*\(([^()]*)\)\s*\({m}-at t\)"
         found = re.search(tuples, text)
         if not found:
             continue
         claims = re.sub(r"\s+", " ", found.group(2)).strip().rstrip(",")
         text = re.sub(tuples, rf"\1 ({m}-claims t) ({m}-at t)", text)
-        last = list(re.finditer(r"\nabbrev \S+-(?:below|claims) .*\n.*\n\n", text))[-1].end()
+        last = list(re.finditer(r"\nabbrev \S+-(?:below|claims) .*\n(?:.+\n)+\n", text))[-1].end()
         text = text[:last] + f"abbrev {m}-claims : ℕ → {m}-lts.Claims\n{m}-claims t = ({claims})\n\n" + text[last:]
     return text
 
@@ -139,7 +145,7 @@ def answered(crate, module, heads, proof, need, text):
 
 def write(crate, module):
     proof = compact(re.sub(r"-- src/\S+\n", "", crate.skeleton(module)))
-    heads = {m.group(1): ("Lts-" + m.group(2) if m.group(2) else "Lts", m.group(3)) for m in HEAD.finditer(proof)}
+    heads = need_heads(proof)
     uses = []
     for line in answer_lines(crate.answers(module)):
         if line.startswith(("use ", "-- ")):
@@ -148,7 +154,8 @@ def write(crate, module):
         left, text = line.split(" = ", 1)
         words = left.split()
         if words[0] == "measure":
-            proof = proof.replace(f"μ-{words[1]} κs a = ?", f"μ-{words[1]} κs a = {text}")
+            member = words[1].replace("_", "-")
+            proof = proof.replace(f"μ-{member} κs a = ?", f"μ-{member} κs a = {text}")
         elif words[0] == "unfolding":
             for need in words[1:]:
                 proof = re.sub(rf"\n({re.escape(need)} (?:t )?c(?: κs)? =)", rf"\nunfolding {text}\n\1", proof, count=1)
@@ -193,7 +200,7 @@ def main():
         if words[1] == "needs":
             print(re.sub(r"(?m)^use .*\n", "", text))
             return
-        heads = {m.group(1): ("Lts-" + m.group(2) if m.group(2) else "Lts", m.group(3)) for m in HEAD.finditer(text)}
+        heads = need_heads(text)
         for key, path in crate.things(words[0], *heads[words[2]]).items():
             print(key, path.count("before"))
         return

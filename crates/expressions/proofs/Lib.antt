@@ -4,3 +4,5 @@ pub mod Tables
 pub mod Branches
 pub mod Leaves
 pub mod Groups
+pub mod Returns
+pub mod Climbs

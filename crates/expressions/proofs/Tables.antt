@@ -80,3 +80,18 @@ module _ (k : ℕ) (h : 30 ≤ k) where
         ne-eqb k 22 (omega arith),
         ne-eqb k 24 (omega arith),
       )
+
+-- the highest of the levels
+level-small : (a b c d : Bool) → pick a 4 (pick b 3 (pick c 2 (pick d 1 0))) ≤ 4
+level-small true b c d = omega arith
+level-small false true c d = omega arith
+level-small false false true d = omega arith
+level-small false false false true = omega arith
+level-small false false false false = omega arith
+
+pub precedence-small : (l k : ℕ) → l ≡ precedence k → l ≤ 4
+unfolding precedence
+precedence-small l k e =
+    rw e
+    (level-small (either (eqb k Kinds.shiftLeft) (eqb k Kinds.shiftRight)) (either (eqb k Kinds.ampersand) (either (eqb k Kinds.bang) (either (eqb k Kinds.pipe) (eqb k Kinds.caret))))
+    (either (eqb k Kinds.star) (either (eqb k Kinds.slash) (eqb k Kinds.backslash))) (either (eqb k Kinds.plus) (eqb k Kinds.minus)))

@@ -369,3 +369,296 @@ fn close_group(
         Peeked::End => unclosed(diagnostics, first, c, token),
     }
 }
+
+// A term, with at most `room` terms open in it.
+fn parse_prefix(
+    line: &[u8],
+    tokens: &[u8],
+    nodes: &mut [u8],
+    diagnostics: &mut [u8],
+    c: Counters,
+    room: usize,
+) -> Step
+    requires { ⌜ Fit (now tokens) (now nodes) (now diagnostics) c ⌝ }
+    ensures { λ r. ⌜ PrefixTold (now (line .entry)) (now (tokens .entry)) (now (nodes .entry)) (now (diagnostics .entry)) (now (nodes .exit)) (now (diagnostics .exit)) c room r ⌝ }
+{
+    if room == 0 {
+        return too_deep(tokens, diagnostics, c);
+    }
+    let at = c.at;
+    let p = names::token_at(tokens, at);
+    match p {
+        Peeked::End => Step {
+            parsed: Parsed::Absent,
+            counters: c,
+        },
+        Peeked::Is(t) => {
+            let kind = t.kind;
+            match kind {
+                kinds::MINUS => parse_unary(
+                    line,
+                    tokens,
+                    nodes,
+                    diagnostics,
+                    step_over(c, t),
+                    t,
+                    room - 1,
+                ),
+                kinds::TILDE => parse_unary(
+                    line,
+                    tokens,
+                    nodes,
+                    diagnostics,
+                    step_over(c, t),
+                    t,
+                    room - 1,
+                ),
+                kinds::PLUS => parse_plus(
+                    line,
+                    tokens,
+                    nodes,
+                    diagnostics,
+                    step_over(c, t),
+                    t,
+                    room - 1,
+                ),
+                kinds::LEFT_PAREN => parse_group(
+                    line,
+                    tokens,
+                    nodes,
+                    diagnostics,
+                    step_over(c, t),
+                    t,
+                    room - 1,
+                ),
+                _ => parse_leaf(line, nodes, diagnostics, c, t),
+            }
+        }
+    }
+}
+
+// Behind a minus or a tilde.
+fn parse_unary(
+    line: &[u8],
+    tokens: &[u8],
+    nodes: &mut [u8],
+    diagnostics: &mut [u8],
+    c: Counters,
+    token: Token,
+    room: usize,
+) -> Step
+    requires { ⌜ FitBehind (now tokens) (now nodes) (now diagnostics) c ⌝ }
+    ensures { λ r. ⌜ BehindTold (unaryTerm room token) (now (line .entry)) (now (tokens .entry)) (now (nodes .entry)) (now (diagnostics .entry)) (now (nodes .exit)) (now (diagnostics .exit)) c r ⌝ }
+{
+    let r = parse_prefix(line, tokens, nodes, diagnostics, c, room);
+    let w = r.parsed;
+    let e = r.counters;
+    match w {
+        Parsed::Read(s) => {
+            let span = Span {
+                start: token.start,
+                end: s.end,
+            };
+            let m = put_node(
+                nodes,
+                e.nodes,
+                5,
+                unary_operator(token.kind),
+                e.nodes - 1,
+                255,
+                span,
+                0,
+            );
+            Step {
+                parsed: Parsed::Read(span),
+                counters: Counters {
+                    at: e.at,
+                    end: e.end,
+                    nodes: m,
+                    diagnostics: e.diagnostics,
+                },
+            }
+        }
+        Parsed::Reported => r,
+        Parsed::Absent => report(diagnostics, e, expected_after(token)),
+    }
+}
+
+// Behind a plus, which is no unary operator: the term is read all the same.
+fn parse_plus(
+    line: &[u8],
+    tokens: &[u8],
+    nodes: &mut [u8],
+    diagnostics: &mut [u8],
+    c: Counters,
+    token: Token,
+    room: usize,
+) -> Step
+    requires { ⌜ FitBehind (now tokens) (now nodes) (now diagnostics) c ⌝ }
+    ensures { λ r. ⌜ BehindTold (plusTerm room token) (now (line .entry)) (now (tokens .entry)) (now (nodes .entry)) (now (diagnostics .entry)) (now (nodes .exit)) (now (diagnostics .exit)) c r ⌝ }
+{
+    let r = parse_prefix(line, tokens, nodes, diagnostics, c, room);
+    let w = r.parsed;
+    let e = r.counters;
+    let span = span_of(token);
+    let none = Span { start: 0, end: 0 };
+    match w {
+        Parsed::Read(s) => {
+            let q = report(diagnostics, e, plain(13, span, s));
+            let f = q.counters;
+            Step {
+                parsed: Parsed::Read(s),
+                counters: f,
+            }
+        }
+        Parsed::Reported => report(diagnostics, e, plain(13, span, none)),
+        Parsed::Absent => report(diagnostics, e, plain(13, span, none)),
+    }
+}
+
+// Behind the parenthesis of a group.
+fn parse_group(
+    line: &[u8],
+    tokens: &[u8],
+    nodes: &mut [u8],
+    diagnostics: &mut [u8],
+    c: Counters,
+    token: Token,
+    room: usize,
+) -> Step
+    requires { ⌜ FitBehind (now tokens) (now nodes) (now diagnostics) c ⌝ }
+    ensures { λ r. ⌜ BehindTold (groupTerm room token) (now (line .entry)) (now (tokens .entry)) (now (nodes .entry)) (now (diagnostics .entry)) (now (nodes .exit)) (now (diagnostics .exit)) c r ⌝ }
+{
+    let r = parse_expression(line, tokens, nodes, diagnostics, c, room);
+    let w = r.parsed;
+    let e = r.counters;
+    match w {
+        Parsed::Read(_) => close_group(tokens, nodes, diagnostics, c.nodes, e, token),
+        Parsed::Reported => r,
+        Parsed::Absent => report(diagnostics, e, expected_after(token)),
+    }
+}
+
+// An expression: a term, and the climb from it.
+fn parse_expression(
+    line: &[u8],
+    tokens: &[u8],
+    nodes: &mut [u8],
+    diagnostics: &mut [u8],
+    c: Counters,
+    room: usize,
+) -> Step
+    requires { ⌜ Fit (now tokens) (now nodes) (now diagnostics) c ⌝ }
+    ensures { λ r. ⌜ ExpressionTold (now (line .entry)) (now (tokens .entry)) (now (nodes .entry)) (now (diagnostics .entry)) (now (nodes .exit)) (now (diagnostics .exit)) c room r ⌝ }
+{
+    let r = parse_prefix(line, tokens, nodes, diagnostics, c, room);
+    let w = r.parsed;
+    let e = r.counters;
+    match w {
+        Parsed::Read(s) => {
+            let q = parse_expression_from(line, tokens, nodes, diagnostics, e, s, 1, room);
+            let whole = q.span;
+            let f = q.counters;
+            Step {
+                parsed: Parsed::Read(whole),
+                counters: f,
+            }
+        }
+        Parsed::Reported => r,
+        Parsed::Absent => r,
+    }
+}
+
+// The climb from a left side, the tree of the last records, over operators of at least a level.
+fn parse_expression_from(
+    line: &[u8],
+    tokens: &[u8],
+    nodes: &mut [u8],
+    diagnostics: &mut [u8],
+    c: Counters,
+    left: Span,
+    minimum: u8,
+    room: usize,
+) -> Chain
+    requires { ⌜ FitClimb (now tokens) (now nodes) (now diagnostics) c ⌝ }
+    ensures { λ r. ⌜ ClimbTold (now (line .entry)) (now (tokens .entry)) (now (nodes .entry)) (now (diagnostics .entry)) (now (nodes .exit)) (now (diagnostics .exit)) c left minimum room r ⌝ }
+{
+    let at = c.at;
+    let p = names::token_at(tokens, at);
+    match p {
+        Peeked::End => Chain {
+            span: left,
+            counters: c,
+        },
+        Peeked::Is(t) => {
+            let level = precedence(t.kind);
+            if level < minimum {
+                return Chain {
+                    span: left,
+                    counters: c,
+                };
+            }
+            let r = parse_prefix(line, tokens, nodes, diagnostics, step_over(c, t), room);
+            let w = r.parsed;
+            let f = r.counters;
+            match w {
+                Parsed::Reported => Chain {
+                    span: left,
+                    counters: f,
+                },
+                Parsed::Absent => {
+                    let q = report(diagnostics, f, expected_after(t));
+                    let e = q.counters;
+                    Chain {
+                        span: left,
+                        counters: e,
+                    }
+                }
+                Parsed::Read(s) => {
+                    let q = parse_expression_from(
+                        line,
+                        tokens,
+                        nodes,
+                        diagnostics,
+                        f,
+                        s,
+                        level + 1,
+                        room,
+                    );
+                    let e = q.counters;
+                    let right = q.span;
+                    let whole = Span {
+                        start: left.start,
+                        end: right.end,
+                    };
+                    let m = put_node(
+                        nodes,
+                        e.nodes,
+                        6,
+                        binary_operator(t.kind),
+                        c.nodes - 1,
+                        e.nodes - 1,
+                        whole,
+                        0,
+                    );
+                    let next = Counters {
+                        at: e.at,
+                        end: e.end,
+                        nodes: m,
+                        diagnostics: e.diagnostics,
+                    };
+                    parse_expression_from(
+                        line,
+                        tokens,
+                        nodes,
+                        diagnostics,
+                        next,
+                        whole,
+                        minimum,
+                        room,
+                    )
+                }
+            }
+        }
+    }
+}
