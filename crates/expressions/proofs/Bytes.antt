@@ -1,13 +1,14 @@
 -- Bytes written into a store.
 -- Assumes nothing.
-use mathlib.Core.Path.{_≡_, refl, sym, _∙_, ap}
-use mathlib.Core.List.{List, _++_}
-use Prim.Native.Nat.{ℕ, _+_, _-_, _*_, _≤_, _<_}
+use mathlib.Core.Path.{_≡_, refl, sym, _∙_, ap, ap₂}
+use native.Mathlib.Nat.{sub-self}
+use mathlib.Core.List.{List, [], _∷_, _++_, append-assoc, append-nil}
+use Prim.Native.Nat.{ℕ, suc, _+_, _-_, _*_, _≤_, _<_}
 use native.Mathlib.Omega.{arith}
 use native.Mathlib.Numerals.{add-one}
-use lib.ListN.{length, take, drop, getD, set, length-append, length-take, length-drop}
-use lib.Seq.{paste, paste-zero, paste-suc, length-paste, take-length, take-at, drop-append-add, drop-drop}
-use Rattle.expressions.specs.Stores.{written, nodeBytes, PutAsks, PutTold}
+use lib.ListN.{length, take, drop, getD, set, replicate, length-append, length-take, length-drop, length-replicate, take-append-drop, replicate-append-replicate}
+use lib.Seq.{drop-cons, set-at, append-snoc, paste, paste-zero, paste-suc, length-paste, take-length, take-at, drop-append-add, drop-drop}
+use Rattle.expressions.specs.Stores.{written, cleared, nodeBytes, PutAsks, PutTold}
 
 -- one byte more
 pub paste-on : (d : List ℕ) (at : ℕ) (s : List ℕ) (j : ℕ) → at + j < length d → j < length s
@@ -51,3 +52,23 @@ put-told N N′ n left right b asks e h = record {
   past = rw h (written-past N (14 * n) b 3570 (omega (arith, asks .long, asks .number)) (omega (arith, asks .number)));
   long = rw h (length-written N (14 * n) b (omega (arith, asks .long, asks .number)));
 }
+
+-- ---- zeros from f on
+
+pub cleared-none : (N : List ℕ) (f : ℕ) → N ≡ cleared N f f
+unfolding cleared
+cleared-none N f = sym (ap (λ k. (take f N ++ replicate k 0) ++ drop f N) (sub-self f) ∙ ap (λ l. l ++ drop f N) (append-nil (take f N)) ∙ take-append-drop f N)
+
+pub cleared-more : (N : List ℕ) (f i : ℕ) → f ≤ i → i < length N → set (cleared N f i) i 0 ≡ cleared N f (i + 1)
+unfolding cleared
+cleared-more N f i le on =
+    let e : i - f + 1 ≡ i + 1 - f = omega arith in
+    ap (λ l. set ((take f N ++ replicate (i - f) 0) ++ l) i 0) (drop-cons N i 0 on)
+    ∙ set-at (take f N ++ replicate (i - f) 0) (getD N i 0) (drop (suc i) N) 0 i (simp (length-append, length-take, length-replicate) (omega arith))
+    ∙ sym (append-snoc (take f N ++ replicate (i - f) 0) 0 (drop (suc i) N))
+    ∙ ap (λ l. l ++ drop (suc i) N) (append-assoc (take f N) (replicate (i - f) 0) (0 ∷ []) ∙ ap (λ l. take f N ++ l) (replicate-append-replicate (i - f) 1 0))
+    ∙ ap₂ (λ k j. (take f N ++ replicate k 0) ++ drop j N) e (sym (add-one i))
+
+pub cleared-all : (N N′ : List ℕ) (f i : ℕ) → N′ ≡ cleared N f i → i ≡ 3570 → N′ ≡ cleared N f nodeBytes
+unfolding nodeBytes
+cleared-all N N′ f i h e = h ∙ ap (cleared N f) e

@@ -6,3 +6,4 @@ pub mod Leaves
 pub mod Groups
 pub mod Returns
 pub mod Climbs
+pub mod Kept

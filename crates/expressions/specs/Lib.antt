@@ -6,6 +6,7 @@ pub mod Expressions
 pub mod Records
 pub mod Stores
 pub mod Terms
+pub mod Promises
 pub mod Examples
 pub mod Laws
 pub mod Costs

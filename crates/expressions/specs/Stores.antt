@@ -2,8 +2,8 @@
 -- Assumes nothing.
 use mathlib.Core.Path.{_≡_}
 use mathlib.Core.List.{List, [], _∷_, _++_}
-use Prim.Native.Nat.{ℕ, _+_, _*_, _≤_, _<_}
-use lib.ListN.{length, take, drop}
+use Prim.Native.Nat.{ℕ, _+_, _-_, _*_, _≤_, _<_}
+use lib.ListN.{length, take, drop, replicate}
 use Rattle.expressions.specs.Diagnostics.{diagnosticRecord}
 use Rattle.expressions.specs.declared.records.Diagnostic.{Diagnostic}
 
@@ -14,6 +14,10 @@ written N at b = (take at N ++ b) ++ drop (at + length b) N
 -- the bytes of 255 node records. Shut, since `drop 3570` would compute 3,570 times
 unfoldable pub nodeBytes : ℕ
 nodeBytes = 3570
+
+-- a store with 0 for each byte from f up to i
+unfoldable pub cleared : List ℕ → ℕ → ℕ → List ℕ
+cleared N f i = (take f N ++ replicate (i - f) 0) ++ drop i N
 
 -- ---- a node
 

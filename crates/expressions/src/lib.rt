@@ -1,7 +1,11 @@
 // Expressions: terms, levels and trees, read into lent stores of records.
+mod reading;
 mod records;
 mod terms;
 
+pub use reading::Setting;
+pub use reading::expression;
+pub use reading::expression_from;
 pub use records::Diagnostic;
 pub use records::Span;
 pub use terms::Chain;

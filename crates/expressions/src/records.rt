@@ -5,7 +5,7 @@ ghost use Prim.Native.Nat.{_+_, _*_, _≤_, _<_};
 ghost use lib.ListN.{length};
 ghost use Rattle.expressions.specs.Diagnostics.{plain};
 ghost use Rattle.expressions.specs.Records.{record14, lowFirst};
-ghost use Rattle.expressions.specs.Stores.{written, PutAsks, PutTold, PushTold};
+ghost use Rattle.expressions.specs.Stores.{written, cleared, nodeBytes, PutAsks, PutTold, PushTold};
 
 // Byte offsets in the line, the end excluded.
 pub struct Span {
@@ -84,6 +84,18 @@ pub(crate) fn widen(nodes: &mut [u8], n: usize, span: Span)
 {
     let bytes = [span.start, span.end];
     write(nodes, 14 * n + 4, &bytes);
+}
+
+// Sets the bytes of the node records from the n-th on to 0.
+pub(crate) fn clear_nodes(nodes: &mut [u8], n: usize)
+    requires { ⌜ (n ≤ 255) × (3570 ≤ length (now nodes)) ⌝ }
+    ensures { λ _. ⌜ now (nodes .exit) ≡ cleared (now (nodes .entry)) (14 * n) nodeBytes ⌝ }
+{
+    let mut i = 14 * n;
+    while i < 3570 {
+        nodes[i] = 0;
+        i += 1;
+    }
 }
 
 // Writes the diagnostic record d, and returns the next number.

@@ -540,7 +540,7 @@ fn parse_group(
 }
 
 // An expression: a term, and the climb from it.
-fn parse_expression(
+pub(crate) fn parse_expression(
     line: &[u8],
     tokens: &[u8],
     nodes: &mut [u8],
@@ -570,7 +570,7 @@ fn parse_expression(
 }
 
 // The climb from a left side, the tree of the last records, over operators of at least a level.
-fn parse_expression_from(
+pub(crate) fn parse_expression_from(
     line: &[u8],
     tokens: &[u8],
     nodes: &mut [u8],

@@ -1,0 +1,64 @@
+-- What the public functions' returns show: the stores, cleared behind the records that count.
+-- Assumes nothing.
+use mathlib.Core.Path.{_≡_, refl, sym, _∙_, ap, ap₂}
+use mathlib.Core.List.{List, _++_}
+use Prim.Native.Nat.{ℕ, _+_, _-_, _*_, _≤_}
+use native.Mathlib.Omega.{arith}
+use lib.ListN.{length, take, drop, replicate}
+use Rattle.names.specs.Tokens.{count}
+use Rattle.names.specs.Places.{place}
+use Rattle.expressions.specs.Trees.{Expr, spanE, size}
+use Rattle.expressions.specs.declared.records.Span.{Span}
+use Rattle.expressions.specs.declared.terms.Counters.{Counters}
+use Rattle.expressions.specs.declared.terms.Parsed.{Parsed}
+use Rattle.expressions.specs.declared.terms.Step.{Step}
+use Rattle.expressions.specs.declared.terms.Chain.{Chain}
+use Rattle.expressions.specs.Reader.{Reading, run}
+use Rattle.expressions.specs.Expressions.{Term, parsePrefix, parseExpression, parseExpressionFrom, expressionFrom, fuel}
+use Rattle.expressions.specs.Records.{nodes}
+use Rattle.expressions.specs.Stores.{nodeBytes, cleared}
+use Rattle.expressions.specs.Terms.{sizeT, nodesT, ExpressionTold, ClimbTold, Says}
+use Rattle.expressions.specs.Promises.{filled, countersOf, stepOf, chainOf, ExpressionPromise, StepPromise, Stands, ChainPromise, FromPromise}
+use Rattle.expressions.specs.Fuel.{fuel-enough}
+
+counters-are : (c : Counters) (a l n d : ℕ) → c .at ≡ a → c .end ≡ l → c .nodes ≡ n → c .diagnostics ≡ d → c ≡ record { at = a; end = l; nodes = n; diagnostics = d }
+counters-are c a l n d h i j k = rw (sym h, sym i, sym j, sym k)
+
+-- a store whose first n records are b, cleared behind them
+filled-is : (N N₁ N₂ b : List ℕ) (n m : ℕ) → take (14 * n) N₁ ≡ b → n ≡ m → drop nodeBytes N₁ ≡ drop nodeBytes N → N₂ ≡ cleared N₁ (14 * n) nodeBytes → N₂ ≡ filled b m N
+unfolding cleared filled
+filled-is N N₁ N₂ b n m h e p k = k ∙ ap₂ (λ x y. (x ++ replicate (nodeBytes - 14 * n) 0) ++ y) h p ∙ ap (λ z. (b ++ replicate (nodeBytes - 14 * z) 0) ++ drop nodeBytes N) e
+
+pub expression-kept : (L T N D N₁ D₁ N₂ : List ℕ) (c : Counters) (room : ℕ) (r : Step) → ExpressionTold L T N D N₁ D₁ c room r → N₂ ≡ cleared N₁ (14 * r .counters .nodes) nodeBytes
+    → ExpressionPromise L T N D N₂ D₁ c room r
+expression-kept L T N D N₁ D₁ N₂ c room r g k =
+    let s = run (parseExpression room) (place L T) (c .at) (c .end) in
+    let h = g .told in
+    record {
+      answer = ap₂ (λ p q. record { parsed = p; counters = q }) (h .what) (counters-are (r .counters) _ _ _ _ (h .at) (h .end) (h .total) (h .seen));
+      nodes = filled-is N N₁ N₂ _ (r .counters .nodes) _ (h .bytes) (h .total) (h .past) k;
+      diagnostics = h .more;
+      on = g .on;
+      within = g .within;
+      few = g .few;
+      quiet = g .quiet;
+    }
+
+pub from-kept : (L T N D N₁ D₁ N₂ : List ℕ) (c : Counters) (left : Span) (room : ℕ) (r : Chain) → count T ≤ 255 → ClimbTold L T N D N₁ D₁ c left 1 room r
+    → N₂ ≡ cleared N₁ (14 * r .counters .nodes) nodeBytes → FromPromise L T N D N₂ D₁ c left room r
+unfolding expressionFrom
+from-kept L T N D N₁ D₁ N₂ c left room r few g k = record {
+  told = λ P b e st.
+      let h : Says (run (expressionFrom room e) (place L T) (c .at) (c .end)) D N₁ D₁ P b (c .diagnostics) r
+      = g .told fuel (omega (arith, fuel-enough)) P b e (st .bytes) (st .total) (st .root) in
+      record {
+        answer = ap₂ (λ p q. record { span = p; counters = q }) (h .span) (counters-are (r .counters) _ _ _ _ (h .at) (h .end) (h .total) (h .seen));
+        nodes = filled-is N N₁ N₂ _ (r .counters .nodes) _ (h .bytes) (h .total) (g .past) k;
+        diagnostics = h .more;
+      };
+  some = omega (arith, g .some);
+  on = g .on;
+  within = g .within;
+  few = g .few;
+  quiet = g .quiet;
+}

@@ -1,0 +1,76 @@
+-- What the public functions promise: the answer, and every byte of both stores.
+-- Assumes nothing.
+use mathlib.Core.Path.{_≡_}
+use mathlib.Core.List.{List, _++_}
+use Prim.Native.Nat.{ℕ, _+_, _-_, _*_, _≤_}
+use lib.ListN.{length, take, drop, replicate}
+use Rattle.names.specs.Tokens.{count}
+use Rattle.names.specs.Places.{place}
+use Rattle.expressions.specs.Trees.{Expr, spanE, size}
+use Rattle.expressions.specs.declared.records.Span.{Span}
+use Rattle.expressions.specs.declared.terms.Counters.{Counters}
+use Rattle.expressions.specs.declared.terms.Step.{Step}
+use Rattle.expressions.specs.declared.terms.Chain.{Chain}
+use Rattle.expressions.specs.Reader.{Reading, run}
+use Rattle.expressions.specs.Expressions.{Term, parseExpression, expressionFrom}
+use Rattle.expressions.specs.Records.{nodes}
+use Rattle.expressions.specs.Stores.{nodeBytes, added}
+use Rattle.expressions.specs.Terms.{parsedOf, sizeT, nodesT, FitClimb}
+
+-- the node store N with the bytes b of its first n records, zeros to the end of the 255, and the bytes past them as they were
+unfoldable pub filled : List ℕ → ℕ → List ℕ → List ℕ
+filled b n N = (b ++ replicate (nodeBytes - 14 * n) 0) ++ drop nodeBytes N
+
+-- the counters behind a reading, with n nodes in the store and d diagnostics before it
+abbrev pub countersOf : {A : Type 0} → Reading A → ℕ → ℕ → Counters
+countersOf s n d = record { at = s .cursor; end = s .end; nodes = n; diagnostics = d + length (s .raised) }
+
+-- ---- an expression at the cursor
+
+abbrev pub stepOf : Reading Term → ℕ → ℕ → Step
+stepOf s n d = record { parsed = parsedOf (s .value); counters = countersOf s (n + sizeT (s .value)) d }
+
+pub record StepPromise (s : Reading Term) (T N D N′ D′ : List ℕ) (c : Counters) (r : Step) : Type 0 where
+  pub answer : r ≡ stepOf s (c .nodes) (c .diagnostics)
+  pub nodes : N′ ≡ filled (take (14 * c .nodes) N ++ nodesT (c .nodes) (s .value)) (c .nodes + sizeT (s .value)) N
+  pub diagnostics : D′ ≡ added D (c .diagnostics) (s .raised)
+  -- which bounds what is left of the stores
+  pub on : c .at ≤ r .counters .at
+  pub within : r .counters .at ≤ count T
+  pub few : r .counters .nodes + c .at ≤ c .nodes + r .counters .at
+  pub quiet : r .counters .diagnostics + c .at ≤ c .diagnostics + r .counters .at + 1
+
+abbrev pub ExpressionPromise : List ℕ → List ℕ → List ℕ → List ℕ → List ℕ → List ℕ → Counters → ℕ → Step → Type 0
+ExpressionPromise L T N D N′ D′ c limit r = StepPromise (run (parseExpression limit) (place L T) (c .at) (c .end)) T N D N′ D′ c r
+
+-- ---- and one that goes on from a left side
+
+-- the tree e stands in the last of n records, from the b-th on, behind the bytes P
+pub record Stands (N : List ℕ) (n : ℕ) (left : Span) (P : List ℕ) (b : ℕ) (e : Expr) : Type 0 where
+  pub bytes : take (14 * n) N ≡ P ++ nodes b e
+  pub total : n ≡ b + size e
+  pub root : left ≡ spanE e
+
+-- some tree does
+pub record LeftStands (N : List ℕ) (n : ℕ) (left : Span) : Type 0 where
+  pub before : List ℕ
+  pub first : ℕ
+  pub tree : Expr
+  pub stands : Stands N n left before first tree
+
+abbrev pub chainOf : Reading Expr → ℕ → ℕ → Chain
+chainOf s b d = record { span = spanE (s .value); counters = countersOf s (b + size (s .value)) d }
+
+pub record ChainPromise (s : Reading Expr) (N D N′ D′ P : List ℕ) (b d : ℕ) (r : Chain) : Type 0 where
+  pub answer : r ≡ chainOf s b d
+  pub nodes : N′ ≡ filled (P ++ nodes b (s .value)) (b + size (s .value)) N
+  pub diagnostics : D′ ≡ added D d (s .raised)
+
+pub record FromPromise (L T N D N′ D′ : List ℕ) (c : Counters) (left : Span) (limit : ℕ) (r : Chain) : Type 0 where
+  pub told : (P : List ℕ) (b : ℕ) (e : Expr) → Stands N (c .nodes) left P b e
+      → ChainPromise (run (expressionFrom limit e) (place L T) (c .at) (c .end)) N D N′ D′ P b (c .diagnostics) r
+  pub some : 1 ≤ r .counters .nodes
+  pub on : c .at ≤ r .counters .at
+  pub within : r .counters .at ≤ count T
+  pub few : r .counters .nodes + c .at ≤ c .nodes + r .counters .at
+  pub quiet : r .counters .diagnostics + c .at ≤ c .diagnostics + r .counters .at

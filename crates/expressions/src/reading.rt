@@ -1,0 +1,53 @@
+// The public functions: an expression at the cursor, and one that goes on from a left side.
+use crate::records::Span;
+use crate::records::clear_nodes;
+use crate::terms::Chain;
+use crate::terms::Counters;
+use crate::terms::Step;
+use crate::terms::parse_expression;
+use crate::terms::parse_expression_from;
+ghost use Rattle.expressions.specs.Terms.{Fit, FitClimb};
+ghost use Rattle.expressions.specs.Promises.{ExpressionPromise, LeftStands, FromPromise};
+
+// What never changes during a reading: how many terms may be open in each other, and the symbol mark.
+pub struct Setting {
+    pub limit: usize,
+    pub mark: usize,
+}
+
+// An expression. The records that failed terms have left behind are cleared.
+pub fn expression(
+    line: &[u8],
+    tokens: &[u8],
+    nodes: &mut [u8],
+    diagnostics: &mut [u8],
+    c: Counters,
+    setting: Setting,
+) -> Step
+    requires { ⌜ Fit (now tokens) (now nodes) (now diagnostics) c ⌝ }
+    ensures { λ r. ⌜ ExpressionPromise (now (line .entry)) (now (tokens .entry)) (now (nodes .entry)) (now (diagnostics .entry)) (now (nodes .exit)) (now (diagnostics .exit)) c (setting .limit) r ⌝ }
+{
+    let r = parse_expression(line, tokens, nodes, diagnostics, c, setting.limit);
+    let e = r.counters;
+    clear_nodes(nodes, e.nodes);
+    r
+}
+
+// The expression that a tree, which the last records hold, is the first term of.
+pub fn expression_from(
+    line: &[u8],
+    tokens: &[u8],
+    nodes: &mut [u8],
+    diagnostics: &mut [u8],
+    c: Counters,
+    left: Span,
+    setting: Setting,
+) -> Chain
+    requires { ⌜ FitClimb (now tokens) (now nodes) (now diagnostics) c × LeftStands (now nodes) (c .nodes) left ⌝ }
+    ensures { λ r. ⌜ FromPromise (now (line .entry)) (now (tokens .entry)) (now (nodes .entry)) (now (diagnostics .entry)) (now (nodes .exit)) (now (diagnostics .exit)) c left (setting .limit) r ⌝ }
+{
+    let r = parse_expression_from(line, tokens, nodes, diagnostics, c, left, 1, setting.limit);
+    let e = r.counters;
+    clear_nodes(nodes, e.nodes);
+    r
+}
