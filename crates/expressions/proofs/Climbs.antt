@@ -21,8 +21,7 @@ use Rattle.expressions.specs.Diagnostics.{expressionExpected}
 use Rattle.expressions.specs.Reader.{Reading, reading, run}
 use Rattle.expressions.specs.Expressions.{Term, read, reported, absent, precedence, binaryOperator, parsePrefix, parseExpressionFrom, fuel}
 use Rattle.expressions.specs.Records.{nodes, record14, lowFirst}
-use Rattle.expressions.specs.Stores.{PutTold}
-use Rattle.expressions.specs.Terms.{sizeT, nodesT, stepped, Told, DeepTold, TermTold, PrefixTold, Says, ClimbTold}
+use Rattle.expressions.specs.Terms.{NodeTold, sizeT, nodesT, stepped, Told, DeepTold, TermTold, PrefixTold, Says, ClimbTold}
 use Rattle.expressions.proofs.Branches as branch
 use Rattle.expressions.proofs.Groups.{token-there}
 use Rattle.expressions.proofs.Leaves.{added-nil, added-more, added-one}
@@ -114,13 +113,13 @@ module _ (L T N D N₁ D₁ : List ℕ) (c : Counters) (left : Span) (min room :
           more = added-more D (c .diagnostics) (s .raised) (expressionExpected (spanOf k) ∷ []) (h .told .more) (h .told .seen) (added-one D₁ D₂ (r .counters .diagnostics) _ _ (p .push));
         })
 
-    at-read : (f : ℕ) (x : Span) (N₂ D₂ N₃ N₄ D₄ : List ℕ) (q w : Chain) (m : ℕ) → r .parsed ≡ parsed.Read x → count T ≤ suc f + c .at
+    at-read : (f : ℕ) (x : Span) (N₂ D₂ N₃ N₄ D₄ : List ℕ) (q w : Chain) (n : Counters) → r .parsed ≡ parsed.Read x → count T ≤ suc f + c .at
         → ClimbTold L T N₁ D₁ N₂ D₂ (r .counters) x (precedence (k .kind) + 1) room q
-        → PutTold N₂ N₃ (q .counters .nodes) (record14 6 (binaryOperator (k .kind)) (c .nodes - 1) (q .counters .nodes - 1) (span (left .start) (q .span .end)) (lowFirst 8 0)) m
-        → ClimbTold L T N₃ D₂ N₄ D₄ (record { at = q .counters .at; end = q .counters .end; nodes = m; diagnostics = q .counters .diagnostics }) (span (left .start) (q .span .end)) min room w
+        → NodeTold N₂ N₃ (q .counters) (record14 6 (binaryOperator (k .kind)) (c .nodes - 1) (q .counters .nodes - 1) (span (left .start) (q .span .end)) (lowFirst 8 0)) n
+        → ClimbTold L T N₃ D₂ N₄ D₄ n (span (left .start) (q .span .end)) min room w
         → Says (run (parseExpressionFrom (suc f) (parsePrefix fuel room) min e) (place L T) (c .at) (c .end)) D N₄ D₄ P b (c .diagnostics) w
     unfolding sizeT nodesT size spanE
-    at-read f x N₂ D₂ N₃ N₄ D₄ q w m wh more hq hp hw =
+    at-read f x N₂ D₂ N₃ N₄ D₄ q w n wh more hq hp hw =
         let y = what-read (s .value) x (sym (h .told .what) ∙ wh) in
         let Q = run (parseExpressionFrom f (parsePrefix fuel room) (precedence (k .kind) + 1) (y .0)) (place L T) (r .counters .at) (r .counters .end) in
         let st₁ : take (14 * r .counters .nodes) N₁ ≡ take (14 * c .nodes) N ++ nodes (c .nodes) (y .0) = h .told .bytes ∙ ap (λ v. take (14 * c .nodes) N ++ nodesT (c .nodes) v) (y .1) in
@@ -128,23 +127,23 @@ module _ (L T N D N₁ D₁ : List ℕ) (c : Counters) (left : Span) (min room :
         let sq : Says Q D₁ N₂ D₂ (take (14 * c .nodes) N) (c .nodes) (r .counters .diagnostics) q = hq .told f (omega (arith, h .on)) (take (14 * c .nodes) N) (c .nodes) (y .0) st₁ cnt₁ (y .2) in
         let B : Expr = binary (binaryOperator (k .kind)) e (Q .value) (span (spanE e .start) (spanE (Q .value) .end)) in
         let sB : span (left .start) (q .span .end) ≡ span (spanE e .start) (spanE (Q .value) .end) = ap₂ (λ i j. span (i .start) (j .end)) sp (sq .span) in
-        let st₃ : take (14 * m) N₃ ≡ P ++ nodes b B =
-        hp .bytes
+        let st₃ : take (14 * n .nodes) N₃ ≡ P ++ nodes b B =
+        hp .put .bytes
         ∙ ap (λ z. z ++ record14 6 (binaryOperator (k .kind)) (c .nodes - 1) (q .counters .nodes - 1) (span (left .start) (q .span .end)) (lowFirst 8 0)) (sq .bytes ∙ ap (λ z. z ++ nodes (c .nodes) (Q .value)) st)
         ∙ stored-binary P b (c .nodes) (q .counters .nodes) (binaryOperator (k .kind)) e (Q .value) (span (left .start) (q .span .end)) cnt (sq .total)
         ∙ ap (λ z. P ++ nodes b (binary (binaryOperator (k .kind)) e (Q .value) z)) sB in
-        let cnt₃ : m ≡ b + size B = omega (arith, hp .next, sq .total, cnt) in
-        let W = run (parseExpressionFrom f (parsePrefix fuel room) min B) (place L T) (q .counters .at) (q .counters .end) in
-        let sw : Says W D₂ N₄ D₄ P b (q .counters .diagnostics) w = hw .told f (omega (arith, hq .on, h .on)) P b B st₃ cnt₃ sB in
-        rw (branch.climb-read (parsePrefix fuel room) (place L T) min e (c .at) (c .end) k text (token-there L T (c .at) k op) f low s refl (y .0) (y .1) Q (ap₂ (λ i l. run (parseExpressionFrom f (parsePrefix fuel room) (precedence (k .kind) + 1) (y .0)) (place L T) i l) (h .told .at) (h .told .end)), ← sq .at, ← sq .end)
+        let cnt₃ : n .nodes ≡ b + size B = omega (arith, hp .put .next, sq .total, cnt) in
+        let W = run (parseExpressionFrom f (parsePrefix fuel room) min B) (place L T) (n .at) (n .end) in
+        let sw : Says W D₂ N₄ D₄ P b (n .diagnostics) w = hw .told f (omega (arith, hq .on, h .on, hp .at)) P b B st₃ cnt₃ sB in
+        rw (branch.climb-read (parsePrefix fuel room) (place L T) min e (c .at) (c .end) k text (token-there L T (c .at) k op) f low s refl (y .0) (y .1) Q (ap₂ (λ i l. run (parseExpressionFrom f (parsePrefix fuel room) (precedence (k .kind) + 1) (y .0)) (place L T) i l) (h .told .at) (h .told .end)), ← (hp .at ∙ sq .at), ← (hp .end ∙ sq .end))
         (record {
           span = sw .span;
           at = sw .at;
           end = sw .end;
           total = sw .total;
-          seen = simp length-append (omega (arith, sw .seen, sq .seen, h .told .seen));
+          seen = simp length-append (omega (arith, sw .seen, hp .seen, sq .seen, h .told .seen));
           bytes = sw .bytes;
-          more = added-more D (c .diagnostics) (s .raised) (Q .raised ++ W .raised) (h .told .more) (h .told .seen) (added-more D₁ (r .counters .diagnostics) (Q .raised) (W .raised) (sq .more) (sq .seen) (sw .more));
+          more = added-more D (c .diagnostics) (s .raised) (Q .raised ++ W .raised) (h .told .more) (h .told .seen) (added-more D₁ (r .counters .diagnostics) (Q .raised) (W .raised) (sq .more) (hp .seen ∙ sq .seen) (sw .more));
         })
 
   pub climb-reports : r .parsed ≡ parsed.Reported → ClimbTold L T N D N₁ D₁ c left min room (record { span = left; counters = r .counters })
@@ -179,19 +178,19 @@ module _ (L T N D N₁ D₁ : List ℕ) (c : Counters) (left : Span) (min room :
         quiet = omega (arith, p .push .next, p .at, absent-quiet L T N D N₁ D₁ (stepped c k) room r h w);
       }
 
-  pub climb-reads : {x : Span} {lv o : ℕ} {N₂ D₂ N₃ N₄ D₄ : List ℕ} {q w : Chain} {m : ℕ} → r .parsed ≡ parsed.Read x → lv ≡ precedence (k .kind) → o ≡ binaryOperator (k .kind)
+  pub climb-reads : {x : Span} {lv o : ℕ} {N₂ D₂ N₃ N₄ D₄ : List ℕ} {q w : Chain} {n : Counters} → r .parsed ≡ parsed.Read x → lv ≡ precedence (k .kind) → o ≡ binaryOperator (k .kind)
       → ClimbTold L T N₁ D₁ N₂ D₂ (r .counters) x (lv + 1) room q
-      → PutTold N₂ N₃ (q .counters .nodes) (record14 6 o (c .nodes - 1) (q .counters .nodes - 1) (span (left .start) (q .span .end)) (lowFirst 8 0)) m
-      → ClimbTold L T N₃ D₂ N₄ D₄ (record { at = q .counters .at; end = q .counters .end; nodes = m; diagnostics = q .counters .diagnostics }) (span (left .start) (q .span .end)) min room w
+      → NodeTold N₂ N₃ (q .counters) (record14 6 o (c .nodes - 1) (q .counters .nodes - 1) (span (left .start) (q .span .end)) (lowFirst 8 0)) n
+      → ClimbTold L T N₃ D₂ N₄ D₄ n (span (left .start) (q .span .end)) min room w
       → ClimbTold L T N D N₄ D₄ c left min room w
-  climb-reads {x} {N₂ = N₂} {D₂ = D₂} {N₃ = N₃} {N₄ = N₄} {D₄ = D₄} {q = q} {w = w} {m = m} wh hl ho hq hp hw =
+  climb-reads {x} {N₂ = N₂} {D₂ = D₂} {N₃ = N₃} {N₄ = N₄} {D₄ = D₄} {q = q} {w = w} {n = n} wh hl ho hq hp hw =
       record {
         told = λ g hg P b e st cnt sp.
-            turned P b e st cnt sp g w N₄ D₄ hg λ f hf. at-read P b e st cnt sp f x N₂ D₂ N₃ N₄ D₄ q w m wh hf (rw hl at hq) (rw ho at hp) hw;
-        past = hw .past ∙ hp .past ∙ hq .past ∙ h .told .past;
+            turned P b e st cnt sp g w N₄ D₄ hg λ f hf. at-read P b e st cnt sp f x N₂ D₂ N₃ N₄ D₄ q w n wh hf (rw hl at hq) (rw ho at hp) hw;
+        past = hw .past ∙ hp .put .past ∙ hq .past ∙ h .told .past;
         some = hw .some;
-        on = omega (arith, hw .on, hq .on, h .on);
+        on = omega (arith, hw .on, hq .on, h .on, hp .at);
         within = hw .within;
-        few = omega (arith, hw .few, hq .few, h .few, hp .next);
-        quiet = omega (arith, hw .quiet, hq .quiet, h .quiet);
+        few = omega (arith, hw .few, hq .few, h .few, hp .put .next, hp .at);
+        quiet = omega (arith, hw .quiet, hq .quiet, h .quiet, hp .at, hp .seen);
       }

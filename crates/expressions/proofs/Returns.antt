@@ -26,7 +26,7 @@ use Rattle.expressions.specs.Reader.{Reading, reading, Reader, _>>=_, ru
 use Rattle.expressions.specs.Expressions.{Term, read, reported, absent, unaryOperator, isUnary, negated, plussed, grouped, leafTerm, parsePrefix, parseExpression, parseExpressionFrom, fuel}
 use Rattle.expressions.specs.Records.{nodes, record14, lowFirst, zeros}
 use Rattle.expressions.specs.Stores.{nodeBytes, written, added, PutTold, PushTold}
-use Rattle.expressions.specs.Terms.{parsedOf, sizeT, nodesT, stepped, Told, DeepTold, TokenTold, DepthTold, TermTold, PrefixTold, ExpressionTold, unaryTerm, plusTerm, groupTerm, BehindTold, Says, ClimbTold, withNodes, CloseTold, closed, unclosed}
+use Rattle.expressions.specs.Terms.{NodeTold, parsedOf, sizeT, nodesT, stepped, Told, DeepTold, TokenTold, DepthTold, TermTold, PrefixTold, ExpressionTold, unaryTerm, plusTerm, groupTerm, BehindTold, Says, ClimbTold, withNodes, CloseTold, closed, unclosed}
 use Rattle.expressions.specs.Laws as laws
 use Rattle.expressions.specs.Laws.{law-run}
 use Rattle.expressions.specs.Costs.{Clean, Cost, prefix-cost, expression-cost}
@@ -226,15 +226,11 @@ module _ (L T N D N₁ D₁ : List ℕ) (c : Counters) (room : ℕ) (r : Step) (
       }
 
   module _ (k : Token) where
-    pub unary-reads : {x : Span} {N₂ : List ℕ} {o m : ℕ} → r .parsed ≡ parsed.Read x → o ≡ unaryOperator (k .kind)
-        → PutTold N₁ N₂ (r .counters .nodes) (record14 5 o (r .counters .nodes - 1) 255 (span (k .start) (x .end)) (lowFirst 8 0)) m
-        → BehindTold (unaryTerm room k) L T N D N₂ D₁ c
-        (record {
-          parsed = parsed.Read (span (k .start) (x .end));
-          counters = record { at = r .counters .at; end = r .counters .end; nodes = m; diagnostics = r .counters .diagnostics };
-        })
+    pub unary-reads : {x : Span} {N₂ : List ℕ} {o : ℕ} {q : Counters} → r .parsed ≡ parsed.Read x → o ≡ unaryOperator (k .kind)
+        → NodeTold N₁ N₂ (r .counters) (record14 5 o (r .counters .nodes - 1) 255 (span (k .start) (x .end)) (lowFirst 8 0)) q
+        → BehindTold (unaryTerm room k) L T N D N₂ D₁ c (record { parsed = parsed.Read (span (k .start) (x .end)); counters = q })
     unfolding parsedOf sizeT nodesT size spanE
-    unary-reads {x} {N₂} {o} {m} w u p =
+    unary-reads {x} {N₂} {o} {q} w u p =
         let y = what-read (first .value) x (sym (g .told .what) ∙ w) in
         let cnt : r .counters .nodes ≡ c .nodes + size (y .0) = g .told .total ∙ ap (λ v. c .nodes + sizeT v) (y .1) in
         record {
@@ -242,22 +238,22 @@ module _ (L T N D N₁ D₁ : List ℕ) (c : Counters) (room : ℕ) (r : Step) (
               rw (branch.negated-read (parsePrefix fuel room) (place L T) (c .at) (c .end) k first refl (y .0) (y .1))
               (record {
                 what = ap (λ z. parsed.Read (span (k .start) (z .end))) (y .2);
-                at = g .told .at;
-                end = g .told .end;
-                total = omega (arith, p .next, cnt);
-                seen = g .told .seen;
+                at = p .at ∙ g .told .at;
+                end = p .end ∙ g .told .end;
+                total = omega (arith, p .put .next, cnt);
+                seen = p .seen ∙ g .told .seen;
                 bytes =
-                    p .bytes
+                    p .put .bytes
                     ∙ ap (λ z. z ++ record14 5 o (r .counters .nodes - 1) 255 (span (k .start) (x .end)) (lowFirst 8 0)) (g .told .bytes ∙ ap (λ v. take (14 * c .nodes) N ++ nodesT (c .nodes) v) (y .1))
                     ∙ stored-unary (take (14 * c .nodes) N) (c .nodes) (r .counters .nodes) o (y .0) (span (k .start) (x .end)) cnt
                     ∙ ap₂ (λ a z. take (14 * c .nodes) N ++ nodes (c .nodes) (unary a (y .0) (span (k .start) (z .end)))) u (y .2);
-                past = p .past ∙ g .told .past;
+                past = p .put .past ∙ g .told .past;
                 more = g .told .more;
               });
-          on = g .on;
-          within = g .within;
-          few = omega (arith, g .few, p .next);
-          quiet = omega (arith, g .quiet);
+          on = omega (arith, g .on, p .at);
+          within = omega (arith, g .within, p .at);
+          few = omega (arith, g .few, p .put .next, p .at);
+          quiet = omega (arith, g .quiet, p .at, p .seen);
         }
 
     pub unary-reports : r .parsed ≡ parsed.Reported → BehindTold (unaryTerm room k) L T N D N₁ D₁ c r

@@ -19,7 +19,7 @@ use Rattle.expressions.specs.declared.terms.Step.{Step}
 use Rattle.expressions.specs.declared.terms.Chain.{Chain}
 use Rattle.expressions.specs.Diagnostics.{unclosedParenthesis}
 use Rattle.expressions.specs.Reader.{Reading, Reader, run, _>>=_}
-use Rattle.expressions.specs.Expressions.{Term, read, reported, absent, tooDeep, fuel, negated, plussed, grouped, parsePrefix, parseExpression, parseExpressionFrom}
+use Rattle.expressions.specs.Expressions.{Term, precedence, read, reported, absent, tooDeep, fuel, negated, plussed, grouped, parsePrefix, parseExpression, parseExpressionFrom}
 use Rattle.expressions.specs.Records.{nodes, record14, lowFirst}
 use Rattle.expressions.specs.Stores.{nodeBytes, written, added, PutTold, PushTold}
 
@@ -71,6 +71,13 @@ pub record DeepTold (D D′ : List ℕ) (c : Counters) (x : Diagnostic) (r : Ste
   pub same : r .counters .nodes ≡ c .nodes
   pub push : PushTold D D′ (c .diagnostics) x (r .counters .diagnostics)
 
+-- the node record b behind those that count; nothing else moves
+pub record NodeTold (N N′ : List ℕ) (c : Counters) (b : List ℕ) (r : Counters) : Type 0 where
+  pub at : r .at ≡ c .at
+  pub end : r .end ≡ c .end
+  pub seen : r .diagnostics ≡ c .diagnostics
+  pub put : PutTold N N′ (c .nodes) b (r .nodes)
+
 -- ---- what a term of one token asks, behind that token, and what it tells
 
 pub record LeafAsks (N D : List ℕ) (c : Counters) : Type 0 where
@@ -115,6 +122,11 @@ pub record FitClimb (T N D : List ℕ) (c : Counters) : Type 0 where
   pub nodesLong : 3570 ≤ length N
   pub diagsFit : 10 * c .diagnostics + 10 * count T ≤ length D + 10 * c .at
   pub some : 0 < c .nodes
+
+-- an operator t of the climb stands at the cursor
+pub record OperatedAsks (T : List ℕ) (c : Counters) (min : ℕ) (t : Token) : Type 0 where
+  pub there : tokenAt T (c .at) ≡ peeked.Is t
+  pub level : min ≤ precedence (t .kind)
 
 -- ---- and what they tell
 

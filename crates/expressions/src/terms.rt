@@ -17,7 +17,9 @@ ghost use Rattle.names.specs.Places.{textOf};
 ghost use Rattle.names.specs.Registers.{reserved};
 ghost use Rattle.expressions.specs.Diagnostics.{expressionExpected, unclosedParenthesis};
 ghost use Rattle.expressions.specs.Expressions.{precedence, binaryOperator, unaryOperator, numberTerm, named, leafTerm};
-ghost use Rattle.expressions.specs.Terms.{stepped, LeafAsks, LeafTold, DeepTold, ReaderTold, TokenTold, DepthTold, Fit, FitBehind, FitClimb, PrefixTold, ExpressionTold, BehindTold, ClimbTold, CloseAsks, CloseTold, withNodes, unaryTerm, plusTerm, groupTerm};
+ghost use Rattle.expressions.specs.Records.{record14, lowFirst};
+ghost use Rattle.expressions.specs.Stores.{PutAsks};
+ghost use Rattle.expressions.specs.Terms.{stepped, NodeTold, OperatedAsks, LeafAsks, LeafTold, DeepTold, ReaderTold, TokenTold, DepthTold, Fit, FitBehind, FitClimb, PrefixTold, ExpressionTold, BehindTold, ClimbTold, CloseAsks, CloseTold, withNodes, unaryTerm, plusTerm, groupTerm};
 
 // What is read so far: the cursor, the end of the last token, and how many records the stores hold.
 pub struct Counters {
@@ -179,19 +181,41 @@ fn read_leaf(nodes: &mut [u8], c: Counters, kind: u8, detail: u8, span: Span, va
     }
 }
 
+// Puts the node of an operator behind those of its sides.
+fn put_operator(
+    nodes: &mut [u8],
+    c: Counters,
+    kind: u8,
+    operator: u8,
+    left: usize,
+    right: usize,
+    span: Span,
+) -> Counters
+    requires { ⌜ PutAsks (now nodes) (c .nodes) left right ⌝ }
+    ensures { λ r. ⌜ NodeTold (now (nodes .entry)) (now (nodes .exit)) c (record14 kind operator left right span (lowFirst 8 0)) r ⌝ }
+{
+    let m = put_node(nodes, c.nodes, kind, operator, left, right, span, 0);
+    Counters {
+        at: c.at,
+        end: c.end,
+        nodes: m,
+        diagnostics: c.diagnostics,
+    }
+}
+
 // Raises a diagnostic: the term has failed and leaves no node.
 fn report(diagnostics: &mut [u8], c: Counters, x: Diagnostic) -> Step
     requires { ⌜ 10 * c .diagnostics + 10 ≤ length (now diagnostics) ⌝ }
     ensures { λ r. ⌜ DeepTold (now (diagnostics .entry)) (now (diagnostics .exit)) c x r ⌝ }
 {
-    let d = push_diagnostic(diagnostics, c.diagnostics, x);
+    let raised = push_diagnostic(diagnostics, c.diagnostics, x);
     Step {
         parsed: Parsed::Reported,
         counters: Counters {
             at: c.at,
             end: c.end,
             nodes: c.nodes,
-            diagnostics: d,
+            diagnostics: raised,
         },
     }
 }
@@ -394,43 +418,13 @@ fn parse_prefix(
         },
         Peeked::Is(t) => {
             let kind = t.kind;
+            let next = step_over(c, t);
+            let less = room - 1;
             match kind {
-                kinds::MINUS => parse_unary(
-                    line,
-                    tokens,
-                    nodes,
-                    diagnostics,
-                    step_over(c, t),
-                    t,
-                    room - 1,
-                ),
-                kinds::TILDE => parse_unary(
-                    line,
-                    tokens,
-                    nodes,
-                    diagnostics,
-                    step_over(c, t),
-                    t,
-                    room - 1,
-                ),
-                kinds::PLUS => parse_plus(
-                    line,
-                    tokens,
-                    nodes,
-                    diagnostics,
-                    step_over(c, t),
-                    t,
-                    room - 1,
-                ),
-                kinds::LEFT_PAREN => parse_group(
-                    line,
-                    tokens,
-                    nodes,
-                    diagnostics,
-                    step_over(c, t),
-                    t,
-                    room - 1,
-                ),
+                kinds::MINUS => parse_unary(line, tokens, nodes, diagnostics, next, t, less),
+                kinds::TILDE => parse_unary(line, tokens, nodes, diagnostics, next, t, less),
+                kinds::PLUS => parse_plus(line, tokens, nodes, diagnostics, next, t, less),
+                kinds::LEFT_PAREN => parse_group(line, tokens, nodes, diagnostics, next, t, less),
                 _ => parse_leaf(line, nodes, diagnostics, c, t),
             }
         }
@@ -459,24 +453,11 @@ fn parse_unary(
                 start: token.start,
                 end: s.end,
             };
-            let m = put_node(
-                nodes,
-                e.nodes,
-                5,
-                unary_operator(token.kind),
-                e.nodes - 1,
-                255,
-                span,
-                0,
-            );
+            let operator = unary_operator(token.kind);
+            let f = put_operator(nodes, e, 5, operator, e.nodes - 1, 255, span);
             Step {
                 parsed: Parsed::Read(span),
-                counters: Counters {
-                    at: e.at,
-                    end: e.end,
-                    nodes: m,
-                    diagnostics: e.diagnostics,
-                },
+                counters: f,
             }
         }
         Parsed::Reported => r,
@@ -591,74 +572,60 @@ pub(crate) fn parse_expression_from(
             counters: c,
         },
         Peeked::Is(t) => {
-            let level = precedence(t.kind);
-            if level < minimum {
+            if precedence(t.kind) < minimum {
                 return Chain {
                     span: left,
                     counters: c,
                 };
             }
-            let r = parse_prefix(line, tokens, nodes, diagnostics, step_over(c, t), room);
-            let w = r.parsed;
-            let f = r.counters;
-            match w {
-                Parsed::Reported => Chain {
-                    span: left,
-                    counters: f,
-                },
-                Parsed::Absent => {
-                    let q = report(diagnostics, f, expected_after(t));
-                    let e = q.counters;
-                    Chain {
-                        span: left,
-                        counters: e,
-                    }
-                }
-                Parsed::Read(s) => {
-                    let q = parse_expression_from(
-                        line,
-                        tokens,
-                        nodes,
-                        diagnostics,
-                        f,
-                        s,
-                        level + 1,
-                        room,
-                    );
-                    let e = q.counters;
-                    let right = q.span;
-                    let whole = Span {
-                        start: left.start,
-                        end: right.end,
-                    };
-                    let m = put_node(
-                        nodes,
-                        e.nodes,
-                        6,
-                        binary_operator(t.kind),
-                        c.nodes - 1,
-                        e.nodes - 1,
-                        whole,
-                        0,
-                    );
-                    let next = Counters {
-                        at: e.at,
-                        end: e.end,
-                        nodes: m,
-                        diagnostics: e.diagnostics,
-                    };
-                    parse_expression_from(
-                        line,
-                        tokens,
-                        nodes,
-                        diagnostics,
-                        next,
-                        whole,
-                        minimum,
-                        room,
-                    )
-                }
+            parse_operated(line, tokens, nodes, diagnostics, c, left, minimum, room, t)
+        }
+    }
+}
+
+// One operator of the climb, which stands at the cursor, and what it goes on with.
+fn parse_operated(
+    line: &[u8],
+    tokens: &[u8],
+    nodes: &mut [u8],
+    diagnostics: &mut [u8],
+    c: Counters,
+    left: Span,
+    minimum: u8,
+    room: usize,
+    t: Token,
+) -> Chain
+    requires { ⌜ FitClimb (now tokens) (now nodes) (now diagnostics) c × OperatedAsks (now tokens) c minimum t ⌝ }
+    ensures { λ r. ⌜ ClimbTold (now (line .entry)) (now (tokens .entry)) (now (nodes .entry)) (now (diagnostics .entry)) (now (nodes .exit)) (now (diagnostics .exit)) c left minimum room r ⌝ }
+{
+    let r = parse_prefix(line, tokens, nodes, diagnostics, step_over(c, t), room);
+    let w = r.parsed;
+    let f = r.counters;
+    match w {
+        Parsed::Reported => Chain {
+            span: left,
+            counters: f,
+        },
+        Parsed::Absent => {
+            let q = report(diagnostics, f, expected_after(t));
+            let e = q.counters;
+            Chain {
+                span: left,
+                counters: e,
             }
+        }
+        Parsed::Read(s) => {
+            let above = precedence(t.kind) + 1;
+            let q = parse_expression_from(line, tokens, nodes, diagnostics, f, s, above, room);
+            let e = q.counters;
+            let right = q.span;
+            let whole = Span {
+                start: left.start,
+                end: right.end,
+            };
+            let operator = binary_operator(t.kind);
+            let next = put_operator(nodes, e, 6, operator, c.nodes - 1, e.nodes - 1, whole);
+            parse_expression_from(line, tokens, nodes, diagnostics, next, whole, minimum, room)
         }
     }
 }

@@ -1,5 +1,5 @@
--- The proof of the cycle of calls {parse_expression, parse_expression_from, parse_group, parse_plus, parse_prefix, parse_unary}.
--- The measure is three times the tokens left, and 1 or 2 more for one that calls another at the same place.
+-- The proof of the cycle of calls {parse_expression, parse_expression_from, parse_group, parse_operated, parse_plus, parse_prefix, parse_unary}.
+-- The measure is four times the tokens left, and up to 3 more for one that calls another at the same place.
 -- Assumes nothing.
 use borrow.Author.Needs.{needs}
 use native.Mathlib.Omega.{arith}
@@ -14,59 +14,65 @@ use borrow.Fn.Kinds.{In}
 use borrow.Fn.PlainCycle.{Measures, is, falls, and}
 use Rattle.expressions.proofs.terms.parse_expression.Reads as parse-expression
 use Rattle.expressions.proofs.terms.parse_expression.Kinds as parse-expression-kinds
-use Rattle.expressions.proofs.terms.+parse_expression+parse_expression_from+parse_group+parse_plus+parse_prefix+parse_unary.Lts-parse_expression as parse-expression-lts
+use Rattle.expressions.proofs.terms.+parse_expression+parse_expression_from+parse_group+parse_operated+parse_plus+parse_prefix+parse_unary.Lts-parse_expression as parse-expression-lts
 use Rattle.expressions.proofs.terms.parse_expression_from.Reads as parse-expression-from
 use Rattle.expressions.proofs.terms.parse_expression_from.Kinds as parse-expression-from-kinds
-use Rattle.expressions.proofs.terms.+parse_expression+parse_expression_from+parse_group+parse_plus+parse_prefix+parse_unary.Lts-parse_expression_from as parse-expression-from-lts
+use Rattle.expressions.proofs.terms.+parse_expression+parse_expression_from+parse_group+parse_operated+parse_plus+parse_prefix+parse_unary.Lts-parse_expression_from as parse-expression-from-lts
 use Rattle.expressions.proofs.terms.parse_group.Reads as parse-group
 use Rattle.expressions.proofs.terms.parse_group.Kinds as parse-group-kinds
-use Rattle.expressions.proofs.terms.+parse_expression+parse_expression_from+parse_group+parse_plus+parse_prefix+parse_unary.Lts-parse_group as parse-group-lts
+use Rattle.expressions.proofs.terms.+parse_expression+parse_expression_from+parse_group+parse_operated+parse_plus+parse_prefix+parse_unary.Lts-parse_group as parse-group-lts
+use Rattle.expressions.proofs.terms.parse_operated.Reads as parse-operated
+use Rattle.expressions.proofs.terms.parse_operated.Kinds as parse-operated-kinds
+use Rattle.expressions.proofs.terms.+parse_expression+parse_expression_from+parse_group+parse_operated+parse_plus+parse_prefix+parse_unary.Lts-parse_operated as parse-operated-lts
 use Rattle.expressions.proofs.terms.parse_plus.Reads as parse-plus
 use Rattle.expressions.proofs.terms.parse_plus.Kinds as parse-plus-kinds
-use Rattle.expressions.proofs.terms.+parse_expression+parse_expression_from+parse_group+parse_plus+parse_prefix+parse_unary.Lts-parse_plus as parse-plus-lts
+use Rattle.expressions.proofs.terms.+parse_expression+parse_expression_from+parse_group+parse_operated+parse_plus+parse_prefix+parse_unary.Lts-parse_plus as parse-plus-lts
 use Rattle.expressions.proofs.terms.parse_prefix.Reads as parse-prefix
 use Rattle.expressions.proofs.terms.parse_prefix.Kinds as parse-prefix-kinds
-use Rattle.expressions.proofs.terms.+parse_expression+parse_expression_from+parse_group+parse_plus+parse_prefix+parse_unary.Lts-parse_prefix as parse-prefix-lts
+use Rattle.expressions.proofs.terms.+parse_expression+parse_expression_from+parse_group+parse_operated+parse_plus+parse_prefix+parse_unary.Lts-parse_prefix as parse-prefix-lts
 use Rattle.expressions.proofs.terms.parse_unary.Reads as parse-unary
 use Rattle.expressions.proofs.terms.parse_unary.Kinds as parse-unary-kinds
-use Rattle.expressions.proofs.terms.+parse_expression+parse_expression_from+parse_group+parse_plus+parse_prefix+parse_unary.Lts-parse_unary as parse-unary-lts
+use Rattle.expressions.proofs.terms.+parse_expression+parse_expression_from+parse_group+parse_operated+parse_plus+parse_prefix+parse_unary.Lts-parse_unary as parse-unary-lts
 use Rattle.expressions.proofs.records.plain.Reads as plain-reads
-use Rattle.expressions.proofs.records.put_node.Reads as put-node-reads
 use Rattle.expressions.proofs.terms.binary_operator.Reads as binary-operator-reads
 use Rattle.expressions.proofs.terms.close_group.Reads as close-group-reads
 use Rattle.expressions.proofs.terms.expected_after.Reads as expected-after-reads
 use Rattle.expressions.proofs.terms.parse_leaf.Reads as parse-leaf-reads
 use Rattle.expressions.proofs.terms.precedence.Reads as precedence-reads
+use Rattle.expressions.proofs.terms.put_operator.Reads as put-operator-reads
 use Rattle.expressions.proofs.terms.report.Reads as report-reads
 use Rattle.expressions.proofs.terms.span_of.Reads as span-of-reads
 use Rattle.expressions.proofs.terms.step_over.Reads as step-over-reads
 use Rattle.expressions.proofs.terms.too_deep.Reads as too-deep-reads
 use Rattle.expressions.proofs.terms.unary_operator.Reads as unary-operator-reads
 use Rattle.names.proofs.token_at.Reads as token-at-reads
-use Rattle.expressions.proofs.terms.+parse_expression+parse_expression_from+parse_group+parse_plus+parse_prefix+parse_unary.{
+use Rattle.expressions.proofs.terms.+parse_expression+parse_expression_from+parse_group+parse_operated+parse_plus+parse_prefix+parse_unary.{
   statement,
 }
-use Rattle.expressions.proofs.terms.+parse_expression+parse_expression_from+parse_group+parse_plus+parse_prefix+parse_unary.Tie.{
+use Rattle.expressions.proofs.terms.+parse_expression+parse_expression_from+parse_group+parse_operated+parse_plus+parse_prefix+parse_unary.Tie.{
   close,
 }
 
 abbrev μ-parse-expression : Measures 4 parse-expression-kinds.ps ℕ
-μ-parse-expression κs a = 3 * (count (a .1 .0 .now) - a .1 .1 .1 .1 .0 .at) + 1
+μ-parse-expression κs a = 4 * (count (a .1 .0 .now) - a .1 .1 .1 .1 .0 .at) + 2
 
 abbrev μ-parse-expression-from : Measures 4 parse-expression-from-kinds.ps ℕ
-μ-parse-expression-from κs a = 3 * (count (a .1 .0 .now) - a .1 .1 .1 .1 .0 .at)
+μ-parse-expression-from κs a = 4 * (count (a .1 .0 .now) - a .1 .1 .1 .1 .0 .at) + 1
 
 abbrev μ-parse-group : Measures 4 parse-group-kinds.ps ℕ
-μ-parse-group κs a = 3 * (count (a .1 .0 .now) - a .1 .1 .1 .1 .0 .at) + 2
+μ-parse-group κs a = 4 * (count (a .1 .0 .now) - a .1 .1 .1 .1 .0 .at) + 3
+
+abbrev μ-parse-operated : Measures 4 parse-operated-kinds.ps ℕ
+μ-parse-operated κs a = 4 * (count (a .1 .0 .now) - a .1 .1 .1 .1 .0 .at)
 
 abbrev μ-parse-plus : Measures 4 parse-plus-kinds.ps ℕ
-μ-parse-plus κs a = 3 * (count (a .1 .0 .now) - a .1 .1 .1 .1 .0 .at) + 2
+μ-parse-plus κs a = 4 * (count (a .1 .0 .now) - a .1 .1 .1 .1 .0 .at) + 3
 
 abbrev μ-parse-prefix : Measures 4 parse-prefix-kinds.ps ℕ
-μ-parse-prefix κs a = 3 * (count (a .1 .0 .now) - a .1 .1 .1 .1 .0 .at)
+μ-parse-prefix κs a = 4 * (count (a .1 .0 .now) - a .1 .1 .1 .1 .0 .at)
 
 abbrev μ-parse-unary : Measures 4 parse-unary-kinds.ps ℕ
-μ-parse-unary κs a = 3 * (count (a .1 .0 .now) - a .1 .1 .1 .1 .0 .at) + 2
+μ-parse-unary κs a = 4 * (count (a .1 .0 .now) - a .1 .1 .1 .1 .0 .at) + 3
 
 abbrev parse-expression-at : ℕ → In 4 parse-expression-kinds.ps
 parse-expression-at t =
@@ -108,6 +114,22 @@ abbrev parse-group-below : ℕ → In 4 parse-group-kinds.ps
 parse-group-below t =
     and 4 parse-group-kinds.ps (falls 4 parse-group-kinds.ps _<_ μ-parse-group t) parse-group.Pre
 
+abbrev parse-operated-at : ℕ → In 4 parse-operated-kinds.ps
+parse-operated-at t =
+    and
+    4
+    parse-operated-kinds.ps
+    (is 4 parse-operated-kinds.ps μ-parse-operated t)
+    parse-operated.Pre
+
+abbrev parse-operated-below : ℕ → In 4 parse-operated-kinds.ps
+parse-operated-below t =
+    and
+    4
+    parse-operated-kinds.ps
+    (falls 4 parse-operated-kinds.ps _<_ μ-parse-operated t)
+    parse-operated.Pre
+
 abbrev parse-plus-at : ℕ → In 4 parse-plus-kinds.ps
 parse-plus-at t =
     and 4 parse-plus-kinds.ps (is 4 parse-plus-kinds.ps μ-parse-plus t) parse-plus.Pre
@@ -137,22 +159,25 @@ parse-unary-below t =
     and 4 parse-unary-kinds.ps (falls 4 parse-unary-kinds.ps _<_ μ-parse-unary t) parse-unary.Pre
 
 abbrev parse-expression-from-claims : ℕ → parse-expression-from-lts.Claims
-parse-expression-from-claims t = (token-at-reads.Asked, token-at-reads.Learnt, precedence-reads.Asked, precedence-reads.Learnt, step-over-reads.Asked, step-over-reads.Learnt, parse-prefix-below t, parse-prefix.Post, expected-after-reads.Asked, expected-after-reads.Learnt, report-reads.Asked, report-reads.Learnt, parse-expression-from-below t, parse-expression-from.Post, binary-operator-reads.Asked, binary-operator-reads.Learnt, put-node-reads.Asked, put-node-reads.Learnt)
+parse-expression-from-claims t = (token-at-reads.Asked, token-at-reads.Learnt, precedence-reads.Asked, precedence-reads.Learnt, parse-operated-below t, parse-operated.Post)
 
 abbrev parse-expression-claims : ℕ → parse-expression-lts.Claims
 parse-expression-claims t = (parse-prefix-below t, parse-prefix.Post, parse-expression-from-below t, parse-expression-from.Post)
 
-abbrev parse-plus-claims : ℕ → parse-plus-lts.Claims
-parse-plus-claims t = (parse-prefix-below t, parse-prefix.Post, span-of-reads.Asked, span-of-reads.Learnt, plain-reads.Asked, plain-reads.Learnt, report-reads.Asked, report-reads.Learnt)
+abbrev parse-operated-claims : ℕ → parse-operated-lts.Claims
+parse-operated-claims t = (step-over-reads.Asked, step-over-reads.Learnt, parse-prefix-below t, parse-prefix.Post, expected-after-reads.Asked, expected-after-reads.Learnt, report-reads.Asked, report-reads.Learnt, precedence-reads.Asked, precedence-reads.Learnt, parse-expression-from-below t, parse-expression-from.Post, binary-operator-reads.Asked, binary-operator-reads.Learnt, put-operator-reads.Asked, put-operator-reads.Learnt)
 
 abbrev parse-group-claims : ℕ → parse-group-lts.Claims
 parse-group-claims t = (parse-expression-below t, parse-expression.Post, close-group-reads.Asked, close-group-reads.Learnt, expected-after-reads.Asked, expected-after-reads.Learnt, report-reads.Asked, report-reads.Learnt)
 
-abbrev parse-unary-claims : ℕ → parse-unary-lts.Claims
-parse-unary-claims t = (parse-prefix-below t, parse-prefix.Post, unary-operator-reads.Asked, unary-operator-reads.Learnt, put-node-reads.Asked, put-node-reads.Learnt, expected-after-reads.Asked, expected-after-reads.Learnt, report-reads.Asked, report-reads.Learnt)
-
 abbrev parse-prefix-claims : ℕ → parse-prefix-lts.Claims
 parse-prefix-claims t = (too-deep-reads.Asked, too-deep-reads.Learnt, token-at-reads.Asked, token-at-reads.Learnt, step-over-reads.Asked, step-over-reads.Learnt, parse-unary-below t, parse-unary.Post, parse-plus-below t, parse-plus.Post, parse-group-below t, parse-group.Post, parse-leaf-reads.Asked, parse-leaf-reads.Learnt)
+
+abbrev parse-plus-claims : ℕ → parse-plus-lts.Claims
+parse-plus-claims t = (parse-prefix-below t, parse-prefix.Post, span-of-reads.Asked, span-of-reads.Learnt, plain-reads.Asked, plain-reads.Learnt, report-reads.Asked, report-reads.Learnt)
+
+abbrev parse-unary-claims : ℕ → parse-unary-lts.Claims
+parse-unary-claims t = (parse-prefix-below t, parse-prefix.Post, unary-operator-reads.Asked, unary-operator-reads.Learnt, put-operator-reads.Asked, put-operator-reads.Learnt, expected-after-reads.Asked, expected-after-reads.Learnt, report-reads.Asked, report-reads.Learnt)
 
 parse-expression-parse-prefix-requires : (t : ℕ) → parse-expression-lts.Need-parse-prefix-requires (parse-expression-claims t) (parse-expression-at t) parse-expression.Post
 parse-expression-parse-prefix-requires t c κs = search needs
@@ -237,97 +262,15 @@ parse-expression-from-returns t c =
     let c-pre = c .before .before .before .before .before .before .before .before .before .before .pre in
     climb-lows _ _ _ _ _ _ _ _ _ (sym (c-token-at .ensures) ∙ c-p .given .1) (omega (arith, c-precedence .ensures, c-if1 .taken)) (c-pre .1 .some) (c-pre .1 .within)
 
-parse-expression-from-step-over-requires :
-    (t : ℕ) → parse-expression-from-lts.Need-step-over-requires (parse-expression-from-claims t) (parse-expression-from-at t) parse-expression-from.Post
-parse-expression-from-step-over-requires t c κs =
+parse-expression-from-parse-operated-requires :
+    (t : ℕ) → parse-expression-from-lts.Need-parse-operated-requires (parse-expression-from-claims t) (parse-expression-from-at t) parse-expression-from.Post
+parse-expression-from-parse-operated-requires t c κs =
     let c-pre = c .before .before .before .before .before .before .before .before .before .before .before .before .pre in
-    omega (arith, c-pre)
-
-parse-expression-from-parse-prefix-requires :
-    (t : ℕ) → parse-expression-from-lts.Need-parse-prefix-requires (parse-expression-from-claims t) (parse-expression-from-at t) parse-expression-from.Post
-parse-expression-from-parse-prefix-requires t c κs =
-    let c-step-over = c .step-over in
-    let c-token-at = c .before .before .before .before .before .before .before .before .token-at in
-    let c-p = c .before .before .before .before .before .before .p in
-    let c-pre = c .before .before .before .before .before .before .before .before .before .before .before .before .before .pre in
-    let h = c-step-over .ensures in rw h (omega (arith, token-live _ _ _ (sym (c-token-at .ensures) ∙ c-p .given .1), c-pre))
-
-parse-expression-from-enum-told-2 : (t : ℕ) → parse-expression-from-lts.Need-enum-told-2 (parse-expression-from-claims t) (parse-expression-from-at t) parse-expression-from.Post
-parse-expression-from-enum-told-2 t c = search needs
-
-parse-expression-from-enum-told-3 : (t : ℕ) → parse-expression-from-lts.Need-enum-told-3 (parse-expression-from-claims t) (parse-expression-from-at t) parse-expression-from.Post
-parse-expression-from-enum-told-3 t c = search needs
-
-parse-expression-from-expected-after-requires :
-    (t : ℕ) → parse-expression-from-lts.Need-expected-after-requires (parse-expression-from-claims t) (parse-expression-from-at t) parse-expression-from.Post
-parse-expression-from-expected-after-requires t c κs = search needs
-
-parse-expression-from-report-requires : (t : ℕ) → parse-expression-from-lts.Need-report-requires (parse-expression-from-claims t) (parse-expression-from-at t) parse-expression-from.Post
-parse-expression-from-report-requires t c κs =
-    let c-step-over = c .before .before .before .before .before .before .before .before .before .before .step-over in
-    let c-token-at = c .before .before .before .before .before .before .before .before .before .before .before .before .before .before .before .before .before .before .token-at in
-    let c-p = c .before .before .before .before .before .before .before .before .before .before .before .before .before .before .before .before .p in
-    let c-pre = c .before .before .before .before .before .before .before .before .before .before .before .before .before .before .before .before .before .before .before .before .before .before .before .pre in
-    let c-parse-prefix = c .before .before .before .before .before .before .before .before .before .parse-prefix in
-    let c-enum-told3 = c .before .before .enum-told3 in
-    omega (arith, ap (λ z. z .at) (c-step-over .ensures), ap (λ z. z .nodes) (c-step-over .ensures), ap (λ z. z .diagnostics) (c-step-over .ensures), token-live _ _ _ (sym (c-token-at .ensures) ∙ c-p .given .1), c-pre, c-parse-prefix, absent-quiet _ _ _ _ _ _ _ _ _ (c-parse-prefix .ensures) (c-enum-told3 .given .1))
-
-parse-expression-from-enum-known-w : (t : ℕ) → parse-expression-from-lts.Need-enum-known-w (parse-expression-from-claims t) (parse-expression-from-at t) parse-expression-from.Post
-parse-expression-from-enum-known-w t c = search needs
-
-parse-expression-from-add-parse-expression-from :
-    (t : ℕ) → parse-expression-from-lts.Need-add-parse-expression-from (parse-expression-from-claims t) (parse-expression-from-at t) parse-expression-from.Post
-parse-expression-from-add-parse-expression-from t c =
-    let c-precedence = c .before .before .before .before .before .before .before .before .before .before .before .before .before .before .before .precedence in
-    omega (arith, precedence-small _ _ (c-precedence .ensures))
-
-parse-expression-from-parse-expression-from-requires :
-    (t : ℕ) → parse-expression-from-lts.Need-parse-expression-from-requires (parse-expression-from-claims t) (parse-expression-from-at t) parse-expression-from.Post
-parse-expression-from-parse-expression-from-requires t c κs =
-    let c-step-over = c .before .before .before .before .before .before .before .before .before .before .before .step-over in
-    let c-parse-prefix = c .before .before .before .before .before .before .before .before .before .before .parse-prefix in
-    let c-w = c .before .before .before .w in
-    let c-token-at = c .before .before .before .before .before .before .before .before .before .before .before .before .before .before .before .before .before .before .before .token-at in
-    let c-p = c .before .before .before .before .before .before .before .before .before .before .before .before .before .before .before .before .before .p in
-    let c-pre = c .before .before .before .before .before .before .before .before .before .before .before .before .before .before .before .before .before .before .before .before .before .before .before .before .pre in
-    omega (arith, ap (λ z. z .at) (c-step-over .ensures), ap (λ z. z .nodes) (c-step-over .ensures), ap (λ z. z .diagnostics) (c-step-over .ensures), read-some (c-parse-prefix .ensures .told) (c-w .given .1), token-live _ _ _ (sym (c-token-at .ensures) ∙ c-p .given .1), c-pre, c-parse-prefix)
-
-parse-expression-from-binary-operator-requires :
-    (t : ℕ) → parse-expression-from-lts.Need-binary-operator-requires (parse-expression-from-claims t) (parse-expression-from-at t) parse-expression-from.Post
-parse-expression-from-binary-operator-requires t c κs = search needs
-
-parse-expression-from-sub-put-node : (t : ℕ) → parse-expression-from-lts.Need-sub-put-node (parse-expression-from-claims t) (parse-expression-from-at t) parse-expression-from.Post
-parse-expression-from-sub-put-node t c =
-    let c-pre = c .before .before .before .before .before .before .before .before .before .before .before .before .before .before .before .before .before .before .before .before .before .before .before .before .before .before .before .before .before .before .before .before .before .before .pre in
-    omega (arith, c-pre)
-
-parse-expression-from-sub-put-node-2 : (t : ℕ) → parse-expression-from-lts.Need-sub-put-node-2 (parse-expression-from-claims t) (parse-expression-from-at t) parse-expression-from.Post
-parse-expression-from-sub-put-node-2 t c =
-    let c-parse-expression-from = c .before .before .before .before .before .before .before .before .before .before .parse-expression-from in
-    omega (arith, c-parse-expression-from)
-
-parse-expression-from-put-node-requires :
-    (t : ℕ) → parse-expression-from-lts.Need-put-node-requires (parse-expression-from-claims t) (parse-expression-from-at t) parse-expression-from.Post
-parse-expression-from-put-node-requires t c κs =
-    let c-step-over = c .before .before .before .before .before .before .before .before .before .before .before .before .before .before .before .before .before .before .before .before .before .before .step-over in
-    let c-token-at = c .before .before .before .before .before .before .before .before .before .before .before .before .before .before .before .before .before .before .before .before .before .before .before .before .before .before .before .before .before .before .token-at in
-    let c-p = c .before .before .before .before .before .before .before .before .before .before .before .before .before .before .before .before .before .before .before .before .before .before .before .before .before .before .before .before .p in
-    let c-pre = c .before .before .before .before .before .before .before .before .before .before .before .before .before .before .before .before .before .before .before .before .before .before .before .before .before .before .before .before .before .before .before .before .before .before .before .pre in
-    let c-parse-prefix = c .before .before .before .before .before .before .before .before .before .before .before .before .before .before .before .before .before .before .before .before .before .parse-prefix in
-    let c-parse-expression-from = c .before .before .before .before .before .before .before .before .before .before .parse-expression-from in
-    omega (arith, ap (λ z. z .at) (c-step-over .ensures), ap (λ z. z .nodes) (c-step-over .ensures), ap (λ z. z .diagnostics) (c-step-over .ensures), token-live _ _ _ (sym (c-token-at .ensures) ∙ c-p .given .1), c-pre, c-parse-prefix, c-parse-expression-from)
-
-parse-expression-from-parse-expression-from-requires-2 :
-    (t : ℕ) → parse-expression-from-lts.Need-parse-expression-from-requires-2 (parse-expression-from-claims t) (parse-expression-from-at t) parse-expression-from.Post
-parse-expression-from-parse-expression-from-requires-2 t c κs =
-    let c-step-over = c .before .before .before .before .before .before .before .before .before .before .before .before .before .before .before .before .before .before .before .before .before .before .before .before .before .before .before .step-over in
-    let c-token-at = c .before .before .before .before .before .before .before .before .before .before .before .before .before .before .before .before .before .before .before .before .before .before .before .before .before .before .before .before .before .before .before .before .before .before .before .token-at in
-    let c-p = c .before .before .before .before .before .before .before .before .before .before .before .before .before .before .before .before .before .before .before .before .before .before .before .before .before .before .before .before .before .before .before .before .before .p in
-    let c-pre = c .before .before .before .before .before .before .before .before .before .before .before .before .before .before .before .before .before .before .before .before .before .before .before .before .before .before .before .before .before .before .before .before .before .before .before .before .before .before .before .before .pre in
-    let c-parse-prefix = c .before .before .before .before .before .before .before .before .before .before .before .before .before .before .before .before .before .before .before .before .before .before .before .before .before .before .parse-prefix in
-    let c-parse-expression-from = c .before .before .before .before .before .before .before .before .before .before .before .before .before .before .before .parse-expression-from in
-    let c-put-node = c .before .before .before .before .put-node in
-    omega (arith, ap (λ z. z .at) (c-step-over .ensures), ap (λ z. z .nodes) (c-step-over .ensures), ap (λ z. z .diagnostics) (c-step-over .ensures), token-live _ _ _ (sym (c-token-at .ensures) ∙ c-p .given .1), c-pre, c-parse-prefix, c-parse-expression-from, c-put-node)
+    let c-token-at = c .before .before .before .before .before .before .before .token-at in
+    let c-p = c .before .before .before .before .before .p in
+    let c-precedence = c .before .before .before .precedence in
+    let c-if1 = c .before .before .if1 in
+    (omega (arith, c-pre), (c-pre .1, record { there = (sym (c-token-at .ensures) ∙ c-p .given .1); level = omega (arith, c-precedence .ensures, c-if1 .left) }))
 
 parse-expression-from-returns-2 : (t : ℕ) → parse-expression-from-lts.Need-returns-2 (parse-expression-from-claims t) (parse-expression-from-at t) parse-expression-from.Post
 parse-expression-from-returns-2 t c =
@@ -344,67 +287,8 @@ parse-expression-from-same-length-2 t c = search needs
 
 parse-expression-from-returns-3 : (t : ℕ) → parse-expression-from-lts.Need-returns-3 (parse-expression-from-claims t) (parse-expression-from-at t) parse-expression-from.Post
 parse-expression-from-returns-3 t c =
-    let c-token-at = c .before .before .before .before .before .before .before .before .before .before .before .before .before .before .before .before .token-at in
-    let c-p = c .before .before .before .before .before .before .before .before .before .before .before .before .before .before .p in
-    let c-precedence = c .before .before .before .before .before .before .before .before .before .before .before .before .precedence in
-    let c-if1 = c .before .before .before .before .before .before .before .before .before .before .before .if1 in
-    let c-step-over = c .before .before .before .before .before .before .before .before .step-over in
-    let c-parse-prefix = c .before .before .before .before .before .before .before .parse-prefix in
-    let c-pre = c .before .before .before .before .before .before .before .before .before .before .before .before .before .before .before .before .before .before .before .before .before .pre in
-    let c-enum-told2 = c .enum-told2 in
-    climb-reports _ _ _ _ _ _ _ _ _ _ _ _ _ (sym (c-token-at .ensures) ∙ c-p .given .1) (omega (arith, c-precedence .ensures, c-if1 .left)) (c-step-over .ensures) (c-parse-prefix .ensures) (omega (arith, c-pre)) (c-pre .1 .some) (c-enum-told2 .given .1)
-
-parse-expression-from-same-length-3 : (t : ℕ) → parse-expression-from-lts.Need-same-length-3 (parse-expression-from-claims t) (parse-expression-from-at t) parse-expression-from.Post
-parse-expression-from-same-length-3 t c = search needs
-
-parse-expression-from-same-length-4 : (t : ℕ) → parse-expression-from-lts.Need-same-length-4 (parse-expression-from-claims t) (parse-expression-from-at t) parse-expression-from.Post
-parse-expression-from-same-length-4 t c = search needs
-
-parse-expression-from-returns-4 : (t : ℕ) → parse-expression-from-lts.Need-returns-4 (parse-expression-from-claims t) (parse-expression-from-at t) parse-expression-from.Post
-parse-expression-from-returns-4 t c =
-    let c-token-at = c .before .before .before .before .before .before .before .before .before .before .before .before .before .before .before .before .before .before .before .before .before .before .token-at in
-    let c-p = c .before .before .before .before .before .before .before .before .before .before .before .before .before .before .before .before .before .before .before .before .p in
-    let c-precedence = c .before .before .before .before .before .before .before .before .before .before .before .before .before .before .before .before .before .before .precedence in
-    let c-if1 = c .before .before .before .before .before .before .before .before .before .before .before .before .before .before .before .before .before .if1 in
-    let c-step-over = c .before .before .before .before .before .before .before .before .before .before .before .before .before .before .step-over in
-    let c-parse-prefix = c .before .before .before .before .before .before .before .before .before .before .before .before .before .parse-prefix in
-    let c-pre = c .before .before .before .before .before .before .before .before .before .before .before .before .before .before .before .before .before .before .before .before .before .before .before .before .before .before .before .pre in
-    let c-enum-told3 = c .before .before .before .before .before .before .enum-told3 in
-    let c-expected-after = c .before .before .before .before .expected-after in
-    let c-report = c .before .before .before .report in
-    climb-absents _ _ _ _ _ _ _ _ _ _ _ _ _ (sym (c-token-at .ensures) ∙ c-p .given .1) (omega (arith, c-precedence .ensures, c-if1 .left)) (c-step-over .ensures) (c-parse-prefix .ensures) (omega (arith, c-pre)) (c-pre .1 .some) (c-enum-told3 .given .1) (c-expected-after .ensures) (c-report .ensures)
-
-parse-expression-from-same-length-5 : (t : ℕ) → parse-expression-from-lts.Need-same-length-5 (parse-expression-from-claims t) (parse-expression-from-at t) parse-expression-from.Post
-parse-expression-from-same-length-5 t c =
-    let c-parse-prefix = c .before .before .before .before .before .before .before .before .before .before .before .before .before .before .before .before .before .before .before .before .before .before .before .before .before .before .before .before .before .before .before .parse-prefix in
-    let c-parse-expression-from = c .before .before .before .before .before .before .before .before .before .before .before .before .before .before .before .before .before .before .before .before .parse-expression-from in
-    let c-put-node = c .before .before .before .before .before .before .before .before .before .put-node in
-    let c-parse-expression-from2 = c .before .before .before .before .parse-expression-from2 in
-    omega (arith, c-parse-prefix .kept, c-parse-expression-from .kept, c-put-node .kept, c-parse-expression-from2 .kept)
-
-parse-expression-from-same-length-6 : (t : ℕ) → parse-expression-from-lts.Need-same-length-6 (parse-expression-from-claims t) (parse-expression-from-at t) parse-expression-from.Post
-parse-expression-from-same-length-6 t c =
-    let c-parse-prefix = c .before .before .before .before .before .before .before .before .before .before .before .before .before .before .before .before .before .before .before .before .before .before .before .before .before .before .before .before .before .before .before .parse-prefix in
-    let c-parse-expression-from = c .before .before .before .before .before .before .before .before .before .before .before .before .before .before .before .before .before .before .before .before .parse-expression-from in
-    let c-put-node = c .before .before .before .before .before .before .before .before .before .put-node in
-    let c-parse-expression-from2 = c .before .before .before .before .parse-expression-from2 in
-    omega (arith, c-parse-prefix .kept, c-parse-expression-from .kept, c-put-node .kept, c-parse-expression-from2 .kept)
-
-parse-expression-from-returns-5 : (t : ℕ) → parse-expression-from-lts.Need-returns-5 (parse-expression-from-claims t) (parse-expression-from-at t) parse-expression-from.Post
-parse-expression-from-returns-5 t c =
-    let c-token-at = c .before .before .before .before .before .before .before .before .before .before .before .before .before .before .before .before .before .before .before .before .before .before .before .before .before .before .before .before .before .before .before .before .before .before .before .before .before .before .before .before .token-at in
-    let c-p = c .before .before .before .before .before .before .before .before .before .before .before .before .before .before .before .before .before .before .before .before .before .before .before .before .before .before .before .before .before .before .before .before .before .before .before .before .before .before .p in
-    let c-precedence = c .before .before .before .before .before .before .before .before .before .before .before .before .before .before .before .before .before .before .before .before .before .before .before .before .before .before .before .before .before .before .before .before .before .before .before .before .precedence in
-    let c-if1 = c .before .before .before .before .before .before .before .before .before .before .before .before .before .before .before .before .before .before .before .before .before .before .before .before .before .before .before .before .before .before .before .before .before .before .before .if1 in
-    let c-step-over = c .before .before .before .before .before .before .before .before .before .before .before .before .before .before .before .before .before .before .before .before .before .before .before .before .before .before .before .before .before .before .before .before .step-over in
-    let c-parse-prefix = c .before .before .before .before .before .before .before .before .before .before .before .before .before .before .before .before .before .before .before .before .before .before .before .before .before .before .before .before .before .before .before .parse-prefix in
-    let c-pre = c .before .before .before .before .before .before .before .before .before .before .before .before .before .before .before .before .before .before .before .before .before .before .before .before .before .before .before .before .before .before .before .before .before .before .before .before .before .before .before .before .before .before .before .before .before .pre in
-    let c-w = c .before .before .before .before .before .before .before .before .before .before .before .before .before .before .before .before .before .before .before .before .before .before .before .before .w in
-    let c-binary-operator = c .before .before .before .before .before .before .before .before .before .before .before .before .binary-operator in
-    let c-parse-expression-from = c .before .before .before .before .before .before .before .before .before .before .before .before .before .before .before .before .before .before .before .before .parse-expression-from in
-    let c-put-node = c .before .before .before .before .before .before .before .before .before .put-node in
-    let c-parse-expression-from2 = c .before .before .before .before .parse-expression-from2 in
-    climb-reads _ _ _ _ _ _ _ _ _ _ _ _ _ (sym (c-token-at .ensures) ∙ c-p .given .1) (omega (arith, c-precedence .ensures, c-if1 .left)) (c-step-over .ensures) (c-parse-prefix .ensures) (omega (arith, c-pre)) (c-pre .1 .some) (c-w .given .1) (c-precedence .ensures) (c-binary-operator .ensures) (c-parse-expression-from .ensures) (c-put-node .ensures) (c-parse-expression-from2 .ensures)
+    let c-parse-operated = c .before .before .before .before .parse-operated in
+    c-parse-operated .ensures
 
 parse-group-parse-expression-requires : (t : ℕ) → parse-group-lts.Need-parse-expression-requires (parse-group-claims t) (parse-group-at t) parse-group.Post
 parse-group-parse-expression-requires t c κs = search needs
@@ -475,6 +359,145 @@ parse-group-returns-3 t c =
     let c-expected-after = c .before .before .before .expected-after in
     let c-report = c .before .before .report in
     group-absents _ _ _ _ _ _ _ _ _ _ (omega (arith, c-pre)) (omega (arith, c-pre, c-parse-expression)) (omega (arith, c-pre, c-parse-expression)) (c-parse-expression .ensures) (c-enum-told3 .given .1) (c-expected-after .ensures) (c-report .ensures)
+
+parse-operated-step-over-requires : (t : ℕ) → parse-operated-lts.Need-step-over-requires (parse-operated-claims t) (parse-operated-at t) parse-operated.Post
+parse-operated-step-over-requires t c κs =
+    let c-pre = c .before .before .before .before .before .before .pre in
+    omega (arith, c-pre .1 .0)
+
+parse-operated-parse-prefix-requires : (t : ℕ) → parse-operated-lts.Need-parse-prefix-requires (parse-operated-claims t) (parse-operated-at t) parse-operated.Post
+parse-operated-parse-prefix-requires t c κs =
+    let c-step-over = c .step-over in
+    let c-pre = c .before .before .before .before .before .before .before .pre in
+    let h = c-step-over .ensures in rw h (omega (arith, token-live _ _ _ (c-pre .1 .1 .there), c-pre .0, c-pre .1 .0))
+
+parse-operated-enum-told : (t : ℕ) → parse-operated-lts.Need-enum-told (parse-operated-claims t) (parse-operated-at t) parse-operated.Post
+parse-operated-enum-told t c = search needs
+
+parse-operated-enum-told-2 : (t : ℕ) → parse-operated-lts.Need-enum-told-2 (parse-operated-claims t) (parse-operated-at t) parse-operated.Post
+parse-operated-enum-told-2 t c = search needs
+
+parse-operated-expected-after-requires : (t : ℕ) → parse-operated-lts.Need-expected-after-requires (parse-operated-claims t) (parse-operated-at t) parse-operated.Post
+parse-operated-expected-after-requires t c κs = search needs
+
+parse-operated-report-requires : (t : ℕ) → parse-operated-lts.Need-report-requires (parse-operated-claims t) (parse-operated-at t) parse-operated.Post
+parse-operated-report-requires t c κs =
+    let c-step-over = c .before .before .before .before .before .before .before .before .before .before .step-over in
+    let c-pre = c .before .before .before .before .before .before .before .before .before .before .before .before .before .before .before .before .before .pre in
+    let c-parse-prefix = c .before .before .before .before .before .before .before .before .before .parse-prefix in
+    let c-enum-told2 = c .before .before .enum-told2 in
+    omega (arith, ap (λ z. z .at) (c-step-over .ensures), ap (λ z. z .nodes) (c-step-over .ensures), ap (λ z. z .diagnostics) (c-step-over .ensures), token-live _ _ _ (c-pre .1 .1 .there), c-pre .0, c-pre .1 .0, c-parse-prefix, absent-quiet _ _ _ _ _ _ _ _ _ (c-parse-prefix .ensures) (c-enum-told2 .given .1))
+
+parse-operated-enum-known-w : (t : ℕ) → parse-operated-lts.Need-enum-known-w (parse-operated-claims t) (parse-operated-at t) parse-operated.Post
+parse-operated-enum-known-w t c = search needs
+
+parse-operated-precedence-requires : (t : ℕ) → parse-operated-lts.Need-precedence-requires (parse-operated-claims t) (parse-operated-at t) parse-operated.Post
+parse-operated-precedence-requires t c κs = search needs
+
+parse-operated-add-above : (t : ℕ) → parse-operated-lts.Need-add-above (parse-operated-claims t) (parse-operated-at t) parse-operated.Post
+parse-operated-add-above t c =
+    let c-precedence = c .precedence in
+    omega (arith, precedence-small _ _ (c-precedence .ensures))
+
+parse-operated-parse-expression-from-requires :
+    (t : ℕ) → parse-operated-lts.Need-parse-expression-from-requires (parse-operated-claims t) (parse-operated-at t) parse-operated.Post
+parse-operated-parse-expression-from-requires t c κs =
+    let c-step-over = c .before .before .before .before .before .before .before .before .before .before .before .before .step-over in
+    let c-pre = c .before .before .before .before .before .before .before .before .before .before .before .before .before .before .before .before .before .before .before .pre in
+    let c-parse-prefix = c .before .before .before .before .before .before .before .before .before .before .before .parse-prefix in
+    let c-w = c .before .before .before .before .w in
+    omega (arith, ap (λ z. z .at) (c-step-over .ensures), ap (λ z. z .nodes) (c-step-over .ensures), ap (λ z. z .diagnostics) (c-step-over .ensures), token-live _ _ _ (c-pre .1 .1 .there), c-pre .0, c-pre .1 .0, c-parse-prefix, read-some (c-parse-prefix .ensures .told) (c-w .given .1))
+
+parse-operated-binary-operator-requires :
+    (t : ℕ) → parse-operated-lts.Need-binary-operator-requires (parse-operated-claims t) (parse-operated-at t) parse-operated.Post
+parse-operated-binary-operator-requires t c κs = search needs
+
+parse-operated-sub-put-operator : (t : ℕ) → parse-operated-lts.Need-sub-put-operator (parse-operated-claims t) (parse-operated-at t) parse-operated.Post
+parse-operated-sub-put-operator t c =
+    let c-pre = c .before .before .before .before .before .before .before .before .before .before .before .before .before .before .before .before .before .before .before .before .before .before .before .before .before .before .before .before .before .pre in
+    omega (arith, c-pre .1 .0)
+
+parse-operated-sub-put-operator-2 : (t : ℕ) → parse-operated-lts.Need-sub-put-operator-2 (parse-operated-claims t) (parse-operated-at t) parse-operated.Post
+parse-operated-sub-put-operator-2 t c =
+    let c-parse-expression-from = c .before .before .before .before .before .before .before .before .before .before .parse-expression-from in
+    omega (arith, c-parse-expression-from)
+
+parse-operated-put-operator-requires : (t : ℕ) → parse-operated-lts.Need-put-operator-requires (parse-operated-claims t) (parse-operated-at t) parse-operated.Post
+parse-operated-put-operator-requires t c κs =
+    let c-step-over = c .before .before .before .before .before .before .before .before .before .before .before .before .before .before .before .before .before .before .before .before .before .before .before .step-over in
+    let c-pre = c .before .before .before .before .before .before .before .before .before .before .before .before .before .before .before .before .before .before .before .before .before .before .before .before .before .before .before .before .before .before .pre in
+    let c-parse-prefix = c .before .before .before .before .before .before .before .before .before .before .before .before .before .before .before .before .before .before .before .before .before .before .parse-prefix in
+    let c-parse-expression-from = c .before .before .before .before .before .before .before .before .before .before .parse-expression-from in
+    omega (arith, ap (λ z. z .at) (c-step-over .ensures), ap (λ z. z .nodes) (c-step-over .ensures), ap (λ z. z .diagnostics) (c-step-over .ensures), token-live _ _ _ (c-pre .1 .1 .there), c-pre .0, c-pre .1 .0, c-parse-prefix, c-parse-expression-from)
+
+parse-operated-parse-expression-from-requires-2 :
+    (t : ℕ) → parse-operated-lts.Need-parse-expression-from-requires-2 (parse-operated-claims t) (parse-operated-at t) parse-operated.Post
+parse-operated-parse-expression-from-requires-2 t c κs =
+    let c-step-over = c .before .before .before .before .before .before .before .before .before .before .before .before .before .before .before .before .before .before .before .before .before .before .before .before .before .before .before .before .step-over in
+    let c-pre = c .before .before .before .before .before .before .before .before .before .before .before .before .before .before .before .before .before .before .before .before .before .before .before .before .before .before .before .before .before .before .before .before .before .before .before .pre in
+    let c-parse-prefix = c .before .before .before .before .before .before .before .before .before .before .before .before .before .before .before .before .before .before .before .before .before .before .before .before .before .before .before .parse-prefix in
+    let c-parse-expression-from = c .before .before .before .before .before .before .before .before .before .before .before .before .before .before .before .parse-expression-from in
+    let c-put-operator = c .before .before .before .before .put-operator in
+    omega (arith, ap (λ z. z .at) (c-step-over .ensures), ap (λ z. z .nodes) (c-step-over .ensures), ap (λ z. z .diagnostics) (c-step-over .ensures), token-live _ _ _ (c-pre .1 .1 .there), c-pre .0, c-pre .1 .0, c-parse-prefix, c-parse-expression-from, c-put-operator .ensures .put, c-put-operator)
+
+parse-operated-same-length : (t : ℕ) → parse-operated-lts.Need-same-length (parse-operated-claims t) (parse-operated-at t) parse-operated.Post
+parse-operated-same-length t c = search needs
+
+parse-operated-same-length-2 : (t : ℕ) → parse-operated-lts.Need-same-length-2 (parse-operated-claims t) (parse-operated-at t) parse-operated.Post
+parse-operated-same-length-2 t c = search needs
+
+parse-operated-returns : (t : ℕ) → parse-operated-lts.Need-returns (parse-operated-claims t) (parse-operated-at t) parse-operated.Post
+parse-operated-returns t c =
+    let c-pre = c .before .before .before .before .before .before .before .before .before .before .before .before .before .before .before .pre in
+    let c-step-over = c .before .before .before .before .before .before .before .before .step-over in
+    let c-parse-prefix = c .before .before .before .before .before .before .before .parse-prefix in
+    let c-enum-told = c .enum-told in
+    climb-reports _ _ _ _ _ _ _ _ _ _ _ _ _ (c-pre .1 .1 .there) (c-pre .1 .1 .level) (c-step-over .ensures) (c-parse-prefix .ensures) (omega (arith, c-pre .1 .0)) (c-pre .1 .0 .some) (c-enum-told .given .1)
+
+parse-operated-same-length-3 : (t : ℕ) → parse-operated-lts.Need-same-length-3 (parse-operated-claims t) (parse-operated-at t) parse-operated.Post
+parse-operated-same-length-3 t c = search needs
+
+parse-operated-same-length-4 : (t : ℕ) → parse-operated-lts.Need-same-length-4 (parse-operated-claims t) (parse-operated-at t) parse-operated.Post
+parse-operated-same-length-4 t c = search needs
+
+parse-operated-returns-2 : (t : ℕ) → parse-operated-lts.Need-returns-2 (parse-operated-claims t) (parse-operated-at t) parse-operated.Post
+parse-operated-returns-2 t c =
+    let c-pre = c .before .before .before .before .before .before .before .before .before .before .before .before .before .before .before .before .before .before .before .before .before .pre in
+    let c-step-over = c .before .before .before .before .before .before .before .before .before .before .before .before .before .before .step-over in
+    let c-parse-prefix = c .before .before .before .before .before .before .before .before .before .before .before .before .before .parse-prefix in
+    let c-enum-told2 = c .before .before .before .before .before .before .enum-told2 in
+    let c-expected-after = c .before .before .before .before .expected-after in
+    let c-report = c .before .before .before .report in
+    climb-absents _ _ _ _ _ _ _ _ _ _ _ _ _ (c-pre .1 .1 .there) (c-pre .1 .1 .level) (c-step-over .ensures) (c-parse-prefix .ensures) (omega (arith, c-pre .1 .0)) (c-pre .1 .0 .some) (c-enum-told2 .given .1) (c-expected-after .ensures) (c-report .ensures)
+
+parse-operated-same-length-5 : (t : ℕ) → parse-operated-lts.Need-same-length-5 (parse-operated-claims t) (parse-operated-at t) parse-operated.Post
+parse-operated-same-length-5 t c =
+    let c-parse-prefix = c .before .before .before .before .before .before .before .before .before .before .before .before .before .before .before .before .before .before .before .before .before .before .before .before .before .before .before .before .before .before .before .before .parse-prefix in
+    let c-parse-expression-from = c .before .before .before .before .before .before .before .before .before .before .before .before .before .before .before .before .before .before .before .before .parse-expression-from in
+    let c-put-operator = c .before .before .before .before .before .before .before .before .before .put-operator in
+    let c-parse-expression-from2 = c .before .before .before .before .parse-expression-from2 in
+    omega (arith, c-parse-prefix .kept, c-parse-expression-from .kept, c-put-operator .kept, c-parse-expression-from2 .kept)
+
+parse-operated-same-length-6 : (t : ℕ) → parse-operated-lts.Need-same-length-6 (parse-operated-claims t) (parse-operated-at t) parse-operated.Post
+parse-operated-same-length-6 t c =
+    let c-parse-prefix = c .before .before .before .before .before .before .before .before .before .before .before .before .before .before .before .before .before .before .before .before .before .before .before .before .before .before .before .before .before .before .before .before .parse-prefix in
+    let c-parse-expression-from = c .before .before .before .before .before .before .before .before .before .before .before .before .before .before .before .before .before .before .before .before .parse-expression-from in
+    let c-put-operator = c .before .before .before .before .before .before .before .before .before .put-operator in
+    let c-parse-expression-from2 = c .before .before .before .before .parse-expression-from2 in
+    omega (arith, c-parse-prefix .kept, c-parse-expression-from .kept, c-put-operator .kept, c-parse-expression-from2 .kept)
+
+parse-operated-returns-3 : (t : ℕ) → parse-operated-lts.Need-returns-3 (parse-operated-claims t) (parse-operated-at t) parse-operated.Post
+parse-operated-returns-3 t c =
+    let c-pre = c .before .before .before .before .before .before .before .before .before .before .before .before .before .before .before .before .before .before .before .before .before .before .before .before .before .before .before .before .before .before .before .before .before .before .before .before .before .before .before .before .pre in
+    let c-step-over = c .before .before .before .before .before .before .before .before .before .before .before .before .before .before .before .before .before .before .before .before .before .before .before .before .before .before .before .before .before .before .before .before .before .step-over in
+    let c-parse-prefix = c .before .before .before .before .before .before .before .before .before .before .before .before .before .before .before .before .before .before .before .before .before .before .before .before .before .before .before .before .before .before .before .before .parse-prefix in
+    let c-w = c .before .before .before .before .before .before .before .before .before .before .before .before .before .before .before .before .before .before .before .before .before .before .before .before .before .w in
+    let c-precedence = c .before .before .before .before .before .before .before .before .before .before .before .before .before .before .before .before .before .before .before .before .before .before .before .precedence in
+    let c-binary-operator = c .before .before .before .before .before .before .before .before .before .before .before .before .before .binary-operator in
+    let c-parse-expression-from = c .before .before .before .before .before .before .before .before .before .before .before .before .before .before .before .before .before .before .before .before .parse-expression-from in
+    let c-put-operator = c .before .before .before .before .before .before .before .before .before .put-operator in
+    let c-parse-expression-from2 = c .before .before .before .before .parse-expression-from2 in
+    climb-reads _ _ _ _ _ _ _ _ _ _ _ _ _ (c-pre .1 .1 .there) (c-pre .1 .1 .level) (c-step-over .ensures) (c-parse-prefix .ensures) (omega (arith, c-pre .1 .0)) (c-pre .1 .0 .some) (c-w .given .1) (c-precedence .ensures) (c-binary-operator .ensures) (c-parse-expression-from .ensures) (c-put-operator .ensures) (c-parse-expression-from2 .ensures)
 
 parse-plus-parse-prefix-requires : (t : ℕ) → parse-plus-lts.Need-parse-prefix-requires (parse-plus-claims t) (parse-plus-at t) parse-plus.Post
 parse-plus-parse-prefix-requires t c κs = search needs
@@ -592,73 +615,49 @@ parse-prefix-enum-known-p t c = search needs
 
 parse-prefix-step-over-requires : (t : ℕ) → parse-prefix-lts.Need-step-over-requires (parse-prefix-claims t) (parse-prefix-at t) parse-prefix.Post
 parse-prefix-step-over-requires t c κs =
-    let c-pre = c .before .before .before .before .before .before .before .before .before .before .before .before .pre in
+    let c-pre = c .before .before .before .before .before .before .before .before .before .pre in
     omega (arith, c-pre)
 
-parse-prefix-sub-parse-unary : (t : ℕ) → parse-prefix-lts.Need-sub-parse-unary (parse-prefix-claims t) (parse-prefix-at t) parse-prefix.Post
-parse-prefix-sub-parse-unary t c = search needs
+parse-prefix-sub-less : (t : ℕ) → parse-prefix-lts.Need-sub-less (parse-prefix-claims t) (parse-prefix-at t) parse-prefix.Post
+parse-prefix-sub-less t c = search needs
 
 parse-prefix-parse-unary-requires : (t : ℕ) → parse-prefix-lts.Need-parse-unary-requires (parse-prefix-claims t) (parse-prefix-at t) parse-prefix.Post
 parse-prefix-parse-unary-requires t c κs =
-    let c-step-over = c .step-over in
+    let c-step-over = c .before .before .before .step-over in
     let c-token-at = c .before .before .before .before .before .before .before .token-at in
     let c-p = c .before .before .before .before .before .p in
     let c-pre = c .before .before .before .before .before .before .before .before .before .before .before .before .before .pre in
     let h = c-step-over .ensures in rw h (omega (arith, token-live _ _ _ (sym (c-token-at .ensures) ∙ c-p .given .1), c-pre))
 
-parse-prefix-step-over-requires-2 : (t : ℕ) → parse-prefix-lts.Need-step-over-requires-2 (parse-prefix-claims t) (parse-prefix-at t) parse-prefix.Post
-parse-prefix-step-over-requires-2 t c κs =
-    let c-pre = c .before .before .before .before .before .before .before .before .before .before .before .before .pre in
-    omega (arith, c-pre)
-
-parse-prefix-sub-parse-unary-2 : (t : ℕ) → parse-prefix-lts.Need-sub-parse-unary-2 (parse-prefix-claims t) (parse-prefix-at t) parse-prefix.Post
-parse-prefix-sub-parse-unary-2 t c = search needs
-
 parse-prefix-parse-unary-requires-2 : (t : ℕ) → parse-prefix-lts.Need-parse-unary-requires-2 (parse-prefix-claims t) (parse-prefix-at t) parse-prefix.Post
 parse-prefix-parse-unary-requires-2 t c κs =
-    let c-step-over2 = c .step-over2 in
+    let c-step-over = c .before .before .before .step-over in
     let c-token-at = c .before .before .before .before .before .before .before .token-at in
     let c-p = c .before .before .before .before .before .p in
     let c-pre = c .before .before .before .before .before .before .before .before .before .before .before .before .before .pre in
-    let h = c-step-over2 .ensures in rw h (omega (arith, token-live _ _ _ (sym (c-token-at .ensures) ∙ c-p .given .1), c-pre))
-
-parse-prefix-step-over-requires-3 : (t : ℕ) → parse-prefix-lts.Need-step-over-requires-3 (parse-prefix-claims t) (parse-prefix-at t) parse-prefix.Post
-parse-prefix-step-over-requires-3 t c κs =
-    let c-pre = c .before .before .before .before .before .before .before .before .before .before .before .before .pre in
-    omega (arith, c-pre)
-
-parse-prefix-sub-parse-plus : (t : ℕ) → parse-prefix-lts.Need-sub-parse-plus (parse-prefix-claims t) (parse-prefix-at t) parse-prefix.Post
-parse-prefix-sub-parse-plus t c = search needs
+    let h = c-step-over .ensures in rw h (omega (arith, token-live _ _ _ (sym (c-token-at .ensures) ∙ c-p .given .1), c-pre))
 
 parse-prefix-parse-plus-requires : (t : ℕ) → parse-prefix-lts.Need-parse-plus-requires (parse-prefix-claims t) (parse-prefix-at t) parse-prefix.Post
 parse-prefix-parse-plus-requires t c κs =
-    let c-step-over3 = c .step-over3 in
+    let c-step-over = c .before .before .before .step-over in
     let c-token-at = c .before .before .before .before .before .before .before .token-at in
     let c-p = c .before .before .before .before .before .p in
     let c-pre = c .before .before .before .before .before .before .before .before .before .before .before .before .before .pre in
-    let h = c-step-over3 .ensures in rw h (omega (arith, token-live _ _ _ (sym (c-token-at .ensures) ∙ c-p .given .1), c-pre))
-
-parse-prefix-step-over-requires-4 : (t : ℕ) → parse-prefix-lts.Need-step-over-requires-4 (parse-prefix-claims t) (parse-prefix-at t) parse-prefix.Post
-parse-prefix-step-over-requires-4 t c κs =
-    let c-pre = c .before .before .before .before .before .before .before .before .before .before .before .before .pre in
-    omega (arith, c-pre)
-
-parse-prefix-sub-parse-group : (t : ℕ) → parse-prefix-lts.Need-sub-parse-group (parse-prefix-claims t) (parse-prefix-at t) parse-prefix.Post
-parse-prefix-sub-parse-group t c = search needs
+    let h = c-step-over .ensures in rw h (omega (arith, token-live _ _ _ (sym (c-token-at .ensures) ∙ c-p .given .1), c-pre))
 
 parse-prefix-parse-group-requires : (t : ℕ) → parse-prefix-lts.Need-parse-group-requires (parse-prefix-claims t) (parse-prefix-at t) parse-prefix.Post
 parse-prefix-parse-group-requires t c κs =
-    let c-step-over4 = c .step-over4 in
+    let c-step-over = c .before .before .before .step-over in
     let c-token-at = c .before .before .before .before .before .before .before .token-at in
     let c-p = c .before .before .before .before .before .p in
     let c-pre = c .before .before .before .before .before .before .before .before .before .before .before .before .before .pre in
-    let h = c-step-over4 .ensures in rw h (omega (arith, token-live _ _ _ (sym (c-token-at .ensures) ∙ c-p .given .1), c-pre))
+    let h = c-step-over .ensures in rw h (omega (arith, token-live _ _ _ (sym (c-token-at .ensures) ∙ c-p .given .1), c-pre))
 
 parse-prefix-parse-leaf-requires : (t : ℕ) → parse-prefix-lts.Need-parse-leaf-requires (parse-prefix-claims t) (parse-prefix-at t) parse-prefix.Post
 parse-prefix-parse-leaf-requires t c κs =
-    let c-token-at = c .before .before .before .before .before .before .token-at in
-    let c-p = c .before .before .before .before .p in
-    let c-pre = c .before .before .before .before .before .before .before .before .before .before .before .before .pre in
+    let c-token-at = c .before .before .before .before .before .before .before .token-at in
+    let c-p = c .before .before .before .before .before .p in
+    let c-pre = c .before .before .before .before .before .before .before .before .before .before .before .before .before .pre in
     omega (arith, token-live _ _ _ (sym (c-token-at .ensures) ∙ c-p .given .1), c-pre)
 
 parse-prefix-returns-2 : (t : ℕ) → parse-prefix-lts.Need-returns-2 (parse-prefix-claims t) (parse-prefix-at t) parse-prefix.Post
@@ -681,8 +680,8 @@ parse-prefix-returns-3 t c =
     let c-if1 = c .before .before .before .before .before .before .before .before .before .before .before .before .before .if1 in
     let c-token-at = c .before .before .before .before .before .before .before .before .before .before .before .before .token-at in
     let c-p = c .before .before .before .before .before .before .before .before .before .before .p in
-    let c-step-over = c .before .before .before .before .before .step-over in
-    let c-match2 = c .before .before .before .before .before .before .before .before .match2 in
+    let c-step-over = c .before .before .before .before .before .before .before .before .step-over in
+    let c-match2 = c .before .before .before .before .before .before .before .match2 in
     let c-parse-unary = c .before .before .before .before .parse-unary in
     prefix-minus _ _ _ _ _ _ (c-pre .1 .within) (c-if1 .left) (sym (c-token-at .ensures) ∙ c-p .given .1) (c-step-over .ensures) (c-match2 .keys1) (c-parse-unary .ensures)
 
@@ -698,10 +697,10 @@ parse-prefix-returns-4 t c =
     let c-if1 = c .before .before .before .before .before .before .before .before .before .before .before .before .before .if1 in
     let c-token-at = c .before .before .before .before .before .before .before .before .before .before .before .before .token-at in
     let c-p = c .before .before .before .before .before .before .before .before .before .before .p in
-    let c-step-over2 = c .before .before .before .before .before .step-over2 in
-    let c-match2 = c .before .before .before .before .before .before .before .before .match2 in
+    let c-step-over = c .before .before .before .before .before .before .before .before .step-over in
+    let c-match2 = c .before .before .before .before .before .before .before .match2 in
     let c-parse-unary2 = c .before .before .before .before .parse-unary2 in
-    prefix-tilde _ _ _ _ _ _ (c-pre .1 .within) (c-if1 .left) (sym (c-token-at .ensures) ∙ c-p .given .1) (c-step-over2 .ensures) (c-match2 .keys2) (c-parse-unary2 .ensures)
+    prefix-tilde _ _ _ _ _ _ (c-pre .1 .within) (c-if1 .left) (sym (c-token-at .ensures) ∙ c-p .given .1) (c-step-over .ensures) (c-match2 .keys2) (c-parse-unary2 .ensures)
 
 parse-prefix-same-length-6 : (t : ℕ) → parse-prefix-lts.Need-same-length-6 (parse-prefix-claims t) (parse-prefix-at t) parse-prefix.Post
 parse-prefix-same-length-6 t c = search needs
@@ -715,10 +714,10 @@ parse-prefix-returns-5 t c =
     let c-if1 = c .before .before .before .before .before .before .before .before .before .before .before .before .before .if1 in
     let c-token-at = c .before .before .before .before .before .before .before .before .before .before .before .before .token-at in
     let c-p = c .before .before .before .before .before .before .before .before .before .before .p in
-    let c-step-over3 = c .before .before .before .before .before .step-over3 in
-    let c-match2 = c .before .before .before .before .before .before .before .before .match2 in
+    let c-step-over = c .before .before .before .before .before .before .before .before .step-over in
+    let c-match2 = c .before .before .before .before .before .before .before .match2 in
     let c-parse-plus = c .before .before .before .before .parse-plus in
-    prefix-plus _ _ _ _ _ _ (c-pre .1 .within) (c-if1 .left) (sym (c-token-at .ensures) ∙ c-p .given .1) (c-step-over3 .ensures) (c-match2 .keys3) (c-parse-plus .ensures)
+    prefix-plus _ _ _ _ _ _ (c-pre .1 .within) (c-if1 .left) (sym (c-token-at .ensures) ∙ c-p .given .1) (c-step-over .ensures) (c-match2 .keys3) (c-parse-plus .ensures)
 
 parse-prefix-same-length-8 : (t : ℕ) → parse-prefix-lts.Need-same-length-8 (parse-prefix-claims t) (parse-prefix-at t) parse-prefix.Post
 parse-prefix-same-length-8 t c = search needs
@@ -732,10 +731,10 @@ parse-prefix-returns-6 t c =
     let c-if1 = c .before .before .before .before .before .before .before .before .before .before .before .before .before .if1 in
     let c-token-at = c .before .before .before .before .before .before .before .before .before .before .before .before .token-at in
     let c-p = c .before .before .before .before .before .before .before .before .before .before .p in
-    let c-step-over4 = c .before .before .before .before .before .step-over4 in
-    let c-match2 = c .before .before .before .before .before .before .before .before .match2 in
+    let c-step-over = c .before .before .before .before .before .before .before .before .step-over in
+    let c-match2 = c .before .before .before .before .before .before .before .match2 in
     let c-parse-group = c .before .before .before .before .parse-group in
-    prefix-group _ _ _ _ _ _ (c-pre .1 .within) (c-if1 .left) (sym (c-token-at .ensures) ∙ c-p .given .1) (c-step-over4 .ensures) (c-match2 .keys4) (c-parse-group .ensures)
+    prefix-group _ _ _ _ _ _ (c-pre .1 .within) (c-if1 .left) (sym (c-token-at .ensures) ∙ c-p .given .1) (c-step-over .ensures) (c-match2 .keys4) (c-parse-group .ensures)
 
 parse-prefix-same-length-10 : (t : ℕ) → parse-prefix-lts.Need-same-length-10 (parse-prefix-claims t) (parse-prefix-at t) parse-prefix.Post
 parse-prefix-same-length-10 t c = search needs
@@ -745,10 +744,10 @@ parse-prefix-same-length-11 t c = search needs
 
 parse-prefix-returns-7 : (t : ℕ) → parse-prefix-lts.Need-returns-7 (parse-prefix-claims t) (parse-prefix-at t) parse-prefix.Post
 parse-prefix-returns-7 t c =
-    let c-pre = c .before .before .before .before .before .before .before .before .before .before .before .before .before .before .before .before .before .pre in
-    let c-if1 = c .before .before .before .before .before .before .before .before .before .before .before .before .if1 in
-    let c-token-at = c .before .before .before .before .before .before .before .before .before .before .before .token-at in
-    let c-p = c .before .before .before .before .before .before .before .before .before .p in
+    let c-pre = c .before .before .before .before .before .before .before .before .before .before .before .before .before .before .before .before .before .before .pre in
+    let c-if1 = c .before .before .before .before .before .before .before .before .before .before .before .before .before .if1 in
+    let c-token-at = c .before .before .before .before .before .before .before .before .before .before .before .before .token-at in
+    let c-p = c .before .before .before .before .before .before .before .before .before .before .p in
     let c-match2 = c .before .before .before .before .before .before .before .match2 in
     let c-parse-leaf = c .before .before .before .before .parse-leaf in
     prefix-leaf _ _ _ _ _ _ (c-pre .1 .within) (c-if1 .left) (sym (c-token-at .ensures) ∙ c-p .given .1) (c-match2 .rest .0 .0 .0 .1) (c-match2 .rest .0 .0 .1) (c-match2 .rest .0 .1) (c-match2 .rest .1) (c-parse-leaf .ensures)
@@ -762,14 +761,14 @@ parse-unary-enum-known-w t c = search needs
 parse-unary-unary-operator-requires : (t : ℕ) → parse-unary-lts.Need-unary-operator-requires (parse-unary-claims t) (parse-unary-at t) parse-unary.Post
 parse-unary-unary-operator-requires t c κs = search needs
 
-parse-unary-sub-put-node : (t : ℕ) → parse-unary-lts.Need-sub-put-node (parse-unary-claims t) (parse-unary-at t) parse-unary.Post
-parse-unary-sub-put-node t c =
+parse-unary-sub-put-operator : (t : ℕ) → parse-unary-lts.Need-sub-put-operator (parse-unary-claims t) (parse-unary-at t) parse-unary.Post
+parse-unary-sub-put-operator t c =
     let c-parse-prefix = c .before .before .before .before .before .before .before .before .before .before .before .parse-prefix in
     let c-w = c .before .before .before .before .w in
     omega (arith, read-some (c-parse-prefix .ensures .told) (c-w .given .1))
 
-parse-unary-put-node-requires : (t : ℕ) → parse-unary-lts.Need-put-node-requires (parse-unary-claims t) (parse-unary-at t) parse-unary.Post
-parse-unary-put-node-requires t c κs =
+parse-unary-put-operator-requires : (t : ℕ) → parse-unary-lts.Need-put-operator-requires (parse-unary-claims t) (parse-unary-at t) parse-unary.Post
+parse-unary-put-operator-requires t c κs =
     let c-parse-prefix = c .before .before .before .before .before .before .before .before .before .before .before .parse-prefix in
     let c-w = c .before .before .before .before .w in
     let c-pre = c .before .before .before .before .before .before .before .before .before .before .before .before .before .before .before .before .before .before .pre in
@@ -801,9 +800,9 @@ parse-unary-returns t c =
     let c-pre = c .before .before .before .before .before .before .before .before .before .before .before .before .before .before .before .before .before .before .before .before .before .pre in
     let c-parse-prefix = c .before .before .before .before .before .before .before .before .before .before .before .before .before .before .parse-prefix in
     let c-w = c .before .before .before .before .before .before .before .w in
-    let c-unary-operator = c .before .before .before .before .unary-operator in
-    let c-put-node = c .before .before .put-node in
-    unary-reads _ _ _ _ _ _ _ _ _ (omega (arith, c-pre)) (c-parse-prefix .ensures) _ (c-w .given .1) (c-unary-operator .ensures) (c-put-node .ensures)
+    let c-unary-operator = c .before .before .before .before .before .unary-operator in
+    let c-put-operator = c .before .before .put-operator in
+    unary-reads _ _ _ _ _ _ _ _ _ (omega (arith, c-pre)) (c-parse-prefix .ensures) _ (c-w .given .1) (c-unary-operator .ensures) (c-put-operator .ensures)
 
 parse-unary-same-length-3 : (t : ℕ) → parse-unary-lts.Need-same-length-3 (parse-unary-claims t) (parse-unary-at t) parse-unary.Post
 parse-unary-same-length-3 t c = search needs
@@ -833,13 +832,14 @@ parse-unary-returns-3 t c =
     let c-report = c .before .before .report in
     unary-absents _ _ _ _ _ _ _ _ _ (omega (arith, c-pre)) (c-parse-prefix .ensures) _ (c-enum-told2 .given .1) (c-expected-after .ensures) (c-report .ensures)
 
-pub +parse-expression+parse-expression-from+parse-group+parse-plus+parse-prefix+parse-unary-spec :
+pub +parse-expression+parse-expression-from+parse-group+parse-operated+parse-plus+parse-prefix+parse-unary-spec :
     {M : Type 1} → statement M
-+parse-expression+parse-expression-from+parse-group+parse-plus+parse-prefix+parse-unary-spec =
++parse-expression+parse-expression-from+parse-group+parse-operated+parse-plus+parse-prefix+parse-unary-spec =
     close
     μ-parse-expression
     μ-parse-expression-from
     μ-parse-group
+    μ-parse-operated
     μ-parse-plus
     μ-parse-prefix
     μ-parse-unary
@@ -866,30 +866,11 @@ pub +parse-expression+parse-expression-from+parse-group+parse-plus+parse-prefix+
     (parse-expression-from-enum-known-p t)
     (parse-expression-from-precedence-requires t)
     (parse-expression-from-returns t)
-    (parse-expression-from-step-over-requires t)
-    (parse-expression-from-parse-prefix-requires t)
-    (parse-expression-from-enum-told-2 t)
-    (parse-expression-from-enum-told-3 t)
-    (parse-expression-from-expected-after-requires t)
-    (parse-expression-from-report-requires t)
-    (parse-expression-from-enum-known-w t)
-    (parse-expression-from-add-parse-expression-from t)
-    (parse-expression-from-parse-expression-from-requires t)
-    (parse-expression-from-binary-operator-requires t)
-    (parse-expression-from-sub-put-node t)
-    (parse-expression-from-sub-put-node-2 t)
-    (parse-expression-from-put-node-requires t)
-    (parse-expression-from-parse-expression-from-requires-2 t)
+    (parse-expression-from-parse-operated-requires t)
     (parse-expression-from-returns-2 t)
     (parse-expression-from-same-length t)
     (parse-expression-from-same-length-2 t)
-    (parse-expression-from-returns-3 t)
-    (parse-expression-from-same-length-3 t)
-    (parse-expression-from-same-length-4 t)
-    (parse-expression-from-returns-4 t)
-    (parse-expression-from-same-length-5 t)
-    (parse-expression-from-same-length-6 t)
-    (parse-expression-from-returns-5 t))
+    (parse-expression-from-returns-3 t))
     (λ t. parse-group-lts.spec (parse-group-claims t) (parse-group-at t)
     parse-group.Post
     (parse-group-parse-expression-requires t)
@@ -908,6 +889,32 @@ pub +parse-expression+parse-expression-from+parse-group+parse-plus+parse-prefix+
     (parse-group-same-length-5 t)
     (parse-group-same-length-6 t)
     (parse-group-returns-3 t))
+    (λ t. parse-operated-lts.spec (parse-operated-claims t) (parse-operated-at t)
+    parse-operated.Post
+    (parse-operated-step-over-requires t)
+    (parse-operated-parse-prefix-requires t)
+    (parse-operated-enum-told t)
+    (parse-operated-enum-told-2 t)
+    (parse-operated-expected-after-requires t)
+    (parse-operated-report-requires t)
+    (parse-operated-enum-known-w t)
+    (parse-operated-precedence-requires t)
+    (parse-operated-add-above t)
+    (parse-operated-parse-expression-from-requires t)
+    (parse-operated-binary-operator-requires t)
+    (parse-operated-sub-put-operator t)
+    (parse-operated-sub-put-operator-2 t)
+    (parse-operated-put-operator-requires t)
+    (parse-operated-parse-expression-from-requires-2 t)
+    (parse-operated-same-length t)
+    (parse-operated-same-length-2 t)
+    (parse-operated-returns t)
+    (parse-operated-same-length-3 t)
+    (parse-operated-same-length-4 t)
+    (parse-operated-returns-2 t)
+    (parse-operated-same-length-5 t)
+    (parse-operated-same-length-6 t)
+    (parse-operated-returns-3 t))
     (λ t. parse-plus-lts.spec (parse-plus-claims t) (parse-plus-at t)
     parse-plus.Post
     (parse-plus-parse-prefix-requires t)
@@ -939,16 +946,10 @@ pub +parse-expression+parse-expression-from+parse-group+parse-plus+parse-prefix+
     (parse-prefix-enum-told t)
     (parse-prefix-enum-known-p t)
     (parse-prefix-step-over-requires t)
-    (parse-prefix-sub-parse-unary t)
+    (parse-prefix-sub-less t)
     (parse-prefix-parse-unary-requires t)
-    (parse-prefix-step-over-requires-2 t)
-    (parse-prefix-sub-parse-unary-2 t)
     (parse-prefix-parse-unary-requires-2 t)
-    (parse-prefix-step-over-requires-3 t)
-    (parse-prefix-sub-parse-plus t)
     (parse-prefix-parse-plus-requires t)
-    (parse-prefix-step-over-requires-4 t)
-    (parse-prefix-sub-parse-group t)
     (parse-prefix-parse-group-requires t)
     (parse-prefix-parse-leaf-requires t)
     (parse-prefix-returns-2 t)
@@ -972,8 +973,8 @@ pub +parse-expression+parse-expression-from+parse-group+parse-plus+parse-prefix+
     (parse-unary-parse-prefix-requires t)
     (parse-unary-enum-known-w t)
     (parse-unary-unary-operator-requires t)
-    (parse-unary-sub-put-node t)
-    (parse-unary-put-node-requires t)
+    (parse-unary-sub-put-operator t)
+    (parse-unary-put-operator-requires t)
     (parse-unary-enum-told t)
     (parse-unary-enum-told-2 t)
     (parse-unary-expected-after-requires t)
