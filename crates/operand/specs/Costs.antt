@@ -20,7 +20,8 @@ use Rattle.expressions.specs.Costs.{Clean, true-false, size-withSpan, Signed, s
 use Rattle.operand.specs.Operands.{Register, IndexRegister, BaseRegister, Displacement, displaced, undisplaced, Index, indexed, unindexed, RegisterListItem, Operand, Maybe, some, none}
 use Rattle.operand.specs.Operands as O
 use Rattle.operand.specs.Operand
-use Rattle.operand.specs.Operand.{Setting, Registers, Inner, Outer}
+use Rattle.expressions.specs.declared.reading.Setting.{Setting}
+use Rattle.operand.specs.Operand.{Registers, Inner, Outer}
 use Rattle.operand.specs.Records.{sizeD, sizeO}
 
 direct-size : (q : Register) (z : Span) → sizeO (Operand.registerDirect q z) ≡ 0

@@ -13,8 +13,10 @@ use Rattle.names.specs.Tokens.{count, detailDefined}
 use Rattle.names.specs.Places.{Place, place, textOf}
 use Rattle.names.specs.Letters.{bytes, same}
 use Rattle.expressions.specs.Reader.{Reading}
+use Rattle.expressions.specs.Stores.{nodeBytes}
 use Rattle.operand.specs.Operands.{Operand, Maybe, some, none}
-use Rattle.operand.specs.Operand.{Setting, readingOf}
+use Rattle.expressions.specs.declared.reading.Setting.{Setting}
+use Rattle.operand.specs.Operand.{readingOf}
 use Rattle.operand.specs.Records.{sizeM, nodesM, operandRecord, diagnosticRecords}
 use Rattle.operand.specs.Mask.{maskM}
 
@@ -34,10 +36,7 @@ placeOf a j = place (a .line) (a .tokens) j
 
 -- ---- refusals
 
--- the bytes that the node store must have for 255 records, and the diagnostic records that must be free
-unfoldable pub nodeBytes : ℕ
-nodeBytes = 3570
-
+-- the diagnostic records that must be free
 unfoldable pub freeRecords : ℕ
 freeRecords = 511
 

@@ -16,16 +16,12 @@ use Rattle.names.specs.declared.registers.SpecialRegister.{SpecialRegister}
 use Rattle.names.specs.declared.registers.Suppressed.{Suppressed}
 use Rattle.expressions.specs.Trees.{span, noSpan, empty, spanOf, Expr, spanE, withSpan}
 use Rattle.expressions.specs.declared.records.Span.{Span}
+use Rattle.expressions.specs.declared.reading.Setting.{Setting}
 use Rattle.expressions.specs.Diagnostics.{operandExpected, unclosedParenthesis, malformedOperand, malformedOpen, unexpectedTokenInOperand, registerExpectedInRegisterList, registerRangeOutOfOrder, expressionExpected}
 use Rattle.expressions.specs.Reader.{Test, is, any, Reading, Reader, answer, here, raise, bump, peek, _>>=_, choose, run}
 use Rattle.expressions.specs.Expressions.{Term, read, reported, absent, Suffix, suffixed, bare, takeSizeSuffix, valued, fuel, parseExpression, expressionFrom}
 use Rattle.operand.specs.Operands.{Register, IndexRegister, BaseRegister, Displacement, displaced, undisplaced, Index, indexed, unindexed, RegisterListItem, single, range, Operand, Maybe, some, none}
 use Rattle.operand.specs.Operands as O
-
--- what never changes during a reading: how many terms may be open, and the place of the symbol mark
-pub record Setting : Type 0 where
-  pub limit : ℕ
-  pub mark : ℕ
 
 -- ---- what stands at a place
 

@@ -17,7 +17,8 @@ use Rattle.expressions.specs.Laws as L
 use Rattle.expressions.specs.Laws.{holds, All, Law, call, law-run, Every, Fine, all-fine, met-yes}
 use Rattle.expressions.specs.Costs.{Clean, true-false}
 use Rattle.operand.specs.Operands.{Operand, Maybe, some, none}
-use Rattle.operand.specs.Operand.{Setting, parseOperand, operandFrom, readingOf}
+use Rattle.expressions.specs.declared.reading.Setting.{Setting}
+use Rattle.operand.specs.Operand.{parseOperand, operandFrom, readingOf}
 use Rattle.operand.specs.Records.{sizeO, sizeM}
 use Rattle.operand.specs.Costs.{operand-from-cost}
 
