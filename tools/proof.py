@@ -32,19 +32,24 @@ def need_heads(text):
     return {m.group(1): (file(m.group(2)), m.group(3)) for m in HEAD.finditer(text)}
 
 
-def source_key(crate):
-    """A sum of the crate's code: a skeleton holds as long as it is the same."""
+def source_key(crate, module):
+    """A sum of the functions' text: a skeleton holds as long as it is the same."""
     total = hashlib.sha256()
-    for path in sorted(Path(f"crates/{crate}/src").glob("**/*.rt")):
-        total.update(path.read_bytes())
+    folder, _, name = module.rpartition("/")
+    for fn in name.strip("+").split("+"):
+        file = Path(f"crates/{crate}/src/{folder}.rt")
+        text = file.read_text() if file.exists() else Path(f"crates/{crate}/src/{folder.rpartition('/')[0]}.rt").read_text()
+        total.update(re.search(rf"(?ms)^( *)(?:pub(?:\(crate\))? )?fn {fn}\(.*?^\1\}}$", text).group(0).encode())
     return total.hexdigest()[:16]
 
 
 class Crate:
     def __init__(self, name):
         self.name = name
-        self.kept = Path(f"target/skeletons/{name}/{source_key(name)}")
-        self.generated = self.kept / "generated"
+        self.root = Path(f"target/skeletons/{name}")
+
+    def kept(self, module):
+        return self.root / module / source_key(self.name, module)
 
     def proof(self, module):
         return Path(f"crates/{self.name}/proofs/{module}/Proof.antt")
@@ -53,7 +58,7 @@ class Crate:
         return Path(f"crates/{self.name}/answers/{module}")
 
     def lts(self, module, file):
-        text = (self.generated / f"Rattle.{self.name}.proofs/proofs/{module}/{file}.antt").read_text()
+        text = (self.kept(module) / f"{file}.antt").read_text()
         found = re.finditer(r"\n +pub record (\S+) : Type 0 where\n((?: +pub .*\n(?: {12,}.*\n)*)+)", text)
         fields = {m.group(1): dict(re.findall(r"pub (\S+) : (\S+)", m.group(2))) for m in found}
         return fields, dict(re.findall(r"\n +(Need-\S+) =\s*\(c : (\S+)\)", text))
@@ -67,33 +72,40 @@ class Crate:
             path, record = path + " .before", fields[record].get("before")
         return out
 
+    def wanted(self, modules):
+        return [m for m in modules if not (self.kept(m) / "skeleton").exists()]
+
     def skeletons(self, modules):
         """Have `rt dev` print the files that are missing, with the proofs of these modules moved aside."""
-        wanted = [m for m in modules if not (self.kept / m / "skeleton").exists()]
+        wanted, aside, generated = self.wanted(modules), Path("target/aside"), self.root / "generated"
         if not wanted:
             return
-        aside = Path("target/aside")
         for module in wanted:
             if self.proof(module).exists():
                 (aside / module).mkdir(parents=True, exist_ok=True)
                 shutil.move(self.proof(module), aside / module / "Proof.antt")
-        self.kept.mkdir(parents=True, exist_ok=True)
+        self.root.mkdir(parents=True, exist_ok=True)
+        shutil.rmtree(generated, ignore_errors=True)
+        command = ["rt", "dev", self.name]
         quiet = dict(stdout=subprocess.DEVNULL, stderr=subprocess.DEVNULL)
-        subprocess.run(["rt", "dev", self.name, "--generated", str(self.generated.absolute())], **quiet)
-        out = subprocess.run(["rt", "dev", self.name], stdout=subprocess.PIPE, stderr=subprocess.STDOUT, text=True).stdout
-        (self.kept / "printed").write_text(out)
-        for m in re.finditer(rf"help: write \S*crates/{self.name}/proofs/(\S+)/Proof.antt with these lines.*\n((?:    .*\n|\n)+)", out):
-            (self.kept / m.group(1)).mkdir(parents=True, exist_ok=True)
-            (self.kept / m.group(1) / "skeleton").write_text(re.sub(r"(?m)^    ", "", m.group(2)).rstrip() + "\n")
+        subprocess.run(command + ["--generated", str(generated.absolute())], **quiet)
+        out = subprocess.run(command, stdout=subprocess.PIPE, stderr=subprocess.STDOUT, text=True).stdout
+        (self.root / "printed").write_text(out)
+        printed = rf"help: write \S*crates/{self.name}/proofs/(\S+)/Proof.antt with these lines.*\n((?:    .*\n|\n)+)"
+        for m in re.finditer(printed, out):
+            folder = self.kept(m.group(1))
+            shutil.rmtree(folder.parent, ignore_errors=True)
+            shutil.copytree(generated / f"Rattle.{self.name}.proofs/proofs/{m.group(1)}", folder)
+            (folder / "skeleton").write_text(re.sub(r"(?m)^    ", "", m.group(2)).rstrip() + "\n")
         for module in wanted:
             if (aside / module / "Proof.antt").exists():
                 self.proof(module).parent.mkdir(parents=True, exist_ok=True)
                 shutil.move(aside / module / "Proof.antt", self.proof(module))
 
     def skeleton(self, module):
-        path = self.kept / module / "skeleton"
+        path = self.kept(module) / "skeleton"
         if not path.exists():
-            sys.exit(f"{module}: no lines were printed; see {self.kept}/printed")
+            sys.exit(f"{module}: no lines were printed; see {self.root}/printed")
         return path.read_text()
 
 
@@ -204,9 +216,16 @@ def main():
         for key, path in crate.things(words[0], *heads[words[2]]).items():
             print(key, path.count("before"))
         return
-    crate.skeletons(words)
-    for module in words:
-        write(crate, module)
+    # a function's lines are printed once its callees are proved
+    while words:
+        crate.skeletons(words)
+        late = crate.wanted(words)
+        if late == words:
+            crate.skeleton(late[0])
+        for module in words:
+            if module not in late:
+                write(crate, module)
+        words = late
 
 
 main()

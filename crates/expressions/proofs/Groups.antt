@@ -103,7 +103,7 @@ back-with (currentAddress s) t = refl
 back-with (unary o e s) t = refl
 back-with (binary o l r s) t = refl
 
-length-nodes : (b : ℕ) (e : Expr) → length (nodes b e) ≡ 14 * size e
+pub length-nodes : (b : ℕ) (e : Expr) → length (nodes b e) ≡ 14 * size e
 unfolding nodes size lowFirst
 length-nodes b (number base v s) = refl
 length-nodes b (characterLiteral q o s) = refl

@@ -6,7 +6,7 @@ use Prim.Native.Nat.{ℕ, _+_, _-_, _*_, _≤_}
 use lib.ListN.{length, take, drop, replicate}
 use Rattle.names.specs.Tokens.{count}
 use Rattle.names.specs.Places.{place}
-use Rattle.expressions.specs.Trees.{Expr, spanE, size}
+use Rattle.expressions.specs.Trees.{Expr, spanE, withSpan, size}
 use Rattle.expressions.specs.declared.records.Span.{Span}
 use Rattle.expressions.specs.declared.terms.Counters.{Counters}
 use Rattle.expressions.specs.declared.terms.Step.{Step}
@@ -43,20 +43,19 @@ pub record StepPromise (s : Reading Term) (T N D N′ D′ : List ℕ) (c : Coun
 abbrev pub ExpressionPromise : List ℕ → List ℕ → List ℕ → List ℕ → List ℕ → List ℕ → Counters → ℕ → Step → Type 0
 ExpressionPromise L T N D N′ D′ c limit r = StepPromise (run (parseExpression limit) (place L T) (c .at) (c .end)) T N D N′ D′ c r
 
--- ---- and one that goes on from a left side
+-- ---- and one that goes on from a group
 
 -- the tree e stands in the last of n records, from the b-th on, behind the bytes P
-pub record Stands (N : List ℕ) (n : ℕ) (left : Span) (P : List ℕ) (b : ℕ) (e : Expr) : Type 0 where
+pub record Stands (N : List ℕ) (n : ℕ) (P : List ℕ) (b : ℕ) (e : Expr) : Type 0 where
   pub bytes : take (14 * n) N ≡ P ++ nodes b e
   pub total : n ≡ b + size e
-  pub root : left ≡ spanE e
 
 -- some tree does
-pub record LeftStands (N : List ℕ) (n : ℕ) (left : Span) : Type 0 where
+pub record LeftStands (N : List ℕ) (n : ℕ) : Type 0 where
   pub before : List ℕ
   pub first : ℕ
   pub tree : Expr
-  pub stands : Stands N n left before first tree
+  pub stands : Stands N n before first tree
 
 abbrev pub chainOf : Reading Expr → ℕ → ℕ → Chain
 chainOf s b d = record { span = spanE (s .value); counters = countersOf s (b + size (s .value)) d }
@@ -66,9 +65,9 @@ pub record ChainPromise (s : Reading Expr) (N D N′ D′ P : List ℕ) (b d : �
   pub nodes : N′ ≡ filled (P ++ nodes b (s .value)) (b + size (s .value)) N
   pub diagnostics : D′ ≡ added D d (s .raised)
 
-pub record FromPromise (L T N D N′ D′ : List ℕ) (c : Counters) (left : Span) (limit : ℕ) (r : Chain) : Type 0 where
-  pub told : (P : List ℕ) (b : ℕ) (e : Expr) → Stands N (c .nodes) left P b e
-      → ChainPromise (run (expressionFrom limit e) (place L T) (c .at) (c .end)) N D N′ D′ P b (c .diagnostics) r
+pub record FromPromise (L T N D N′ D′ : List ℕ) (c : Counters) (group : Span) (limit : ℕ) (r : Chain) : Type 0 where
+  pub told : (P : List ℕ) (b : ℕ) (e : Expr) → Stands N (c .nodes) P b e
+      → ChainPromise (run (expressionFrom limit (withSpan e group)) (place L T) (c .at) (c .end)) N D N′ D′ P b (c .diagnostics) r
   pub some : 1 ≤ r .counters .nodes
   pub on : c .at ≤ r .counters .at
   pub within : r .counters .at ≤ count T

@@ -1,6 +1,7 @@
 // The public functions: an expression at the cursor, and one that goes on from a left side.
 use crate::records::Span;
 use crate::records::clear_nodes;
+use crate::records::widen;
 use crate::terms::Chain;
 use crate::terms::Counters;
 use crate::terms::Step;
@@ -33,20 +34,21 @@ pub fn expression(
     r
 }
 
-// The expression that a tree, which the last records hold, is the first term of.
+// The expression whose first term is a group: the tree that the last records hold, with the group's span.
 pub fn expression_from(
     line: &[u8],
     tokens: &[u8],
     nodes: &mut [u8],
     diagnostics: &mut [u8],
     c: Counters,
-    left: Span,
+    group: Span,
     setting: Setting,
 ) -> Chain
-    requires { ⌜ FitClimb (now tokens) (now nodes) (now diagnostics) c × LeftStands (now nodes) (c .nodes) left ⌝ }
-    ensures { λ r. ⌜ FromPromise (now (line .entry)) (now (tokens .entry)) (now (nodes .entry)) (now (diagnostics .entry)) (now (nodes .exit)) (now (diagnostics .exit)) c left (setting .limit) r ⌝ }
+    requires { ⌜ FitClimb (now tokens) (now nodes) (now diagnostics) c × LeftStands (now nodes) (c .nodes) ⌝ }
+    ensures { λ r. ⌜ FromPromise (now (line .entry)) (now (tokens .entry)) (now (nodes .entry)) (now (diagnostics .entry)) (now (nodes .exit)) (now (diagnostics .exit)) c group (setting .limit) r ⌝ }
 {
-    let r = parse_expression_from(line, tokens, nodes, diagnostics, c, left, 1, setting.limit);
+    widen(nodes, c.nodes - 1, group);
+    let r = parse_expression_from(line, tokens, nodes, diagnostics, c, group, 1, setting.limit);
     let e = r.counters;
     clear_nodes(nodes, e.nodes);
     r

@@ -37,7 +37,7 @@ fn write(store: &mut [u8], at: usize, bytes: &[u8])
 }
 
 // Writes the node record n, and returns the next number. The eight last bytes are the value, the low byte first.
-pub(crate) fn put_node(
+pub fn put_node(
     nodes: &mut [u8],
     n: usize,
     kind: u8,
@@ -87,7 +87,7 @@ pub(crate) fn widen(nodes: &mut [u8], n: usize, span: Span)
 }
 
 // Sets the bytes of the node records from the n-th on to 0.
-pub(crate) fn clear_nodes(nodes: &mut [u8], n: usize)
+pub fn clear_nodes(nodes: &mut [u8], n: usize)
     requires { ⌜ (n ≤ 255) × (3570 ≤ length (now nodes)) ⌝ }
     ensures { λ _. ⌜ now (nodes .exit) ≡ cleared (now (nodes .entry)) (14 * n) nodeBytes ⌝ }
 {
@@ -99,7 +99,7 @@ pub(crate) fn clear_nodes(nodes: &mut [u8], n: usize)
 }
 
 // Writes the diagnostic record d, and returns the next number.
-pub(crate) fn push_diagnostic(diagnostics: &mut [u8], d: usize, x: Diagnostic) -> usize
+pub fn push_diagnostic(diagnostics: &mut [u8], d: usize, x: Diagnostic) -> usize
     requires { ⌜ 10 * d + 10 ≤ length (now diagnostics) ⌝ }
     ensures { λ r. ⌜ PushTold (now (diagnostics .entry)) (now (diagnostics .exit)) d x r ⌝ }
 {

@@ -135,7 +135,7 @@ fn binary_operator(kind: u8) -> u8
     OPERATORS[i]
 }
 
-fn span_of(token: Token) -> Span
+pub fn span_of(token: Token) -> Span
     ensures { λ r. ⌜ r ≡ spanOf token ⌝ }
 {
     Span {
@@ -145,7 +145,7 @@ fn span_of(token: Token) -> Span
 }
 
 // Behind a token that stands at the cursor.
-fn step_over(c: Counters, token: Token) -> Counters
+pub fn step_over(c: Counters, token: Token) -> Counters
     requires { ⌜ c .at < 256 ⌝ }
     ensures { λ r. ⌜ r ≡ stepped c token ⌝ }
 {

@@ -20,7 +20,8 @@ use Rattle.expressions.specs.Expressions.{fuel, parsePrefix, parseExpressionFro
 use Rattle.expressions.specs.Laws.{Every, Fine}
 use Rattle.expressions.specs.Costs.{true-false}
 use Rattle.expressions.specs.Fuel.{turn, fuel-enough, climb-equation}
-use Rattle.operand.specs.Operands.{Register, RegisterListItem, Operand, Maybe, some, none}
+use Rattle.operand.specs.Operands.{RegisterListItem, Operand, Maybe, some, none}
+use Rattle.operand.specs.declared.forms.Register.{Register}
 use Rattle.expressions.specs.declared.reading.Setting.{Setting}
 use Rattle.operand.specs.Operand.{readingOf, listItem, nextItem, listLoop}
 use Rattle.operand.specs.Records.{sizeM, nodesM, operandRecord, diagnosticRecords}

@@ -17,11 +17,16 @@ use Rattle.expressions.specs.Reader.{Reader, any, _>>=_}
 use Rattle.expressions.specs.Expressions.{Term, read, reported, absent, Suffix, suffixed, bare, fuel, parseExpression}
 use Rattle.expressions.specs.Laws.{holds, All, all-choose, Law, call}
 use Rattle.expressions.specs.Costs.{Clean, true-false, size-withSpan, Signed, suffix-cost, valued-cost, expression-cost, from-cost, unary-expression}
-use Rattle.operand.specs.Operands.{Register, IndexRegister, BaseRegister, Displacement, displaced, undisplaced, Index, indexed, unindexed, RegisterListItem, Operand, Maybe, some, none}
+use Rattle.operand.specs.Operands.{Displacement, displaced, undisplaced, RegisterListItem, Operand, Maybe, some, none}
+use Rattle.operand.specs.declared.forms.Register.{Register}
+use Rattle.operand.specs.declared.forms.IndexRegister.{IndexRegister}
+use Rattle.operand.specs.declared.forms.BaseRegister.{BaseRegister}
+use Rattle.operand.specs.declared.forms.Index.{Index}
+use Rattle.operand.specs.declared.forms.Registers.{Registers}
 use Rattle.operand.specs.Operands as O
 use Rattle.operand.specs.Operand
 use Rattle.expressions.specs.declared.reading.Setting.{Setting}
-use Rattle.operand.specs.Operand.{Registers, Inner, Outer}
+use Rattle.operand.specs.Operand.{Inner, Outer}
 use Rattle.operand.specs.Records.{sizeD, sizeO}
 
 direct-size : (q : Register) (z : Span) → sizeO (Operand.registerDirect q z) ≡ 0
@@ -33,7 +38,7 @@ direct-size q z = go (leb 8 (q .index))
     go false = refl
 
 indexed-size : (y : Displacement) (b : BaseRegister) (f : IndexRegister → Span → Operand) → ((x : IndexRegister) (z : Span) → sizeO (f x z) ≡ sizeD y)
-    → (x : IndexRegister) (z : Span) (c : Bool) → sizeO (pick c (O.fullIndex y b (indexed x) 0 undisplaced z) (f x z)) ≡ sizeD y
+    → (x : IndexRegister) (z : Span) (c : Bool) → sizeO (pick c (O.fullIndex y b (Index.Indexed x) 0 undisplaced z) (f x z)) ≡ sizeD y
 unfolding sizeO sizeD
 indexed-size y b f e x z true = omega arith
 indexed-size y b f e x z false = e x z
@@ -207,7 +212,7 @@ module _ (at : ℕ → Place) (w : ℕ) (clean : Clean at w) where
       (λ t x h p. call (closed-base-cost o q y t _ _ _ _) λ j e s. elim [ some x ↦ omega arith | none ↦ omega arith ]),
       λ p. (
         (λ t x h p₂. call (index-cost z o 6 _ _ _ _) λ j e s. elim [
-          | some v ↦ λ a b c g m. call (indexed-cost o k 6 y (O.address q) (λ x. O.index y q x) (λ x z. refl) v _ _ _ _) λ j₂ e₂ s₂. elim [ some x ↦ omega arith | none ↦ omega arith ]
+          | some v ↦ λ a b c g m. call (indexed-cost o k 6 y (BaseRegister.Address q) (λ x. O.index y q x) (λ x z. refl) v _ _ _ _) λ j₂ e₂ s₂. elim [ some x ↦ omega arith | none ↦ omega arith ]
           | none ↦ omega arith
         ]),
         λ p₂. unclosed-cost sizeO o k _ 3 0 _ 0 _ _ _ _ .all,
@@ -222,7 +227,7 @@ module _ (at : ℕ → Place) (w : ℕ) (clean : Clean at w) where
       (λ t x h p. call (closed-counter-cost o y t _ _ _ _) λ j e s. elim [ some x ↦ omega arith | none ↦ omega arith ]),
       λ p. (
         (λ t x h p₂. call (index-cost z o 8 _ _ _ _) λ j e s. elim [
-          | some v ↦ λ a b c g m. call (indexed-cost o k 8 y O.programCounter (λ x. O.pcIndex y x) (λ x z. refl) v _ _ _ _) λ j₂ e₂ s₂. elim [ some x ↦ omega arith | none ↦ omega arith ]
+          | some v ↦ λ a b c g m. call (indexed-cost o k 8 y BaseRegister.ProgramCounter (λ x. O.pcIndex y x) (λ x z. refl) v _ _ _ _) λ j₂ e₂ s₂. elim [ some x ↦ omega arith | none ↦ omega arith ]
           | none ↦ omega arith
         ]),
         λ p₂. unclosed-cost sizeO o k 7 3 0 _ 0 _ _ _ _ .all,
@@ -339,8 +344,8 @@ module _ (at : ℕ → Place) (w : ℕ) (clean : Clean at w) where
 
   outer-index-cost : (z : Setting) (o : ℕ) (v : Index) (i l d r : ℕ) → Law (Operand.outerIndex z o v) at (Left sizeU 0 0 0 i d r) i l d r
   unfolding All Operand.outerIndex Operand.outerIndexed Operand.outerDisplaced sizeD
-  outer-index-cost z o (indexed x) i l d r = stepped-cost sizeU o 9 9 0 0 0 i l d r
-  outer-index-cost z o unindexed i l d r = record {
+  outer-index-cost z o (Index.Indexed x) i l d r = stepped-cost sizeU o 9 9 0 0 0 i l d r
+  outer-index-cost z o Index.Unindexed i l d r = record {
     all = call (index-cost z o 9 _ _ _ _) λ j e s. elim [
       | some v ↦ λ a b c g m. (
         (λ t x h p. call (displacement-cost z o _ _ _ _) λ j₂ e₂ s₂. elim [ some x ↦ omega arith | none ↦ omega arith ]),

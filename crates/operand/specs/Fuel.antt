@@ -9,7 +9,8 @@ use Rattle.names.specs.declared.tokens.Token.{Token}
 use Rattle.expressions.specs.Reader.{Reader, Reading, after, answer, bind, _>>=_, run}
 use Rattle.expressions.specs.Expressions.{fuel}
 use Rattle.expressions.specs.Fuel.{Alike, same-alike, flip, bind-alike, bump-alike, bump-past}
-use Rattle.operand.specs.Operands.{Register, RegisterListItem, single, Operand, Maybe, some, none}
+use Rattle.operand.specs.Operands.{RegisterListItem, single, Operand, Maybe, some, none}
+use Rattle.operand.specs.declared.forms.Register.{Register}
 use Rattle.operand.specs.Operand.{registerFrom, listItem, listed, nextItem, listLoop}
 
 then : {A : Type 0} {at : ℕ → Place} {i l : ℕ} {p q r : Reader A} → Alike at i l p q → Alike at i l q r → Alike at i l p r

@@ -4,6 +4,8 @@ pub mod Operand
 pub mod Records
 pub mod Mask
 pub mod Entry
+pub mod Forms
+pub mod Steps
 pub mod Costs
 pub mod Readings
 pub mod Fuel

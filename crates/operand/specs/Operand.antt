@@ -20,7 +20,12 @@ use Rattle.expressions.specs.declared.reading.Setting.{Setting}
 use Rattle.expressions.specs.Diagnostics.{operandExpected, unclosedParenthesis, malformedOperand, malformedOpen, unexpectedTokenInOperand, registerExpectedInRegisterList, registerRangeOutOfOrder, expressionExpected}
 use Rattle.expressions.specs.Reader.{Test, is, any, Reading, Reader, answer, here, raise, bump, peek, _>>=_, choose, run}
 use Rattle.expressions.specs.Expressions.{Term, read, reported, absent, Suffix, suffixed, bare, takeSizeSuffix, valued, fuel, parseExpression, expressionFrom}
-use Rattle.operand.specs.Operands.{Register, IndexRegister, BaseRegister, Displacement, displaced, undisplaced, Index, indexed, unindexed, RegisterListItem, single, range, Operand, Maybe, some, none}
+use Rattle.operand.specs.Operands.{Displacement, displaced, undisplaced, RegisterListItem, single, range, Operand, Maybe, some, none}
+use Rattle.operand.specs.declared.forms.Register.{Register}
+use Rattle.operand.specs.declared.forms.IndexRegister.{IndexRegister}
+use Rattle.operand.specs.declared.forms.BaseRegister.{BaseRegister}
+use Rattle.operand.specs.declared.forms.Index.{Index}
+use Rattle.operand.specs.declared.forms.Registers.{Registers}
 use Rattle.operand.specs.Operands as O
 
 -- ---- what stands at a place
@@ -233,7 +238,7 @@ baseShape undisplaced = 2
 -- an index written suppressed makes it a full index (`suppressed_index`)
 unfoldable pub indexedOperand : ℕ → Displacement → BaseRegister → (IndexRegister → Span → Operand) → IndexRegister → Maybe ℕ → Reader (Maybe Operand)
 indexedOperand o d base plain x (some e) =
-    answer (some (pick (x .suppressed) (O.fullIndex d base (indexed x) 0 undisplaced (span o e)) (plain x (span o e))))
+    answer (some (pick (x .suppressed) (O.fullIndex d base (Index.Indexed x) 0 undisplaced (span o e)) (plain x (span o e))))
 indexedOperand o d base plain x none = answer none
 
 unfoldable pub closedIndex : ℕ → Token → ℕ → (IndexRegister → Maybe ℕ → Reader (Maybe Operand)) → Maybe IndexRegister → Reader (Maybe Operand)
@@ -250,7 +255,7 @@ unfoldable pub afterBase : Setting → ℕ → Token → Displacement → Regist
 afterBase s o k d r =
     bump (is Kinds.rightParen) (λ close x. closedBase o r d close) λ u.
     bump (is Kinds.comma)
-    (λ c x. parseIndexRegister s o 6 >>= closedIndex o k 6 (indexedOperand o d (O.address r) (λ x. O.index d r x))) λ u.
+    (λ c x. parseIndexRegister s o 6 >>= closedIndex o k 6 (indexedOperand o d (BaseRegister.Address r) (λ x. O.index d r x))) λ u.
     unclosed o k (baseShape d) 3
 
 unfoldable pub closedCounter : ℕ → Displacement → Token → Reader (Maybe Operand)
@@ -261,7 +266,7 @@ unfoldable pub afterCounter : Setting → ℕ → Token → Displacement → Rea
 afterCounter s o k d =
     bump (is Kinds.rightParen) (λ close x. closedCounter o d close) λ u.
     bump (is Kinds.comma)
-    (λ c x. parseIndexRegister s o 8 >>= closedIndex o k 8 (indexedOperand o d O.programCounter (λ x. O.pcIndex d x))) λ u.
+    (λ c x. parseIndexRegister s o 8 >>= closedIndex o k 8 (indexedOperand o d BaseRegister.ProgramCounter (λ x. O.pcIndex d x))) λ u.
     unclosed o k 7 3
 
 unfoldable pub parseBaseAndIndex : Setting → ℕ → Token → Displacement → Reader (Maybe Operand)
@@ -273,16 +278,11 @@ parseBaseAndIndex s o k d =
 
 -- ---- parse_base_and_index_registers, with one of them required
 
--- `(BaseRegister, Option<IndexRegister>)`
-pub record Registers : Type 0 where
-  pub base : BaseRegister
-  pub index : Index
-
 abbrev pub registers : BaseRegister → Index → Registers
 registers b x = record { base = b; index = x }
 
 unfoldable pub indexAlone : BaseRegister → Maybe IndexRegister → Reader (Maybe Registers)
-indexAlone base (some x) = answer (some (registers base (indexed x)))
+indexAlone base (some x) = answer (some (registers base (Index.Indexed x)))
 indexAlone base none = answer none
 
 -- behind a base: a comma and an index, or neither
@@ -290,8 +290,8 @@ unfoldable pub afterBaseRegister : Setting → ℕ → ℕ → BaseRegister → 
 afterBaseRegister s o shape base =
     here λ i l.
     peek 1 (anIndex s (i + 1))
-    (λ t x. bump (is Kinds.comma) (λ c y. parseIndexRegister s o shape >>= indexAlone base) λ u. answer (some (registers base unindexed))) λ u.
-    answer (some (registers base unindexed))
+    (λ t x. bump (is Kinds.comma) (λ c y. parseIndexRegister s o shape >>= indexAlone base) λ u. answer (some (registers base Index.Unindexed))) λ u.
+    answer (some (registers base Index.Unindexed))
 
 -- a size or a scale makes an address register an index
 unfoldable pub sizeOrScale : Test
@@ -300,18 +300,18 @@ sizeOrScale t x = either (eqb (t .kind) Kinds.sizeSuffix) (eqb (t .kind) Kinds.s
 unfoldable pub noBase : Setting → ℕ → ℕ → Reader (Maybe Registers)
 noBase s o shape =
     here λ i l.
-    peek 0 (anIndex s i) (λ t x. parseIndexRegister s o shape >>= indexAlone O.omitted) λ u.
+    peek 0 (anIndex s i) (λ t x. parseIndexRegister s o shape >>= indexAlone BaseRegister.Omitted) λ u.
     steppedOver o shape 11
 
 -- `base_at` and what follows it
 unfoldable pub parseBaseAndIndexRegisters : Setting → ℕ → ℕ → Reader (Maybe Registers)
 parseBaseAndIndexRegisters s o shape =
     here λ i l.
-    bump aProgramCounter (λ t x. afterBaseRegister s o shape O.programCounter) λ u.
-    bump (unmarked s i λ z. both (isSuppressed z) (not (isSuppressedRegister z))) (λ t x. afterBaseRegister s o shape O.suppressedProgramCounter) λ u.
+    bump aProgramCounter (λ t x. afterBaseRegister s o shape BaseRegister.ProgramCounter) λ u.
+    bump (unmarked s i λ z. both (isSuppressed z) (not (isSuppressedRegister z))) (λ t x. afterBaseRegister s o shape BaseRegister.SuppressedProgramCounter) λ u.
     peek 1 sizeOrScale (λ k y. noBase s o shape) λ u.
-    bump anAddressRegister (λ t x. afterBaseRegister s o shape (O.address (registerFrom t x))) λ u.
-    bump (unmarked s i isSuppressedAddress) (λ t x. afterBaseRegister s o shape (O.suppressedAddress (suppressedIndex (suppressedOf x) - 8))) λ u.
+    bump anAddressRegister (λ t x. afterBaseRegister s o shape (BaseRegister.Address (registerFrom t x))) λ u.
+    bump (unmarked s i isSuppressedAddress) (λ t x. afterBaseRegister s o shape (BaseRegister.SuppressedAddress (suppressedIndex (suppressedOf x) - 8))) λ u.
     noBase s o shape
 
 -- ---- starts_a_full_index
@@ -366,7 +366,7 @@ abbrev pub inner : Displacement → Registers → Inner
 inner d r = record { displacement = d; registers = r }
 
 abbrev pub noRegisters : Registers
-noRegisters = registers O.omitted unindexed
+noRegisters = registers BaseRegister.Omitted Index.Unindexed
 
 unfoldable pub innerRegisters : Displacement → Maybe Registers → Reader (Maybe Inner)
 innerRegisters d (some r) = answer (some (inner d r))
@@ -400,14 +400,14 @@ outerDisplaced x n none = answer none
 
 unfoldable pub outerIndexed : Setting → ℕ → Maybe IndexRegister → Reader (Maybe Outer)
 outerIndexed s o (some x) =
-    bump (is Kinds.comma) (λ c y. parseSizedDisplacement s o >>= outerDisplaced (indexed x) 2) λ u.
-    answer (some (outer (indexed x) 2 undisplaced))
+    bump (is Kinds.comma) (λ c y. parseSizedDisplacement s o >>= outerDisplaced (Index.Indexed x) 2) λ u.
+    answer (some (outer (Index.Indexed x) 2 undisplaced))
 outerIndexed s o none = answer none
 
 -- an index goes inside the brackets or behind them, not both
 unfoldable pub outerIndex : Setting → ℕ → Index → Reader (Maybe Outer)
-outerIndex s o (indexed x) = steppedOver o 9 9
-outerIndex s o unindexed = parseIndexRegister s o 9 >>= outerIndexed s o
+outerIndex s o (Index.Indexed x) = steppedOver o 9 9
+outerIndex s o Index.Unindexed = parseIndexRegister s o 9 >>= outerIndexed s o
 
 unfoldable pub parseOuter : Setting → ℕ → Index → Reader (Maybe Outer)
 parseOuter s o x =

@@ -1,41 +1,19 @@
--- Operands as the Rust has them. A register is its mask index, 0 to 15.
+-- Operands as the Rust has them. What holds no expression is as the code declares it (forms.rt). A register is its mask index, 0 to 15.
 -- Assumes nothing.
 use mathlib.Core.Bool.{Bool}
 use mathlib.Core.List.{List}
 use Prim.Native.Nat.{ℕ}
 use Rattle.expressions.specs.Trees.{Expr}
 use Rattle.expressions.specs.declared.records.Span.{Span}
-
--- a register, and the span of its token
-pub record Register : Type 0 where
-  pub index : ℕ
-  pub span : Span
-
--- `IndexRegister`. Size 1 to 4 and scale 1, 2, 4 or 8, 0 for none; the last span is that of `d1.w*4`
-pub record IndexRegister : Type 0 where
-  pub register : Register
-  pub size : ℕ
-  pub scale : ℕ
-  pub suppressed : Bool
-  pub span : Span
-
--- `BaseRegister`. A suppressed address register is its number, 0 to 7
-pub data BaseRegister : Type 0 where
-  address : Register → BaseRegister
-  programCounter : BaseRegister
-  suppressedAddress : ℕ → BaseRegister
-  suppressedProgramCounter : BaseRegister
-  omitted : BaseRegister
+use Rattle.operand.specs.declared.forms.Register.{Register}
+use Rattle.operand.specs.declared.forms.IndexRegister.{IndexRegister}
+use Rattle.operand.specs.declared.forms.BaseRegister.{BaseRegister}
+use Rattle.operand.specs.declared.forms.Index.{Index}
 
 -- `Option<SizedDisplacement>`: with its size, 0 for none
 pub data Displacement : Type 0 where
   displaced : Expr → ℕ → Displacement
   undisplaced : Displacement
-
--- `Option<IndexRegister>`
-pub data Index : Type 0 where
-  indexed : IndexRegister → Index
-  unindexed : Index
 
 pub data RegisterListItem : Type 0 where
   single : Register → RegisterListItem

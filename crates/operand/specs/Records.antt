@@ -10,7 +10,10 @@ use Rattle.expressions.specs.Diagnostics.{diagnosticRecord}
 use Rattle.expressions.specs.declared.records.Diagnostic.{Diagnostic}
 use Rattle.expressions.specs.Reader.{Reading}
 use Rattle.expressions.specs.Records.{absent, record14, nodes, lowFirst}
-use Rattle.operand.specs.Operands.{Register, IndexRegister, Displacement, displaced, undisplaced, Index, indexed, unindexed, RegisterListItem, single, range, Operand, Maybe, some, none}
+use Rattle.operand.specs.Operands.{Displacement, displaced, undisplaced, RegisterListItem, single, range, Operand, Maybe, some, none}
+use Rattle.operand.specs.declared.forms.Register.{Register}
+use Rattle.operand.specs.declared.forms.BaseRegister.{BaseRegister}
+use Rattle.operand.specs.declared.forms.Index.{Index}
 use Rattle.operand.specs.Operands as O
 
 -- ---- nodes
@@ -79,45 +82,45 @@ displacementPart b (displaced e n) = (b + size e - 1) ∷ n ∷ []
 displacementPart b undisplaced = absent ∷ 0 ∷ []
 
 -- a base has its span only where it is a register that stands there
-unfoldable pub basePart : O.BaseRegister → List ℕ
-basePart (O.address r) = spanned (r .index) (r .span)
-basePart O.programCounter = spanned 32 noSpan
-basePart (O.suppressedAddress n) = spanned (24 + n) noSpan
-basePart O.suppressedProgramCounter = spanned 33 noSpan
-basePart O.omitted = spanned absent noSpan
+unfoldable pub basePart : BaseRegister → List ℕ
+basePart (BaseRegister.Address r) = spanned (r .index) (r .span)
+basePart BaseRegister.ProgramCounter = spanned 32 noSpan
+basePart (BaseRegister.SuppressedAddress n) = spanned (24 + n) noSpan
+basePart BaseRegister.SuppressedProgramCounter = spanned 33 noSpan
+basePart BaseRegister.Omitted = spanned absent noSpan
 
 unfoldable pub flag : Bool → ℕ
 flag true = 1
 flag false = 0
 
 unfoldable pub indexPart : Index → List ℕ
-indexPart (indexed x) = spanned (x .register .index) (x .register .span) ++ (x .size ∷ x .scale ∷ flag (x .suppressed) ∷ x .span .start ∷ x .span .end ∷ [])
-indexPart unindexed = spanned absent noSpan ++ (0 ∷ 0 ∷ 0 ∷ 0 ∷ 0 ∷ [])
+indexPart (Index.Indexed x) = spanned (x .register .index) (x .register .span) ++ (x .size ∷ x .scale ∷ flag (x .suppressed) ∷ x .span .start ∷ x .span .end ∷ [])
+indexPart Index.Unindexed = spanned absent noSpan ++ (0 ∷ 0 ∷ 0 ∷ 0 ∷ 0 ∷ [])
 
 -- form and span; displacement; base; index; indirection; outer displacement, whose tree begins at node b; special register, or 1 for long
-abbrev pub record20 : ℕ → Span → Displacement → O.BaseRegister → Index → ℕ → Displacement → ℕ → List ℕ
+abbrev pub record20 : ℕ → Span → Displacement → BaseRegister → Index → ℕ → Displacement → ℕ → List ℕ
 record20 form s d base x n e special =
     spanned form s ++ (displacementPart 0 d ++ (basePart base ++ (indexPart x ++ (n ∷ displacementPart (sizeD d) e ++ (special ∷ [])))))
 
 -- a form with a register and no more
 abbrev pub registerForm : ℕ → Register → Span → List ℕ
-registerForm form r s = record20 form s undisplaced (O.address r) unindexed 0 undisplaced 0
+registerForm form r s = record20 form s undisplaced (BaseRegister.Address r) Index.Unindexed 0 undisplaced 0
 
 unfoldable pub operandRecord : Operand → List ℕ
-operandRecord (O.immediate e l s) = record20 1 s (displaced e 0) O.omitted unindexed 0 undisplaced (flag l)
+operandRecord (O.immediate e l s) = record20 1 s (displaced e 0) BaseRegister.Omitted Index.Unindexed 0 undisplaced (flag l)
 operandRecord (O.dataRegisterDirect r s) = registerForm 2 r s
 operandRecord (O.addressRegisterDirect r s) = registerForm 3 r s
-operandRecord (O.specialRegister n s) = record20 4 s undisplaced O.omitted unindexed 0 undisplaced n
+operandRecord (O.specialRegister n s) = record20 4 s undisplaced BaseRegister.Omitted Index.Unindexed 0 undisplaced n
 operandRecord (O.indirect r s) = registerForm 5 r s
 operandRecord (O.postincrement r s) = registerForm 6 r s
 operandRecord (O.predecrement r s) = registerForm 7 r s
-operandRecord (O.displacement e r s) = record20 8 s (displaced e 0) (O.address r) unindexed 0 undisplaced 0
-operandRecord (O.index d r x s) = record20 9 s d (O.address r) (indexed x) 0 undisplaced 0
-operandRecord (O.pcDisplacement e s) = record20 10 s (displaced e 0) O.programCounter unindexed 0 undisplaced 0
-operandRecord (O.pcIndex d x s) = record20 11 s d O.programCounter (indexed x) 0 undisplaced 0
+operandRecord (O.displacement e r s) = record20 8 s (displaced e 0) (BaseRegister.Address r) Index.Unindexed 0 undisplaced 0
+operandRecord (O.index d r x s) = record20 9 s d (BaseRegister.Address r) (Index.Indexed x) 0 undisplaced 0
+operandRecord (O.pcDisplacement e s) = record20 10 s (displaced e 0) BaseRegister.ProgramCounter Index.Unindexed 0 undisplaced 0
+operandRecord (O.pcIndex d x s) = record20 11 s d BaseRegister.ProgramCounter (Index.Indexed x) 0 undisplaced 0
 operandRecord (O.fullIndex d b x n e s) = record20 12 s d b x n e 0
-operandRecord (O.absolute e n s) = record20 13 s (displaced e n) O.omitted unindexed 0 undisplaced 0
-operandRecord (O.registerList items s) = spanned 14 s ++ (0 ∷ 0 ∷ basePart O.omitted ++ (indexPart unindexed ++ (0 ∷ absent ∷ 0 ∷ 0 ∷ [])))
+operandRecord (O.absolute e n s) = record20 13 s (displaced e n) BaseRegister.Omitted Index.Unindexed 0 undisplaced 0
+operandRecord (O.registerList items s) = spanned 14 s ++ (0 ∷ 0 ∷ basePart BaseRegister.Omitted ++ (indexPart Index.Unindexed ++ (0 ∷ absent ∷ 0 ∷ 0 ∷ [])))
 
 -- ---- the answer
 

@@ -1,1 +1,4 @@
-// Operands: every addressing mode. The definitions stand in specs/; the code is to follow.
+// Operands: every addressing mode, and the entry with its refusals.
+mod forms;
+mod refusals;
+mod reports;

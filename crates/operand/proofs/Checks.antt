@@ -1,0 +1,242 @@
+-- The tests of the refusals, each at what the code looks at: a byte of the line, a sign's text, a token, the free records.
+-- Assumes nothing.
+use mathlib.Core.Path.{_≡_, refl, sym, _∙_, ap}
+use mathlib.Core.Bool.{Bool, true, false, not}
+use mathlib.Core.List.{List, [], _∷_, map}
+use Prim.Native.Nat.{ℕ, zero, suc, _+_, _-_, _*_, _/_, _%_, _≤_, _<_}
+use Prim.Native.String.{String}
+use native.Mathlib.Omega.{arith}
+use native.Mathlib.Numerals.{add-one}
+use borrow.Author.Tests.{eq-eqb, ne-eqb, eqb-true, eqb-false, lt-ltb, le-ltb, ltb-true, ltb-false, leb-false, leb-true}
+use lib.Dec.{eqb, leb, ltb}
+use lib.ListN.{length, getD, drop, length-drop, drop-of-length-le}
+use lib.Seq.{drop-cons}
+use Rattle.names.specs.Choice.{pick, both, either}
+use Rattle.names.specs.Letters.{bytes, same}
+use Rattle.names.specs.Tokens.{count, tokenFrom, tokenAt}
+use Rattle.names.specs.declared.tokens.Token.{Token}
+use Rattle.names.specs.declared.tokens.Peeked.the-variants.{Is, End}
+use Rattle.expressions.specs.Costs.{true-false}
+use Rattle.expressions.specs.Stores.{nodeBytes}
+use Rattle.operand.specs.Entry.{Input, freeRecords, foreign, signs, spelledAs, prefixed, goodToken, goodTokens, conditions, firstOf, refusal}
+
+-- the element at i, and the list from behind it on
+from : (l : List ℕ) (i j : ℕ) → j ≡ i + 1 → i < length l → drop i l ≡ getD l i 0 ∷ drop j l
+from l i j e h = rw (e, add-one, drop-cons l i 0)
+
+-- ---- the line's bytes
+
+module _ (l : List ℕ) (i : ℕ) where
+  pub foreign-end : length l ≤ i → foreign (drop i l) ≡ false
+  unfolding foreign
+  foreign-end h = rw (drop-of-length-le l h)
+
+  module _ (h : i < length l) where
+    pub foreign-low : getD l i 0 < 32 → foreign (drop i l) ≡ true
+    unfolding foreign
+    foreign-low b = rw (from l i (i + 1) refl h, lt-ltb _ 32 b)
+
+    pub foreign-high : 126 < getD l i 0 → foreign (drop i l) ≡ true
+    unfolding foreign
+    foreign-high b = rw (from l i (i + 1) refl h, le-ltb (getD l i 0) 32 (omega arith), lt-ltb 126 _ b)
+
+    pub foreign-on : 32 ≤ getD l i 0 → getD l i 0 ≤ 126 → foreign (drop i l) ≡ foreign (drop (i + 1) l)
+    unfolding foreign
+    foreign-on a b = rw (from l i (i + 1) refl h, le-ltb _ 32 a, le-ltb 126 _ b)
+
+-- ---- a sign's text
+
+both-true : (b : Bool) → both b true ≡ b
+both-true true = refl
+both-true false = refl
+
+both-false : (b : Bool) → both b false ≡ false
+both-false true = refl
+both-false false = refl
+
+-- texts of other lengths differ
+pub differ : (s t : List ℕ) → (length s ≡ length t → ⊥) → same s t ≡ false
+unfolding same
+differ [] [] h = absurd (h refl)
+differ [] (d ∷ ds) h = refl
+differ (c ∷ cs) [] h = refl
+differ (c ∷ cs) (d ∷ ds) h = rw (differ cs ds (λ e. h (ap suc e))) (both-false (eqb c d))
+
+pub same-once : (x : List ℕ) (b : ℕ) → length x ≡ 1 → same x (b ∷ []) ≡ eqb (getD x 0 0) b
+unfolding same
+same-once [] b h = absurd (omega arith)
+same-once (c ∷ []) b h = both-true (eqb c b)
+same-once (c ∷ d ∷ x) b h = absurd (omega arith)
+
+pub same-twice : (x : List ℕ) (b : ℕ) → length x ≡ 2 → same x (b ∷ b ∷ []) ≡ both (eqb (getD x 0 0) b) (eqb (getD x 1 0) b)
+unfolding same
+same-twice [] b h = absurd (omega arith)
+same-twice (c ∷ []) b h = absurd (omega arith)
+same-twice (c ∷ d ∷ []) b h = ap (both (eqb c b)) (both-true (eqb d b))
+same-twice (c ∷ d ∷ e ∷ x) b h = absurd (omega arith)
+
+-- ---- the table of the signs
+
+same-eq : (x y : List ℕ) → same x y ≡ true → x ≡ y
+unfolding same
+same-eq [] [] h = refl
+same-eq [] (d ∷ ds) h = absurd (true-false (sym h))
+same-eq (c ∷ cs) [] h = absurd (true-false (sym h))
+same-eq (c ∷ cs) (d ∷ ds) h = go (eqb c d) refl h (λ g. same-eq cs ds g)
+  where
+    go : (b : Bool) → eqb c d ≡ b → both b (same cs ds) ≡ true → (same cs ds ≡ true → cs ≡ ds) → c ∷ cs ≡ d ∷ ds
+    go true q g ih = let e = eqb-true c d q in let f = ih g in cc
+    go false q g ih = absurd (true-false (sym g))
+
+-- a test passes at each number from m up to m + n
+abbrev passes : (ℕ → Bool) → ℕ → ℕ → Bool
+passes f m zero = true
+passes f m (suc n) = both (f m) (passes f (suc m) n)
+
+passes-at : (f : ℕ → Bool) (m n k : ℕ) → passes f m n ≡ true → m ≤ k → k < m + n → f k ≡ true
+passes-at f m zero k p l h = absurd (omega arith)
+passes-at f m (suc n) k p l h = go (f m) refl (eqb k m) refl p (λ a b. passes-at f (suc m) n k a b (omega arith))
+  where
+    go : (c : Bool) → f m ≡ c → (b : Bool) → eqb k m ≡ b → both c (passes f (suc m) n) ≡ true → (passes f (suc m) n ≡ true → suc m ≤ k → f k ≡ true) → f k ≡ true
+    go false e b q p ih = absurd (true-false (sym p))
+    go true e true q p ih = rw (eqb-true k m q) e
+    go true e false q p ih = let g : k ≡ m → ⊥ = eqb-false k m q in ih p (omega arith)
+
+abbrev pub marks : List ℕ
+marks =
+    35 ∷ 44 ∷ 40 ∷ 41 ∷ 91 ∷ 93 ∷ 123 ∷ 125 ∷ 58 ∷ 43 ∷ 45 ∷ 42 ∷ 47 ∷ 92 ∷ 38 ∷ 33 ∷ 124 ∷ 94 ∷ 126 ∷ 60 ∷ 62 ∷ []
+
+abbrev words : List (List ℕ)
+words = map bytes signs
+
+spelled-word : (ws : List String) (n : ℕ) (x : List ℕ) → n < length ws → spelledAs ws n x ≡ same x (getD (map bytes ws) n [])
+unfolding spelledAs
+spelled-word [] n x h = absurd (omega arith)
+spelled-word (w ∷ ws) zero x h = refl
+spelled-word (w ∷ ws) (suc n) x h = spelled-word ws n x (omega arith)
+
+spelled-any : (ws : List String) (n : ℕ) (x : List ℕ) → length ws ≤ n → spelledAs ws n x ≡ true
+unfolding spelledAs
+spelled-any [] n x h = refl
+spelled-any (w ∷ ws) zero x h = absurd (omega arith)
+spelled-any (w ∷ ws) (suc n) x h = spelled-any ws n x (omega arith)
+
+word-once : (n : ℕ) → n < 19 → getD words n [] ≡ getD marks n 0 ∷ []
+unfolding same
+word-once n h = same-eq _ _ (passes-at (λ k. same (getD words k []) (getD marks k 0 ∷ [])) 0 19 n refl (omega arith) (omega arith))
+
+word-twice : (n : ℕ) → 19 ≤ n → n < 21 → getD words n [] ≡ getD marks n 0 ∷ getD marks n 0 ∷ []
+unfolding same
+word-twice n l h = same-eq _ _ (passes-at (λ k. same (getD words k []) (getD marks k 0 ∷ getD marks k 0 ∷ [])) 19 2 n refl l (omega arith))
+
+module _ (x : List ℕ) (n : ℕ) where
+  pub sign-any : 21 ≤ n → spelledAs signs n x ≡ true
+  sign-any h = spelled-any signs n x h
+
+  pub sign-once : n < 19 → spelledAs signs n x ≡ same x (getD marks n 0 ∷ [])
+  sign-once h = spelled-word signs n x (omega arith) ∙ ap (same x) (word-once n h)
+
+  pub sign-twice : 19 ≤ n → n < 21 → spelledAs signs n x ≡ same x (getD marks n 0 ∷ getD marks n 0 ∷ [])
+  sign-twice l h = spelled-word signs n x h ∙ ap (same x) (word-twice n l h)
+
+-- ---- a number's prefix
+
+pub prefixed-none : (base : ℕ) (x : List ℕ) → base ≡ 0 → prefixed base x ≡ true
+unfolding prefixed
+prefixed-none base [] h = eq-eqb base 0 h
+prefixed-none base (c ∷ cs) h = rw (eq-eqb base 0 h)
+
+module _ (base : ℕ) (n : base ≡ 0 → ⊥) where
+  pub prefixed-empty : (x : List ℕ) → length x ≡ 0 → prefixed base x ≡ false
+  unfolding prefixed
+  prefixed-empty [] h = ne-eqb base 0 n
+  prefixed-empty (c ∷ cs) h = absurd (omega arith)
+
+  pub prefixed-first : (x : List ℕ) → (length x ≡ 0 → ⊥) → prefixed base x ≡ eqb (getD x 0 0) (pick (eqb base 1) 36 (pick (eqb base 2) 37 64))
+  unfolding prefixed
+  prefixed-first [] h = absurd (h refl)
+  prefixed-first (c ∷ cs) h = rw (ne-eqb base 0 n)
+
+-- ---- the tokens
+
+module _ (T : List ℕ) (i : ℕ) where
+  pub token-below : (t : Token) → tokenAt T i ≡ Is t → (i < count T) × (tokenFrom T i ≡ t)
+  unfolding tokenAt
+  token-below t h = go (leb (count T) i) refl h
+    where
+      go : (b : Bool) → leb (count T) i ≡ b → pick b End (Is (tokenFrom T i)) ≡ Is t → (i < count T) × (tokenFrom T i ≡ t)
+      go true q g = let z : _≡_ {A = ℕ} 0 1 = cc in absurd (omega arith)
+      go false q g = (leb-false (count T) i q, cc)
+
+  token-past : tokenAt T i ≡ End → count T ≤ i
+  unfolding tokenAt
+  token-past h = go (leb (count T) i) refl h
+    where
+      go : (b : Bool) → leb (count T) i ≡ b → pick b End (Is (tokenFrom T i)) ≡ End → count T ≤ i
+      go true q g = leb-true (count T) i q
+      go false q g = let z : _≡_ {A = ℕ} 0 1 = cc in absurd (omega arith)
+
+  four : i < count T → drop (4 * i) T ≡ getD T (4 * i) 0 ∷ getD T (4 * i + 1) 0 ∷ getD T (4 * i + 2) 0 ∷ getD T (4 * i + 3) 0 ∷ drop (4 * (i + 1)) T
+  four h =
+      from T (4 * i) (4 * i + 1) refl (omega arith)
+      ∙ ap (λ l. getD T (4 * i) 0 ∷ l) (from T (4 * i + 1) (4 * i + 2) (omega arith) (omega arith))
+      ∙ ap (λ l. getD T (4 * i) 0 ∷ getD T (4 * i + 1) 0 ∷ l) (from T (4 * i + 2) (4 * i + 3) (omega arith) (omega arith))
+      ∙ ap (λ l. getD T (4 * i) 0 ∷ getD T (4 * i + 1) 0 ∷ getD T (4 * i + 2) 0 ∷ l) (from T (4 * i + 3) (4 * (i + 1)) (omega arith) (omega arith))
+
+module _ (L : List ℕ) (p : ℕ) where
+  -- fewer than four bytes are no token
+  few : (x : List ℕ) → length x < 4 → goodTokens L p x ≡ true
+  unfolding goodTokens
+  few [] h = refl
+  few (k ∷ []) h = refl
+  few (k ∷ d ∷ []) h = refl
+  few (k ∷ d ∷ s ∷ []) h = refl
+  few (k ∷ d ∷ s ∷ e ∷ ts) h = absurd (omega arith)
+
+  module _ (T : List ℕ) (i : ℕ) where
+    pub tokens-end : tokenAt T i ≡ End → goodTokens L p (drop (4 * i) T) ≡ true
+    tokens-end h = few (drop (4 * i) T) (simp length-drop (omega (arith, token-past T i h)))
+
+    tokens-from : i < count T → goodTokens L p (drop (4 * i) T) ≡ both (goodToken L p (getD T (4 * i) 0) (getD T (4 * i + 1) 0) (getD T (4 * i + 2) 0) (getD T (4 * i + 3) 0)) (goodTokens L (getD T (4 * i + 3) 0) (drop (4 * (i + 1)) T))
+    unfolding goodTokens
+    tokens-from h = rw (four T i h)
+
+    module _ (t : Token) (h : tokenAt T i ≡ Is t) (b : Bool) (e : b ≡ goodToken L p (t .kind) (t .detail) (t .start) (t .end)) where
+      tokens-at : goodTokens L p (drop (4 * i) T) ≡ both b (goodTokens L (t .end) (drop (4 * (i + 1)) T))
+      tokens-at = let w = token-below T i t h in tokens-from (w .0) ∙ rw (e, ← w .1)
+
+      pub tokens-on : b ≡ true → goodTokens L p (drop (4 * i) T) ≡ goodTokens L (t .end) (drop (4 * (i + 1)) T)
+      tokens-on g = tokens-at ∙ rw g
+
+      pub tokens-not : b ≡ false → goodTokens L p (drop (4 * i) T) ≡ false
+      tokens-not g = tokens-at ∙ rw g
+
+-- ---- the free records
+
+-- two comparisons that say the same
+pub as-less : (m u n k : ℕ) → (m < u → n < k) → (u ≤ m → k ≤ n) → ltb m u ≡ ltb n k
+as-less m u n k f g = go (ltb m u) refl
+  where
+    go : (b : Bool) → ltb m u ≡ b → b ≡ ltb n k
+    go true q = sym (lt-ltb n k (f (ltb-true m u q)))
+    go false q = sym (le-ltb n k (g (ltb-false m u q)))
+
+-- ---- the number
+
+module _ (L T : List ℕ) (start nodes diagnostics used : ℕ) where
+  -- the conditions, of what the code is given
+  abbrev tests : List Bool
+  tests =
+      ltb 255 (length L)
+      ∷ foreign L
+      ∷ either (not (eqb (length T % 4) 0)) (ltb 255 (count T))
+      ∷ not (goodTokens L 0 T)
+      ∷ ltb (count T) start
+      ∷ ltb nodes nodeBytes
+      ∷ ltb (diagnostics / 10) (used + freeRecords)
+      ∷ []
+
+  -- the number that the tests give is that of every input with these parts
+  pub numbered : (r : ℕ) → r ≡ firstOf 1 tests → (a : Input) → a .line ≡ L → a .tokens ≡ T → a .start ≡ start → length (a .nodes) ≡ nodes → length (a .diagnostics) ≡ diagnostics → a .used ≡ used → r ≡ refusal a
+  unfolding refusal conditions
+  numbered r e a l t s n d u = e ∙ rw (l, t, s, n, d, u)

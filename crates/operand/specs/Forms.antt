@@ -1,0 +1,137 @@
+-- The code's values (forms.rt) for those of the definition: a tree is the number of its root's node.
+-- Assumes nothing.
+use mathlib.Core.Path.{_≡_, refl}
+use mathlib.Core.Bool.{Bool, true, false}
+use mathlib.Core.List.{List, [], _∷_, _++_}
+use Prim.Native.Nat.{ℕ, _+_, _-_}
+use Rattle.expressions.specs.Trees.{size}
+use Rattle.expressions.specs.Expressions.{Suffix, suffixed, bare}
+use Rattle.expressions.specs.Records.{absent}
+use Rattle.expressions.specs.declared.records.Span.{Span}
+use Rattle.operand.specs.Operands.{Displacement, displaced, undisplaced, Operand, Maybe, some, none}
+use Rattle.operand.specs.Operands as O
+use Rattle.operand.specs.Records.{flag, spanned, sizeD, displacementPart, basePart, indexPart, operandRecord}
+use Rattle.operand.specs.Mask.{mask, maskO}
+use Rattle.operand.specs.declared.forms.Register.{Register}
+use Rattle.operand.specs.declared.forms.IndexRegister.{IndexRegister}
+use Rattle.operand.specs.declared.forms.BaseRegister.{BaseRegister}
+use Rattle.operand.specs.declared.forms.Index.{Index}
+use Rattle.operand.specs.declared.forms.Registers.{Registers}
+use Rattle.operand.specs.declared.forms.Sized.{Sized}
+use Rattle.operand.specs.declared.forms.SizedDisplacement.{SizedDisplacement}
+use Rattle.operand.specs.declared.forms.OperandRecord.{OperandRecord}
+use Rattle.operand.specs.declared.forms.OperandRead.{OperandRead}
+use Rattle.operand.specs.declared.forms.IndexRead.{IndexRead}
+use Rattle.operand.specs.declared.forms.RegistersRead.{RegistersRead}
+use Rattle.operand.specs.declared.forms.DisplacementRead.{DisplacementRead}
+use Rattle.operand.specs.declared.forms.Close.{Close}
+use Rattle.operand.specs.declared.forms.SuffixRead.{SuffixRead}
+
+-- a displacement whose tree begins at node b
+unfoldable pub sizedOf : ℕ → Displacement → SizedDisplacement
+sizedOf b (displaced e n) = SizedDisplacement.Is (record { node = b + size e - 1; size = n })
+sizedOf b undisplaced = SizedDisplacement.Not
+
+-- ---- an operand
+
+-- one without an indirection
+abbrev pub formOf : ℕ → Span → SizedDisplacement → BaseRegister → Index → OperandRecord
+formOf form s d base x =
+    record { form = form; span = s; displacement = d; base = base; index = x; indirection = 0; outer = SizedDisplacement.Not; special = 0; mask = 0 }
+
+-- the displacement's tree begins at node 0, the outer one's behind it
+unfoldable pub recordOf : Operand → OperandRecord
+recordOf (O.immediate e l s) =
+    record { form = 1; span = s; displacement = sizedOf 0 (displaced e 0); base = BaseRegister.Omitted; index = Index.Unindexed; indirection = 0; outer = SizedDisplacement.Not; special = flag l; mask = 0 }
+recordOf (O.dataRegisterDirect r s) = formOf 2 s SizedDisplacement.Not (BaseRegister.Address r) Index.Unindexed
+recordOf (O.addressRegisterDirect r s) = formOf 3 s SizedDisplacement.Not (BaseRegister.Address r) Index.Unindexed
+recordOf (O.specialRegister n s) =
+    record { form = 4; span = s; displacement = SizedDisplacement.Not; base = BaseRegister.Omitted; index = Index.Unindexed; indirection = 0; outer = SizedDisplacement.Not; special = n; mask = 0 }
+recordOf (O.indirect r s) = formOf 5 s SizedDisplacement.Not (BaseRegister.Address r) Index.Unindexed
+recordOf (O.postincrement r s) = formOf 6 s SizedDisplacement.Not (BaseRegister.Address r) Index.Unindexed
+recordOf (O.predecrement r s) = formOf 7 s SizedDisplacement.Not (BaseRegister.Address r) Index.Unindexed
+recordOf (O.displacement e r s) = formOf 8 s (sizedOf 0 (displaced e 0)) (BaseRegister.Address r) Index.Unindexed
+recordOf (O.index d r x s) = formOf 9 s (sizedOf 0 d) (BaseRegister.Address r) (Index.Indexed x)
+recordOf (O.pcDisplacement e s) = formOf 10 s (sizedOf 0 (displaced e 0)) BaseRegister.ProgramCounter Index.Unindexed
+recordOf (O.pcIndex d x s) = formOf 11 s (sizedOf 0 d) BaseRegister.ProgramCounter (Index.Indexed x)
+recordOf (O.fullIndex d b x n e s) =
+    record { form = 12; span = s; displacement = sizedOf 0 d; base = b; index = x; indirection = n; outer = sizedOf (sizeD d) e; special = 0; mask = 0 }
+recordOf (O.absolute e n s) = formOf 13 s (sizedOf 0 (displaced e n)) BaseRegister.Omitted Index.Unindexed
+recordOf (O.registerList items s) =
+    record { form = 14; span = s; displacement = SizedDisplacement.Is (record { node = 0; size = 0 }); base = BaseRegister.Omitted; index = Index.Unindexed; indirection = 0; outer = SizedDisplacement.Not; special = 0; mask = mask items }
+
+-- ---- document 01's twenty bytes
+
+unfoldable pub sizedPart : SizedDisplacement → List ℕ
+sizedPart (SizedDisplacement.Is d) = d .node ∷ d .size ∷ []
+sizedPart SizedDisplacement.Not = absent ∷ 0 ∷ []
+
+unfoldable pub bytesOf : OperandRecord → List ℕ
+bytesOf r =
+    spanned (r .form) (r .span)
+    ++ (sizedPart (r .displacement) ++ (basePart (r .base) ++ (indexPart (r .index) ++ (r .indirection ∷ sizedPart (r .outer) ++ (r .special ∷ [])))))
+
+part : (b : ℕ) (d : Displacement) → sizedPart (sizedOf b d) ≡ displacementPart b d
+unfolding sizedPart sizedOf displacementPart
+part b (displaced e n) = refl
+part b undisplaced = refl
+
+pub bytes-record : (x : Operand) → bytesOf (recordOf x) ≡ operandRecord x
+unfolding bytesOf recordOf operandRecord sizedOf sizedPart displacementPart
+bytes-record (O.immediate e l s) = refl
+bytes-record (O.dataRegisterDirect r s) = refl
+bytes-record (O.addressRegisterDirect r s) = refl
+bytes-record (O.specialRegister n s) = refl
+bytes-record (O.indirect r s) = refl
+bytes-record (O.postincrement r s) = refl
+bytes-record (O.predecrement r s) = refl
+bytes-record (O.displacement e r s) = refl
+bytes-record (O.index d r x s) = rw (part 0 d)
+bytes-record (O.pcDisplacement e s) = refl
+bytes-record (O.pcIndex d x s) = rw (part 0 d)
+bytes-record (O.fullIndex d b x n e s) = rw (part 0 d, part (sizeD d) e)
+bytes-record (O.absolute e n s) = refl
+bytes-record (O.registerList items s) = refl
+
+pub mask-record : (x : Operand) → recordOf x .mask ≡ maskO x
+unfolding recordOf maskO
+mask-record (O.immediate e l s) = refl
+mask-record (O.dataRegisterDirect r s) = refl
+mask-record (O.addressRegisterDirect r s) = refl
+mask-record (O.specialRegister n s) = refl
+mask-record (O.indirect r s) = refl
+mask-record (O.postincrement r s) = refl
+mask-record (O.predecrement r s) = refl
+mask-record (O.displacement e r s) = refl
+mask-record (O.index d r x s) = refl
+mask-record (O.pcDisplacement e s) = refl
+mask-record (O.pcIndex d x s) = refl
+mask-record (O.fullIndex d b x n e s) = refl
+mask-record (O.absolute e n s) = refl
+mask-record (O.registerList items s) = refl
+
+-- ---- what the functions answer
+
+unfoldable pub operandRead : Maybe Operand → OperandRead
+operandRead (some x) = OperandRead.Is (recordOf x)
+operandRead none = OperandRead.Not
+
+unfoldable pub indexRead : Maybe IndexRegister → IndexRead
+indexRead (some x) = IndexRead.Is x
+indexRead none = IndexRead.Not
+
+unfoldable pub registersRead : Maybe Registers → RegistersRead
+registersRead (some x) = RegistersRead.Is x
+registersRead none = RegistersRead.Not
+
+unfoldable pub displacementRead : ℕ → Maybe Displacement → DisplacementRead
+displacementRead b (some d) = DisplacementRead.Is (sizedOf b d)
+displacementRead b none = DisplacementRead.Not
+
+unfoldable pub closeRead : Maybe ℕ → Close
+closeRead (some e) = Close.Is e
+closeRead none = Close.Not
+
+unfoldable pub suffixRead : Suffix → SuffixRead
+suffixRead (suffixed n s) = SuffixRead.Is (record { size = n; span = s })
+suffixRead bare = SuffixRead.Not

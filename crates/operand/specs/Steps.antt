@@ -1,0 +1,81 @@
+-- What the functions ask and tell: the answer, the counters and the diagnostics, by the reading that the definition gives.
+-- Assumes nothing.
+use mathlib.Core.Path.{_≡_}
+use mathlib.Core.List.{List, [], _++_}
+use Prim.Native.Nat.{ℕ, _+_, _*_, _≤_, _<_}
+use lib.ListN.{length, take, drop}
+use Rattle.names.specs.Kinds
+use Rattle.names.specs.Tokens.{count, tokenAt}
+use Rattle.names.specs.Places.{place}
+use Rattle.names.specs.declared.tokens.Token.{Token}
+use Rattle.names.specs.declared.tokens.Peeked.the-variants as peeked
+use Rattle.expressions.specs.declared.records.Diagnostic.{Diagnostic}
+use Rattle.expressions.specs.declared.terms.Counters.{Counters}
+use Rattle.expressions.specs.Diagnostics.{diagnosticRecord}
+use Rattle.expressions.specs.Reader.{Reading, Reader, run}
+use Rattle.expressions.specs.Stores.{written, nodeBytes, added}
+use Rattle.expressions.specs.Terms.{stepped}
+use Rattle.operand.specs.Operands.{Displacement, Operand, Maybe, some, none}
+use Rattle.operand.specs.Records.{sizeD, nodesD, sizeO, nodesO}
+use Rattle.operand.specs.Forms.{sizedOf, operandRead}
+use Rattle.operand.specs.declared.forms.SizedDisplacement.{SizedDisplacement}
+use Rattle.operand.specs.declared.forms.OperandStep.{OperandStep}
+
+-- ---- what they ask
+
+-- a diagnostic for each token that is left, and one more. The run of a size suffix begins behind its first byte, which is a place of the line
+pub record Room (T D : List ℕ) (c : Counters) : Type 0 where
+  pub few : count T ≤ 255
+  pub within : c .at ≤ count T
+  pub room : 10 * c .diagnostics + 10 * count T + 10 ≤ length D + 10 * c .at
+  pub suffixes : (i : ℕ) (t : Token) → tokenAt T i ≡ peeked.Is t → t .kind ≡ Kinds.sizeSuffix → t .start < 255
+
+-- ---- what they tell
+
+-- the diagnostic x behind those that count; nothing else moves
+pub record Raised (D D′ : List ℕ) (c : Counters) (x : Diagnostic) (r : Counters) : Type 0 where
+  pub counters : r ≡ record { at = c .at; end = c .end; nodes = c .nodes; diagnostics = c .diagnostics + 1 }
+  pub more : D′ ≡ written D (10 * c .diagnostics) (diagnosticRecord x)
+
+-- the same, behind whatever stands at the cursor. x: by where the last token ended
+pub data RaisedOver (T D D′ : List ℕ) (c : Counters) (x : ℕ → Diagnostic) (r : Counters) : Type 0 where
+  over : (t : Token) → tokenAt T (c .at) ≡ peeked.Is t → Raised D D′ (stepped c t) (x (t .end)) r → RaisedOver T D D′ c x r
+  ended : tokenAt T (c .at) ≡ peeked.End → Raised D D′ c (x (c .end)) r → RaisedOver T D D′ c x r
+
+-- The answer v, the counters r and the diagnostics D′ are what the reader p says, from the counters c on.
+-- f: the code's value for the definition's. Q: what else holds of the answer, as of the nodes
+pub record Told {A B : Type 0} (f : A → B) (Q : A → Counters → Type 0) (p : Reader A) (L T D D′ : List ℕ) (c : Counters) (v : B) (r : Counters) : Type 0 where
+  pub what : v ≡ f (run p (place L T) (c .at) (c .end) .value)
+  pub at : r .at ≡ run p (place L T) (c .at) (c .end) .cursor
+  pub end : r .end ≡ run p (place L T) (c .at) (c .end) .end
+  pub seen : r .diagnostics ≡ c .diagnostics + length (run p (place L T) (c .at) (c .end) .raised)
+  pub more : D′ ≡ added D (c .diagnostics) (run p (place L T) (c .at) (c .end) .raised)
+  pub held : Q (run p (place L T) (c .at) (c .end) .value) r
+
+-- no node is written
+abbrev pub Same : {A : Type 0} → Counters → A → Counters → Type 0
+Same c a r = r .nodes ≡ c .nodes
+
+-- ---- operands
+
+-- the nodes of an operand are n records, of these bytes
+unfoldable pub HeldBy : List ℕ → ℕ → Maybe Operand → Type 0
+HeldBy b n (some x) = (nodesO x ≡ b) × (sizeO x ≡ n)
+HeldBy b n none = Unit {0}
+
+-- the operand's nodes are those of its displacement, whose tree stands there
+abbrev pub Kept : Counters → Displacement → Maybe Operand → Counters → Type 0
+Kept c y x r = (r .nodes ≡ c .nodes) × HeldBy (nodesD 0 y) (sizeD y) x
+
+-- a reader behind a displacement d that begins at node 0
+pub record TailTold (p : Displacement → Reader (Maybe Operand)) (L T D D′ : List ℕ) (c : Counters) (d : SizedDisplacement) (r : OperandStep) : Type 0 where
+  pub told : (y : Displacement) → sizedOf 0 y ≡ d → Told operandRead (Kept c y) (p y) L T D D′ c (r .operand) (r .counters)
+
+-- the operand's nodes are the records that count
+abbrev pub Stored : List ℕ → Maybe Operand → Counters → Type 0
+Stored N′ x r = HeldBy (take (14 * r .nodes) N′) (r .nodes) x
+
+-- a reader of an operand, from no node on
+pub record OperandTold (p : Reader (Maybe Operand)) (L T N D N′ D′ : List ℕ) (c : Counters) (r : OperandStep) : Type 0 where
+  pub told : Told operandRead (Stored N′) p L T D D′ c (r .operand) (r .counters)
+  pub past : drop nodeBytes N′ ≡ drop nodeBytes N

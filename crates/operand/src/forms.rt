@@ -1,0 +1,187 @@
+// Operands as the Rust has them. An expression is the number of its root's node.
+use expressions::Counters;
+use expressions::Span;
+ghost use mathlib.Core.Path.{_≡_};
+ghost use Rattle.operand.specs.Forms.{formOf};
+ghost use Rattle.operand.specs.declared.forms.Index.{Index};
+ghost use Rattle.operand.specs.declared.forms.OperandRead.{OperandRead};
+
+// A register by its mask index, and the span of its token.
+pub struct Register {
+    pub index: u8,
+    pub span: Span,
+}
+
+// Size 1 to 4 and scale 1, 2, 4 or 8, 0 for none; the last span is that of `d1.w*4`.
+pub struct IndexRegister {
+    pub register: Register,
+    pub size: u8,
+    pub scale: u8,
+    pub suppressed: bool,
+    pub span: Span,
+}
+
+// A suppressed address register is its number, 0 to 7.
+pub enum BaseRegister {
+    Address(Register),
+    ProgramCounter,
+    SuppressedAddress(u8),
+    SuppressedProgramCounter,
+    Omitted,
+}
+
+pub enum Index {
+    Indexed(IndexRegister),
+    Unindexed,
+}
+
+// The base and the index of a full index.
+pub struct Registers {
+    pub base: BaseRegister,
+    pub index: Index,
+}
+
+// An expression and its size, 0 for none.
+pub struct Sized {
+    pub node: u8,
+    pub size: u8,
+}
+
+pub enum SizedDisplacement {
+    Is(Sized),
+    Not,
+}
+
+// The fields of document 01's record, and the mask of a register list.
+pub struct OperandRecord {
+    pub form: u8,
+    pub span: Span,
+    pub displacement: SizedDisplacement,
+    pub base: BaseRegister,
+    pub index: Index,
+    pub indirection: u8,
+    pub outer: SizedDisplacement,
+    pub special: u8,
+    pub mask: u16,
+}
+
+// ---- what the functions answer, each with the counters behind it
+
+pub enum OperandRead {
+    Is(OperandRecord),
+    Not,
+}
+
+pub struct OperandStep {
+    pub operand: OperandRead,
+    pub counters: Counters,
+}
+
+pub enum IndexRead {
+    Is(IndexRegister),
+    Not,
+}
+
+pub struct IndexStep {
+    pub index: IndexRead,
+    pub counters: Counters,
+}
+
+pub enum RegistersRead {
+    Is(Registers),
+    Not,
+}
+
+pub struct RegistersStep {
+    pub registers: RegistersRead,
+    pub counters: Counters,
+}
+
+pub enum DisplacementRead {
+    Is(SizedDisplacement),
+    Not,
+}
+
+pub struct DisplacementStep {
+    pub displacement: DisplacementRead,
+    pub counters: Counters,
+}
+
+// The end of a parenthesis.
+pub enum Close {
+    Is(u8),
+    Not,
+}
+
+pub struct CloseStep {
+    pub close: Close,
+    pub counters: Counters,
+}
+
+// A size suffix: its size, 0 for one that is not known, and its span.
+pub struct Suffixed {
+    pub size: u8,
+    pub span: Span,
+}
+
+pub enum SuffixRead {
+    Is(Suffixed),
+    Not,
+}
+
+pub struct SuffixStep {
+    pub suffix: SuffixRead,
+    pub counters: Counters,
+}
+
+// An operand without an index or an outer displacement.
+pub(crate) fn plain_operand(
+    form: u8,
+    span: Span,
+    displacement: SizedDisplacement,
+    base: BaseRegister,
+) -> OperandRecord
+    ensures { λ r. ⌜ r ≡ formOf form span displacement base Index.Unindexed ⌝ }
+{
+    indexed(form, span, displacement, base, Index::Unindexed)
+}
+
+pub(crate) fn indexed(
+    form: u8,
+    span: Span,
+    displacement: SizedDisplacement,
+    base: BaseRegister,
+    index: Index,
+) -> OperandRecord
+    ensures { λ r. ⌜ r ≡ formOf form span displacement base index ⌝ }
+{
+    OperandRecord {
+        form: form,
+        span: span,
+        displacement: displacement,
+        base: base,
+        index: index,
+        indirection: 0,
+        outer: SizedDisplacement::Not,
+        special: 0,
+        mask: 0,
+    }
+}
+
+pub(crate) fn no_operand(c: Counters) -> OperandStep
+    ensures { λ r. ⌜ (r .operand ≡ OperandRead.Not) × (r .counters ≡ c) ⌝ }
+{
+    OperandStep {
+        operand: OperandRead::Not,
+        counters: c,
+    }
+}
+
+pub(crate) fn an_operand(operand: OperandRecord, c: Counters) -> OperandStep
+    ensures { λ r. ⌜ (r .operand ≡ OperandRead.Is operand) × (r .counters ≡ c) ⌝ }
+{
+    OperandStep {
+        operand: OperandRead::Is(operand),
+        counters: c,
+    }
+}
