@@ -13,12 +13,15 @@ use Rattle.names.specs.declared.tokens.Token.{Token}
 use Rattle.names.specs.declared.tokens.Peeked.the-variants as peeked
 use Rattle.expressions.specs.declared.records.Diagnostic.{Diagnostic}
 use Rattle.expressions.specs.declared.terms.Counters.{Counters}
-use Rattle.expressions.specs.Diagnostics.{diagnosticRecord}
+use Rattle.expressions.specs.Diagnostics.{diagnosticRecord, malformedOperand, malformedOpen}
 use Rattle.expressions.specs.Laws.{holds, met-one, met-yes, met-no}
 use Rattle.expressions.specs.Reader.{Test, Reading, reading, after, Reader, answer, here, raise, bump, peek, _>>=_, choose, run}
 use Rattle.expressions.specs.Stores.{written, added, PushTold}
 use Rattle.expressions.specs.Terms.{stepped}
-use Rattle.operand.specs.Steps.{Raised, Told}
+use Rattle.expressions.specs.Trees.{span, spanOf, noSpan}
+use Rattle.operand.specs.Steps.{Raised, RaisedOver, over, ended, Told, Same}
+use Rattle.operand.specs.Operands.{Maybe, some, none}
+use Rattle.operand.specs.Operand.{malformed, unclosed, notAnAddressRegister, steppedOver}
 
 -- ---- what stands at a place
 
@@ -68,7 +71,7 @@ raised-at {D} {D′} {r = r} x e h = subst (λ z. Raised D D′ z (x (z .end)) r
 -- ---- steps
 
 -- the same reading by another reader, from counters that count as many diagnostics
-retold : {A E : Type 0} {f : A → E} {Q : A → Counters → Type 0} {p q : Reader A} {L T D D′ : List ℕ} {c c₁ : Counters} {v : E} {r : Counters}
+pub retold : {A E : Type 0} {f : A → E} {Q : A → Counters → Type 0} {p q : Reader A} {L T D D′ : List ℕ} {c c₁ : Counters} {v : E} {r : Counters}
     → run p (place L T) (c .at) (c .end) ≡ run q (place L T) (c₁ .at) (c₁ .end) → c₁ .diagnostics ≡ c .diagnostics → Told f Q q L T D D′ c₁ v r → Told f Q p L T D D′ c v r
 retold {A} {f = f} {Q = Q} {p = p} {L = L} {T = T} {D = D} {c = c} {c₁ = c₁} {r = r} e d h = record {
   what = h .what ∙ ap (λ (s : Reading A). f (s .value)) (sym e);
@@ -78,6 +81,14 @@ retold {A} {f = f} {Q = Q} {p = p} {L = L} {T = T} {D = D} {c = c} {c₁ = c₁}
   more = h .more ∙ ap (λ (s : Reading A). added D (c₁ .diagnostics) (s .raised)) (sym e) ∙ ap (λ z. added D z (run p (place L T) (c .at) (c .end) .raised)) d;
   held = subst (λ (s : Reading A). Q (s .value) r) (sym e) (h .held);
 }
+
+-- what else holds of the answer, in other words
+pub reheld : {A E : Type 0} {f : A → E} {Q R : A → Counters → Type 0} {p : Reader A} {L T D D′ : List ℕ} {c : Counters} {v : E} {r : Counters} → ((a : A) → Q a r → R a r) → Told f Q p L T D D′ c v r → Told f R p L T D D′ c v r
+reheld g h = record { what = h .what; at = h .at; end = h .end; seen = h .seen; more = h .more; held = g _ (h .held) }
+
+-- from counters that count as many nodes
+pub same : {A E : Type 0} {f : A → E} {p : Reader A} {L T D D′ : List ℕ} {n m : ℕ} {c : Counters} {v : E} {r : Counters} → m ≡ n → Told f (Same m) p L T D D′ c v r → Told f (Same n) p L T D D′ c v r
+same e h = reheld (λ a q. q ∙ e) h
 
 -- the answer
 pub answered : {A E : Type 0} {f : A → E} {Q : A → Counters → Type 0} {L T D : List ℕ} {c : Counters} {a : A} {v : E} {r : Counters} → v ≡ f a → r ≡ c → Q a c → Told f Q (answer a) L T D D c v r
@@ -130,6 +141,11 @@ bound {A} {B} {f = f} {Q = Q} {L = L} {T = T} {D = D} {D₁ = D₁} {p = p} {q =
           ∙ rw (h .more, h .seen) (sym (added-append D (c .diagnostics) (s .raised) (run (q (s .value)) (place L T) (s .cursor) (s .end) .raised)));
       held = subst (λ (z : Reading A). Q (z .value) r) u (k .held);
     }
+
+-- one reader after the other, whose answer the code has as it is
+pub bound-as : {A B E : Type 0} {f : A → E} {Q : A → Counters → Type 0} {R : B → Counters → Type 0} {L T D D₁ D₂ : List ℕ} {p : Reader B} {q : B → Reader A} {c c₁ : Counters} {v : E} {r : Counters} {a : B}
+    → Told (λ z. z) R p L T D D₁ c a c₁ → Told f Q (q a) L T D₁ D₂ c₁ v r → Told f Q (p >>= q) L T D D₂ c v r
+bound-as h k = bound h (sym (h .what)) k
 
 -- ---- tests at the cursor and ahead of it
 
@@ -187,6 +203,12 @@ module _ {A E : Type 0} {f : A → E} {Q : A → Counters → Type 0} {L T D D�
       go true e = passed e g
       go false e = unseen e h
 
+-- a token is stepped over, and no node is written
+pub hit-same : {A E : Type 0} {f : A → E} {L T D D′ : List ℕ} {c : Counters} {v : E} {r : Counters} {t : Test} {y : Token → List ℕ → Reader A} {n : Unit {0} → Reader A} {k : Token} {c₁ : Counters}
+    → tokenAt T (c .at) ≡ peeked.Is k → t k (textOf L (k .start) (k .end)) ≡ true → c₁ ≡ stepped c k
+    → Told f (Same (c₁ .nodes)) (y k (textOf L (k .start) (k .end))) L T D D′ c₁ v r → Told f (Same (c .nodes)) (bump t y n) L T D D′ c v r
+hit-same h q e g = hit h q e (same (ap (λ z. z .nodes) e) g)
+
 -- ---- choices
 
 pub chosen : {A E : Type 0} {f : A → E} {Q : A → Counters → Type 0} {L T D D′ : List ℕ} {c : Counters} {v : E} {r : Counters} (b : Bool) {p : Reader A} (q : Reader A) → b ≡ true → Told f Q p L T D D′ c v r → Told f Q (choose b p q) L T D D′ c v r
@@ -196,3 +218,39 @@ chosen false q e h = let z : _≡_ {A = ℕ} 0 1 = cc in absurd (omega arith)
 pub unchosen : {A E : Type 0} {f : A → E} {Q : A → Counters → Type 0} {L T D D′ : List ℕ} {c : Counters} {v : E} {r : Counters} (b : Bool) (p : Reader A) {q : Reader A} → b ≡ false → Told f Q q L T D D′ c v r → Told f Q (choose b p q) L T D D′ c v r
 unchosen true p e h = let z : _≡_ {A = ℕ} 0 1 = cc in absurd (omega arith)
 unchosen false p e h = h
+
+-- ---- a reader that fails
+
+-- a diagnostic, and no answer
+pub failed : {A E : Type 0} {f : Maybe A → E} {Q : Maybe A → Counters → Type 0} {L T D D′ : List ℕ} {x : Diagnostic} {c m : Counters} {v : E} {r : Counters}
+    → Raised D D′ c x m → v ≡ f none → r ≡ m → Q none m → Told f Q (raise x (answer none)) L T D D′ c v r
+failed h w e q = raised h (answered w e q)
+
+pub failed-malformed : {A E : Type 0} {f : Maybe A → E} {Q : Maybe A → Counters → Type 0} (o shape problem : ℕ) {L T D D′ : List ℕ} {c m : Counters} {v : E} {r : Counters}
+    → Raised D D′ c (malformedOperand shape problem (span o (c .end)) noSpan) m → v ≡ f none → r ≡ m → Q none m → Told f Q (malformed o shape problem) L T D D′ c v r
+unfolding malformed
+failed-malformed o shape problem h w e q = hereby (failed h w e q)
+
+pub failed-unclosed : {A E : Type 0} {f : Maybe A → E} {Q : Maybe A → Counters → Type 0} (o : ℕ) (k : Token) (shape problem : ℕ) {L T D D′ : List ℕ} {c m : Counters} {v : E} {r : Counters}
+    → Raised D D′ c (malformedOpen shape problem (span o (c .end)) (spanOf k)) m → v ≡ f none → r ≡ m → Q none m → Told f Q (unclosed o k shape problem) L T D D′ c v r
+unfolding unclosed
+failed-unclosed o k shape problem h w e q = hereby (failed h w e q)
+
+pub failed-register : {A E : Type 0} {f : Maybe A → E} {Q : Maybe A → Counters → Type 0} (o shape : ℕ) (k : Token) {L T D D′ : List ℕ} {c m : Counters} {v : E} {r : Counters}
+    → Raised D D′ c (malformedOperand shape 2 (span o (c .end)) (spanOf k)) m → v ≡ f none → r ≡ m → Q none m → Told f Q (notAnAddressRegister o shape k) L T D D′ c v r
+unfolding notAnAddressRegister
+failed-register o shape k h w e q = hereby (failed h w e q)
+
+pub failed-over : {A E : Type 0} {f : Maybe A → E} {Q : Maybe A → Counters → Type 0} (o shape problem : ℕ) {L T D D′ : List ℕ} {c m : Counters} {v : E} {r : Counters}
+    → RaisedOver T D D′ c (λ l. malformedOperand shape problem (span o l) noSpan) m → v ≡ f none → r ≡ m → Q none m → Told f Q (steppedOver o shape problem) L T D D′ c v r
+unfolding steppedOver
+failed-over o shape problem (over t e h) w u q = hit e refl refl (failed-malformed o shape problem h w u q)
+failed-over o shape problem (ended e h) w u q = done e (failed-malformed o shape problem h w u q)
+
+-- a failed reader has written no node
+pub raised-same : {D D′ : List ℕ} {c : Counters} {x : Diagnostic} {r : Counters} → Raised D D′ c x r → r .nodes ≡ c .nodes
+raised-same h = ap (λ z. z .nodes) (h .counters)
+
+pub over-same : {T D D′ : List ℕ} {c : Counters} {x : ℕ → Diagnostic} {r : Counters} → RaisedOver T D D′ c x r → r .nodes ≡ c .nodes
+over-same (over t e h) = ap (λ z. z .nodes) (h .counters)
+over-same (ended e h) = ap (λ z. z .nodes) (h .counters)

@@ -169,7 +169,7 @@ module _ (at : ℕ → Place) (w : ℕ) (clean : Clean at w) where
     ];
   }
 
-  index-cost : (z : Setting) (o shape i l d r : ℕ) → Law (Operand.parseIndexRegister z o shape) at (Left nil 1 0 0 i d r) i l d r
+  pub index-cost : (z : Setting) (o shape i l d r : ℕ) → Law (Operand.parseIndexRegister z o shape) at (Left nil 1 0 0 i d r) i l d r
   unfolding All Operand.parseIndexRegister
   index-cost z o shape i l d r = record {
     all = (

@@ -6,6 +6,8 @@ pub mod Mask
 pub mod Entry
 pub mod Forms
 pub mod Steps
+pub mod Tests
+pub mod Items
 pub mod Costs
 pub mod Readings
 pub mod Fuel

@@ -204,11 +204,15 @@ withScale x v e = record { register = x .register; size = x .size; scale = v; su
 unfoldable pub scaled : ℕ → ℕ → IndexRegister → Token → ℕ → Reader (Maybe IndexRegister)
 scaled o shape x k v = choose (scaleOf v) (answer (some (withScale x v (k .end)))) (malformed o shape 7)
 
+-- behind the number of a scale
+abbrev pub scaleValue : ℕ → ℕ → IndexRegister → Token → List ℕ → Reader (Maybe IndexRegister)
+scaleValue o shape x k z = valued k (numberOf (k .detail) z) >>= scaled o shape x k
+
 unfoldable pub indexScale : ℕ → ℕ → IndexRegister → Reader (Maybe IndexRegister)
 indexScale o shape x =
     bump (is Kinds.star)
     (λ star y.
-    bump (is Kinds.number) (λ k z. valued k (numberOf (k .detail) z) >>= scaled o shape x k) λ u.
+    bump (is Kinds.number) (λ k z. scaleValue o shape x k z) λ u.
     steppedOver o shape 7) λ u.
     answer (some x)
 

@@ -12,12 +12,19 @@ use Rattle.names.specs.declared.tokens.Peeked.the-variants as peeked
 use Rattle.expressions.specs.declared.records.Diagnostic.{Diagnostic}
 use Rattle.expressions.specs.declared.terms.Counters.{Counters}
 use Rattle.expressions.specs.Diagnostics.{diagnosticRecord}
-use Rattle.expressions.specs.Reader.{Reading, Reader, run}
+use Rattle.expressions.specs.Reader.{Reader, run, _>>=_}
 use Rattle.expressions.specs.Stores.{written, nodeBytes, added}
 use Rattle.expressions.specs.Terms.{stepped}
 use Rattle.operand.specs.Operands.{Displacement, Operand, Maybe, some, none}
+use Rattle.operand.specs.Operand.{expectClose, indexedOperand, closedIndex, indexAlone, parseIndexRegister}
 use Rattle.operand.specs.Records.{sizeD, nodesD, sizeO, nodesO}
-use Rattle.operand.specs.Forms.{sizedOf, operandRead}
+use Rattle.operand.specs.Forms.{sizedOf, formOf, recordOf, operandRead}
+use Rattle.expressions.specs.declared.records.Span.{Span}
+use Rattle.expressions.specs.declared.reading.Setting.{Setting}
+use Rattle.operand.specs.declared.forms.IndexRegister.{IndexRegister}
+use Rattle.operand.specs.declared.forms.BaseRegister.{BaseRegister}
+use Rattle.operand.specs.declared.forms.Index.{Index}
+use Rattle.operand.specs.declared.forms.Registers.{Registers}
 use Rattle.operand.specs.declared.forms.SizedDisplacement.{SizedDisplacement}
 use Rattle.operand.specs.declared.forms.OperandStep.{OperandStep}
 
@@ -29,6 +36,12 @@ pub record Room (T D : List ℕ) (c : Counters) : Type 0 where
   pub within : c .at ≤ count T
   pub room : 10 * c .diagnostics + 10 * count T + 10 ≤ length D + 10 * c .at
   pub suffixes : (i : ℕ) (t : Token) → tokenAt T i ≡ peeked.Is t → t .kind ≡ Kinds.sizeSuffix → t .start < 255
+
+-- and a node for each token that is left
+pub record NodeRoom (T N D : List ℕ) (c : Counters) : Type 0 where
+  pub room : Room T D c
+  pub nodesFit : c .nodes + count T ≤ 255 + c .at
+  pub nodesLong : 3570 ≤ length N
 
 -- ---- what they tell
 
@@ -53,8 +66,8 @@ pub record Told {A B : Type 0} (f : A → B) (Q : A → Counters → Type 0) (p 
   pub held : Q (run p (place L T) (c .at) (c .end) .value) r
 
 -- no node is written
-abbrev pub Same : {A : Type 0} → Counters → A → Counters → Type 0
-Same c a r = r .nodes ≡ c .nodes
+abbrev pub Same : {A : Type 0} → ℕ → A → Counters → Type 0
+Same n a r = r .nodes ≡ n
 
 -- ---- operands
 
@@ -64,12 +77,36 @@ HeldBy b n (some x) = (nodesO x ≡ b) × (sizeO x ≡ n)
 HeldBy b n none = Unit {0}
 
 -- the operand's nodes are those of its displacement, whose tree stands there
-abbrev pub Kept : Counters → Displacement → Maybe Operand → Counters → Type 0
-Kept c y x r = (r .nodes ≡ c .nodes) × HeldBy (nodesD 0 y) (sizeD y) x
+abbrev pub Kept : ℕ → Displacement → Maybe Operand → Counters → Type 0
+Kept n y x r = (r .nodes ≡ n) × HeldBy (nodesD 0 y) (sizeD y) x
 
 -- a reader behind a displacement d that begins at node 0
 pub record TailTold (p : Displacement → Reader (Maybe Operand)) (L T D D′ : List ℕ) (c : Counters) (d : SizedDisplacement) (r : OperandStep) : Type 0 where
-  pub told : (y : Displacement) → sizedOf 0 y ≡ d → Told operandRead (Kept c y) (p y) L T D D′ c (r .operand) (r .counters)
+  pub told : (y : Displacement) → sizedOf 0 y ≡ d → Told operandRead (Kept (c .nodes) y) (p y) L T D D′ c (r .operand) (r .counters)
+
+-- ---- an index behind a base
+
+-- the operand that an index makes with a base, where it is not suppressed: of this form, with the displacement y
+abbrev pub Plain : ℕ → SizedDisplacement → BaseRegister → Displacement → (IndexRegister → Span → Operand) → Type 0
+Plain form d base y plain = (x : IndexRegister) (z : Span) → (recordOf (plain x z) ≡ formOf form z d base (Index.Indexed x)) × (nodesO (plain x z) ≡ nodesD 0 y) × (sizeO (plain x z) ≡ sizeD y)
+
+pub record IndexedTold (p : Displacement → (IndexRegister → Span → Operand) → Reader (Maybe Operand)) (L T D D′ : List ℕ) (c : Counters) (form : ℕ) (d : SizedDisplacement) (base : BaseRegister) (r : OperandStep) : Type 0 where
+  pub told : (y : Displacement) → sizedOf 0 y ≡ d → (plain : IndexRegister → Span → Operand) → Plain form d base y plain
+      → Told operandRead (Kept (c .nodes) y) (p y plain) L T D D′ c (r .operand) (r .counters)
+
+-- the parenthesis behind the index x
+abbrev pub closeIndex : ℕ → Token → ℕ → BaseRegister → IndexRegister → Displacement → (IndexRegister → Span → Operand) → Reader (Maybe Operand)
+closeIndex o k shape base x y plain = expectClose o k shape >>= indexedOperand o y base plain x
+
+-- an index and the parenthesis
+abbrev pub baseAndIndex : Setting → ℕ → Token → ℕ → BaseRegister → Displacement → (IndexRegister → Span → Operand) → Reader (Maybe Operand)
+baseAndIndex s o k shape base y plain = parseIndexRegister s o shape >>= closedIndex o k shape (indexedOperand o y base plain)
+
+-- an index, with this base
+abbrev pub withIndex : Setting → ℕ → ℕ → BaseRegister → Reader (Maybe Registers)
+withIndex s o shape base = parseIndexRegister s o shape >>= indexAlone base
+
+-- ---- operands with nodes
 
 -- the operand's nodes are the records that count
 abbrev pub Stored : List ℕ → Maybe Operand → Counters → Type 0

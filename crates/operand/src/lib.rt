@@ -1,4 +1,7 @@
 // Operands: every addressing mode, and the entry with its refusals.
 mod forms;
+mod indexes;
+mod lists;
+mod places;
 mod refusals;
 mod reports;
