@@ -1,6 +1,7 @@
 -- What the proofs of the functions share.
 pub mod Checks
 pub mod Paths
+pub mod Names
 pub mod Ranges
 pub mod Turns
 pub mod Rooms

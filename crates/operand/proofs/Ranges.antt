@@ -40,56 +40,10 @@ use Rattle.operand.specs.declared.lists.ItemRead.{ItemRead}
 use Rattle.operand.specs.declared.lists.ItemStep.{ItemStep}
 use Rattle.operand.specs.declared.lists.RegisterRead.{RegisterRead}
 use Rattle.operand.specs.declared.lists.RegisterStep.{RegisterStep}
+use Rattle.operand.proofs.Names.{reg-small}
 use Rattle.operand.proofs.Paths.{there, nowhere, live, answered, hereby, raised, hit, missed, miss, done, seen, beyond, chosen, unchosen}
 
 -- ---- a register at a place
-
--- a register's index is below 16
-pair-small : (b d n : ℕ) → pair b d ≡ Reg.Is n → n < 16
-unfolding pair
-pair-small b d n h = stack (eqb b 115) h
-  where
-    put : (m : ℕ) → m < 16 → Reg.Is m ≡ Reg.Is n → n < 16
-    put m l e = let z : m ≡ n = cc in omega arith
-
-    never : Reg.Not ≡ Reg.Is n → n < 16
-    never e = let z : _≡_ {A = ℕ} 0 1 = cc in absurd (omega arith)
-
-    address : (x : Bool) → d ≤ 55 → pick x (Reg.Is (d - 48 + 8)) Reg.Not ≡ Reg.Is n → n < 16
-    address true l e = put (d - 48 + 8) (omega arith) e
-    address false l e = never e
-
-    bank : (x : Bool) → d ≤ 55 → pick x (Reg.Is (d - 48)) (pick (eqb b 97) (Reg.Is (d - 48 + 8)) Reg.Not) ≡ Reg.Is n → n < 16
-    bank true l e = put (d - 48) (omega arith) e
-    bank false l e = address (eqb b 97) l e
-
-    digit : (x y : Bool) → leb d 55 ≡ y → pick (both x y) (pick (eqb b 100) (Reg.Is (d - 48)) (pick (eqb b 97) (Reg.Is (d - 48 + 8)) Reg.Not)) Reg.Not ≡ Reg.Is n → n < 16
-    digit true true q e = bank (eqb b 100) (leb-true d 55 q) e
-    digit true false q e = never e
-    digit false y q e = never e
-
-    pointer : (x : Bool) → pick x (Reg.Is 15) Reg.Not ≡ Reg.Is n → n < 16
-    pointer true e = put 15 (omega arith) e
-    pointer false e = never e
-
-    stack : (x : Bool) → pick x (pick (eqb d 112) (Reg.Is 15) Reg.Not) (pick (both (leb 48 d) (leb d 55)) (pick (eqb b 100) (Reg.Is (d - 48)) (pick (eqb b 97) (Reg.Is (d - 48 + 8)) Reg.Not)) Reg.Not) ≡ Reg.Is n → n < 16
-    stack true e = pointer (eqb d 112) e
-    stack false e = digit (leb 48 d) (leb d 55) refl e
-
-register-small : (x : List ℕ) (n : ℕ) → register x ≡ Reg.Is n → n < 16
-unfolding register
-register-small [] n h = let z : _≡_ {A = ℕ} 0 1 = cc in absurd (omega arith)
-register-small (c ∷ []) n h = let z : _≡_ {A = ℕ} 0 1 = cc in absurd (omega arith)
-register-small (c ∷ d ∷ []) n h = pair-small c d n h
-register-small (c ∷ d ∷ e ∷ es) n h = let z : _≡_ {A = ℕ} 0 1 = cc in absurd (omega arith)
-
-reg-small : (t : Token) (x : List ℕ) (n : ℕ) → regAt t x ≡ Reg.Is n → n < 16
-unfolding regAt registerOf
-reg-small t x n h = go (eqb (t .kind) Kinds.identifier) h
-  where
-    go : (b : Bool) → pick b (registerOf x) Reg.Not ≡ Reg.Is n → n < 16
-    go true e = register-small (lowered x) n e
-    go false e = let z : _≡_ {A = ℕ} 0 1 = cc in absurd (omega arith)
 
 -- what `register_at` says of a token, as the definition asks it
 pub record IsRegister (t : Token) (x : List ℕ) (n : ℕ) : Type 0 where
