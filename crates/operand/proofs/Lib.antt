@@ -6,3 +6,4 @@ pub mod Ranges
 pub mod Turns
 pub mod Rooms
 pub mod Suffixes
+pub mod Tails

@@ -5,7 +5,7 @@ use mathlib.Core.Bool.{Bool, true, false, not}
 use mathlib.Core.List.{List, [], _∷_}
 use Prim.Native.Nat.{ℕ, _+_, _-_, _<_, _≤_}
 use native.Mathlib.Omega.{arith}
-use borrow.Author.Tests.{ne-eqb, le-leb, lt-leb, leb-true, ltb-true, ltb-false}
+use borrow.Author.Tests.{ne-eqb, le-leb, lt-leb, leb-true, leb-false, ltb-true, ltb-false}
 use lib.Dec.{eqb, leb, ltb}
 use Rattle.names.specs.Choice.{pick, both, either}
 use Rattle.names.specs.Kinds
@@ -28,7 +28,9 @@ use Rattle.expressions.specs.declared.terms.Counters.{Counters}
 use Rattle.operand.specs.Operands.{Maybe}
 use Rattle.operand.specs.Operand.{isAddress, isSuppressed, isSuppressedRegister, isSuppressedAddress, aRegister, anAddressRegister, aProgramCounter, unmarked, anIndex, aBaseOrAnIndex, indexOf, suppressedIndex, registerFrom, afterBaseRegister, sizeOrScale, noBase, parseBaseAndIndexRegisters, closes, startsAFullIndex, startsABase}
 use Rattle.operand.specs.Steps.{Told}
-use Rattle.operand.specs.Tests.{regAt, suppressedAt, fullIndexStarts, baseStarts, addressBase, suppressedBase, isCounter, baseAt}
+use Rattle.expressions.specs.declared.records.Span.{Span}
+use Rattle.operand.specs.declared.forms.Register.{Register}
+use Rattle.operand.specs.Tests.{addressOf, regAt, suppressedAt, fullIndexStarts, baseStarts, addressBase, suppressedBase, isCounter, baseAt}
 use Rattle.operand.specs.declared.forms.BaseRegister.{BaseRegister}
 use Rattle.operand.specs.declared.forms.Registers.{Registers}
 use Rattle.operand.proofs.Paths.{there, nowhere, hereby, hit, miss, done, passed, unseen, whether}
@@ -142,6 +144,31 @@ register-small [] = small-not
 register-small (c ∷ []) = small-not
 register-small (c ∷ d ∷ []) = pair-small c d
 register-small (c ∷ d ∷ e ∷ es) = small-not
+
+-- an address register
+pub address-hit : (t : Token) (x : List ℕ) {r : ℕ} → addressOf (regAt t x) ≡ Reg.Is r → (anAddressRegister t x ≡ true) × (registerFrom t x ≡ record { index = r; span = spanOf t })
+unfolding addressOf
+address-hit t x {r} h = go (regAt t x) refl h
+  where
+    found : (n : ℕ) → regAt t x ≡ Reg.Is n → (b : Bool) → leb 8 n ≡ b → pick b (Reg.Is n) Reg.Not ≡ Reg.Is r → (anAddressRegister t x ≡ true) × (registerFrom t x ≡ record { index = r; span = spanOf t })
+    found n e true q g = let z : n ≡ r = cc in (address-is t x n e (leb-true 8 n q), reg-from t x n e ∙ ap (λ m. record { index = m; span = spanOf t }) z)
+    found n e false q g = let z : _≡_ {A = ℕ} 0 1 = cc in absurd (omega arith)
+
+    go : (m : Reg) → regAt t x ≡ m → addressOf m ≡ Reg.Is r → (anAddressRegister t x ≡ true) × (registerFrom t x ≡ record { index = r; span = spanOf t })
+    go (Reg.Is n) e g = found n e (leb 8 n) refl g
+    go Reg.Not e g = let z : _≡_ {A = ℕ} 0 1 = cc in absurd (omega arith)
+
+pub address-miss : (t : Token) (x : List ℕ) → addressOf (regAt t x) ≡ Reg.Not → anAddressRegister t x ≡ false
+unfolding addressOf
+address-miss t x h = go (regAt t x) refl h
+  where
+    found : (n : ℕ) → regAt t x ≡ Reg.Is n → (b : Bool) → leb 8 n ≡ b → pick b (Reg.Is n) Reg.Not ≡ Reg.Not → anAddressRegister t x ≡ false
+    found n e true q g = let z : _≡_ {A = ℕ} 0 1 = cc in absurd (omega arith)
+    found n e false q g = address-not t x n e (λ l. let z = leb-false 8 n q in absurd (omega arith))
+
+    go : (m : Reg) → regAt t x ≡ m → addressOf m ≡ Reg.Not → anAddressRegister t x ≡ false
+    go (Reg.Is n) e g = found n e (leb 8 n) refl g
+    go Reg.Not e g = address-none t x e
 
 pub reg-small : (t : Token) (x : List ℕ) (r : ℕ) → regAt t x ≡ Reg.Is r → r < 16
 unfolding registerOf
@@ -398,3 +425,13 @@ module _ {E : Type 0} {f : Maybe Registers → E} {Q : Maybe Registers → Count
   pub base-end : tokenAt T (c .at) ≡ peeked.End → Told f Q (noBase s o shape) L T D D′ c v r → Told f Q (parseBaseAndIndexRegisters s o shape) L T D D′ c v r
   unfolding parseBaseAndIndexRegisters
   base-end h g = hereby (done h (done h (whether (λ k x. g) (done h (done h g)))))
+
+-- ---- registers as the code has them
+
+pub register-as : (t : Token) (x : List ℕ) {r : ℕ} {s : Span} → regAt t x ≡ Reg.Is r → s ≡ spanOf t → record { index = r; span = s } ≡ registerFrom t x
+register-as t x {r} e h = ap (λ z. record { index = r; span = z }) h ∙ sym (reg-from t x r e)
+
+pub suppressed-as : (s : Setting) (i : ℕ) (t : Token) (x : List ℕ) {r : ℕ} {z : Span} → suppressedAt s i t x ≡ Suppressed.Register r → z ≡ spanOf t
+    → _≡_ {A = Register} (record { index = r; span = z }) (record { index = suppressedIndex (suppressedOf x); span = spanOf t })
+unfolding suppressedIndex
+suppressed-as s i t x {r} e h = ap (λ z. record { index = r; span = z }) h ∙ rw (suppressed-is s i t x r e)

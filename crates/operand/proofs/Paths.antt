@@ -82,6 +82,10 @@ retold {A} {f = f} {Q = Q} {p = p} {L = L} {T = T} {D = D} {c = c} {c₁ = c₁}
   held = subst (λ (s : Reading A). Q (s .value) r) (sym e) (h .held);
 }
 
+-- by another name of the reader
+pub renamed : {A E : Type 0} {f : A → E} {Q : A → Counters → Type 0} {p q : Reader A} {L T D D′ : List ℕ} {c : Counters} {v : E} {r : Counters} → q ≡ p → Told f Q q L T D D′ c v r → Told f Q p L T D D′ c v r
+renamed {f = f} {Q = Q} {L = L} {T = T} {D = D} {D′ = D′} {c = c} {v = v} {r = r} e h = subst (λ z. Told f Q z L T D D′ c v r) e h
+
 -- what else holds of the answer, in other words
 pub reheld : {A E : Type 0} {f : A → E} {Q R : A → Counters → Type 0} {p : Reader A} {L T D D′ : List ℕ} {c : Counters} {v : E} {r : Counters} → ((a : A) → Q a r → R a r) → Told f Q p L T D D′ c v r → Told f R p L T D D′ c v r
 reheld g h = record { what = h .what; at = h .at; end = h .end; seen = h .seen; more = h .more; held = g _ (h .held) }

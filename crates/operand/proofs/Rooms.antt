@@ -113,3 +113,8 @@ pub index-room : (s : Setting) (o shape : ℕ) {Q : Maybe IndexRegister → Coun
     → Room T D c → Told indexRead Q (parseIndexRegister s o shape) L T D D₁ c v c₁ → v ≡ IndexRead.Is x → length D₁ ≡ length D → Room T D₁ c₁
 index-room s o shape {L = L} {T = T} {c = c} h t w e =
     left-room (cost.nil (place L T) 0 (clean (place L T))) 1 0 0 (cost.index-cost (place L T) 0 (clean (place L T)) s o shape (c .at) (c .end) 0 0) (index-is _ (sym (t .what) ∙ w)) h t e
+
+pub registers-room : (s : Setting) (o shape : ℕ) {Q : Maybe Registers → Counters → Type 0} {L T D D₁ : List ℕ} {c : Counters} {v : RegistersRead} {c₁ : Counters} {x : Registers}
+    → Room T D c → Told registersRead Q (parseBaseAndIndexRegisters s o shape) L T D D₁ c v c₁ → v ≡ RegistersRead.Is x → length D₁ ≡ length D → Room T D₁ c₁
+registers-room s o shape {L = L} {T = T} {c = c} h t w e =
+    left-room (cost.nil (place L T) 0 (clean (place L T))) 1 0 1 (cost.registers-cost (place L T) 0 (clean (place L T)) s o shape (c .at) (c .end) 0 0) (registers-is _ (sym (t .what) ∙ w)) h t e

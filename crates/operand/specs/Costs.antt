@@ -276,7 +276,7 @@ module _ (at : ℕ → Place) (w : ℕ) (clean : Clean at w) where
     );
   }
 
-  registers-cost : (z : Setting) (o shape i l d r : ℕ) → Law (Operand.parseBaseAndIndexRegisters z o shape) at (Registered i d r) i l d r
+  pub registers-cost : (z : Setting) (o shape i l d r : ℕ) → Law (Operand.parseBaseAndIndexRegisters z o shape) at (Registered i d r) i l d r
   unfolding All Operand.parseBaseAndIndexRegisters
   registers-cost z o shape i l d r = record {
     all = (

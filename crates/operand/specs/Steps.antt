@@ -12,11 +12,11 @@ use Rattle.names.specs.declared.tokens.Peeked.the-variants as peeked
 use Rattle.expressions.specs.declared.records.Diagnostic.{Diagnostic}
 use Rattle.expressions.specs.declared.terms.Counters.{Counters}
 use Rattle.expressions.specs.Diagnostics.{diagnosticRecord}
-use Rattle.expressions.specs.Reader.{Reader, run, _>>=_}
+use Rattle.expressions.specs.Reader.{is, Reader, answer, bump, run, _>>=_}
 use Rattle.expressions.specs.Stores.{written, nodeBytes, added}
 use Rattle.expressions.specs.Terms.{stepped}
-use Rattle.operand.specs.Operands.{Displacement, Operand, Maybe, some, none}
-use Rattle.operand.specs.Operand.{expectClose, indexedOperand, closedIndex, indexAlone, parseIndexRegister}
+use Rattle.operand.specs.Operands.{Displacement, displaced, undisplaced, Operand, Maybe, some, none}
+use Rattle.operand.specs.Operand.{registers, expectClose, indexedOperand, closedIndex, indexAlone, parseIndexRegister}
 use Rattle.operand.specs.Records.{sizeD, nodesD, sizeO, nodesO}
 use Rattle.operand.specs.Forms.{sizedOf, formOf, recordOf, operandRead}
 use Rattle.expressions.specs.declared.records.Span.{Span}
@@ -84,6 +84,14 @@ Kept n y x r = (r .nodes ≡ n) × HeldBy (nodesD 0 y) (sizeD y) x
 pub record TailTold (p : Displacement → Reader (Maybe Operand)) (L T D D′ : List ℕ) (c : Counters) (d : SizedDisplacement) (r : OperandStep) : Type 0 where
   pub told : (y : Displacement) → sizedOf 0 y ≡ d → Told operandRead (Kept (c .nodes) y) (p y) L T D D′ c (r .operand) (r .counters)
 
+-- a base takes a displacement without a size
+unfoldable pub Unsized : Displacement → Type 0
+Unsized (displaced e n) = n ≡ 0
+Unsized undisplaced = Unit {0}
+
+pub record BaseTold (p : Displacement → Reader (Maybe Operand)) (L T D D′ : List ℕ) (c : Counters) (d : SizedDisplacement) (r : OperandStep) : Type 0 where
+  pub told : (y : Displacement) → sizedOf 0 y ≡ d → Unsized y → Told operandRead (Kept (c .nodes) y) (p y) L T D D′ c (r .operand) (r .counters)
+
 -- ---- an index behind a base
 
 -- the operand that an index makes with a base, where it is not suppressed: of this form, with the displacement y
@@ -105,6 +113,10 @@ baseAndIndex s o k shape base y plain = parseIndexRegister s o shape >>= closedI
 -- an index, with this base
 abbrev pub withIndex : Setting → ℕ → ℕ → BaseRegister → Reader (Maybe Registers)
 withIndex s o shape base = parseIndexRegister s o shape >>= indexAlone base
+
+-- a comma and an index, or neither
+abbrev pub commaAndIndex : Setting → ℕ → ℕ → BaseRegister → Reader (Maybe Registers)
+commaAndIndex s o shape base = bump (is Kinds.comma) (λ c y. withIndex s o shape base) λ u. answer (some (registers base Index.Unindexed))
 
 -- ---- operands with nodes
 

@@ -23,6 +23,11 @@ use Rattle.operand.specs.declared.forms.BaseRegister.{BaseRegister}
 unfoldable pub regAt : Token → List ℕ → Reg
 regAt t x = pick (eqb (t .kind) Kinds.identifier) (registerOf x) Reg.Not
 
+-- `address_register_at`
+unfoldable pub addressOf : Reg → Reg
+addressOf (Reg.Is r) = pick (leb 8 r) (Reg.Is r) Reg.Not
+addressOf Reg.Not = Reg.Not
+
 -- the suppressed register that the token at the place i is, if the mark does not turn it into a symbol
 unfoldable pub suppressedAt : Setting → ℕ → Token → List ℕ → Suppressed
 suppressedAt s i t x = pick (eqb (s .mark) i) Suppressed.Not (pick (eqb (t .kind) Kinds.identifier) (suppressedOf x) Suppressed.Not)
@@ -62,3 +67,10 @@ baseAt s at i t x =
     (pick (isCounter (suppressedAt s i t x)) BaseRegister.SuppressedProgramCounter
     (pick (holds sizeOrScale (at (i + 1))) BaseRegister.Omitted
     (addressBase (regAt t x) t (suppressedBase (suppressedAt s i t x)))))
+
+unfoldable pub isBase : BaseRegister → Bool
+isBase (BaseRegister.Address r) = true
+isBase BaseRegister.ProgramCounter = true
+isBase (BaseRegister.SuppressedAddress n) = true
+isBase BaseRegister.SuppressedProgramCounter = true
+isBase BaseRegister.Omitted = false

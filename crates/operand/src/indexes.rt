@@ -324,3 +324,47 @@ fn index_register(
         }
     }
 }
+
+pub(crate) fn parse_index_register(
+    line: &[u8],
+    tokens: &[u8],
+    diagnostics: &mut [u8],
+    c: Counters,
+    s: Setting,
+    o: u8,
+    shape: u8,
+) -> IndexStep
+    requires { ⌜ Room (now tokens) (now diagnostics) c ⌝ }
+    ensures { λ r. ⌜ Told indexRead (Same (c .nodes)) (parseIndexRegister s o shape) (now (line .entry)) (now (tokens .entry)) (now (diagnostics .entry)) (now (diagnostics .exit)) c (r .index) (r .counters) ⌝ }
+{
+    let at = c.at;
+    let p = names::token_at(tokens, at);
+    let Peeked::Is(t) = p else {
+        return no_index(stepped_over(tokens, diagnostics, c, o, shape, 6));
+    };
+    let span = span_of(t);
+    let r = register_at(line, t);
+    if let Reg::Is(index) = r {
+        let register = Register {
+            index: index,
+            span: span,
+        };
+        let e = step_over(c, t);
+        return index_register(line, tokens, diagnostics, e, o, shape, register, false);
+    }
+    let z = suppressed_register_at(line, t, at, s);
+    match z {
+        Suppressed::Register(index) => {
+            let register = Register {
+                index: index,
+                span: span,
+            };
+            let e = step_over(c, t);
+            index_register(line, tokens, diagnostics, e, o, shape, register, true)
+        }
+        Suppressed::ProgramCounter => {
+            no_index(stepped_over(tokens, diagnostics, c, o, shape, 6))
+        }
+        Suppressed::Not => no_index(stepped_over(tokens, diagnostics, c, o, shape, 6)),
+    }
+}

@@ -1,4 +1,5 @@
 // Operands: every addressing mode, and the entry with its refusals.
+mod bases;
 mod forms;
 mod indexes;
 mod lists;

@@ -20,7 +20,7 @@ ghost use Rattle.names.specs.declared.registers.Suppressed.{Suppressed};
 ghost use Rattle.expressions.specs.Laws.{holds};
 ghost use Rattle.expressions.specs.Reader.{any};
 ghost use Rattle.operand.specs.Operand.{aRegister, anAddressRegister, aProgramCounter, anIndex, aBaseOrAnIndex, closes, sizeOrScale};
-ghost use Rattle.operand.specs.Tests.{regAt, suppressedAt, fullIndexStarts, baseStarts, addressBase, suppressedBase, baseAt};
+ghost use Rattle.operand.specs.Tests.{addressOf, regAt, suppressedAt, fullIndexStarts, baseStarts, addressBase, suppressedBase, baseAt};
 ghost use Rattle.operand.specs.declared.forms.BaseRegister.{BaseRegister};
 
 pub(crate) fn register_at(line: &[u8], token: Token) -> Reg
@@ -30,6 +30,19 @@ pub(crate) fn register_at(line: &[u8], token: Token) -> Reg
         return Reg::Not;
     }
     Reg::parse(names::text_of(line, token))
+}
+
+pub(crate) fn address_register_at(line: &[u8], token: Token) -> Reg
+    ensures { λ r. ⌜ r ≡ addressOf (regAt token (textOf (now (line .entry)) (token .start) (token .end))) ⌝ }
+{
+    let r = register_at(line, token);
+    let Reg::Is(index) = r else {
+        return Reg::Not;
+    };
+    if 8 <= index {
+        return r;
+    }
+    Reg::Not
 }
 
 pub(crate) fn program_counter_at(line: &[u8], token: Token) -> bool
