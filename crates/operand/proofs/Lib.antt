@@ -7,3 +7,4 @@ pub mod Turns
 pub mod Rooms
 pub mod Suffixes
 pub mod Tails
+pub mod Outcomes

@@ -3,9 +3,9 @@
 use mathlib.Core.Path.{_≡_, refl, sym, _∙_, ap, ap₂}
 use mathlib.Core.Bool.{Bool, true, false, not}
 use mathlib.Core.List.{List, [], _∷_}
-use Prim.Native.Nat.{ℕ, _+_, _*_, _%_, _≤_, _<_, max}
+use Prim.Native.Nat.{ℕ, _+_, _*_, _/_, _%_, _≤_, _<_, max}
 use native.Mathlib.Omega.{arith}
-use borrow.Author.Tests.{ltb-false}
+use borrow.Author.Tests.{ltb-false, not-false}
 use lib.Dec.{eqb, ltb}
 use lib.ListN.{length}
 use Rattle.names.specs.Choice.{pick, both, either}
@@ -18,6 +18,7 @@ use Rattle.expressions.specs.declared.records.Diagnostic.{Diagnostic}
 use Rattle.expressions.specs.Reader.{Reading, run, _>>=_}
 use Rattle.expressions.specs.Expressions.{fuel, parsePrefix, parseExpressionFrom}
 use Rattle.expressions.specs.Laws.{Every, Fine}
+use Rattle.expressions.specs.Stores.{nodeBytes}
 use Rattle.expressions.specs.Costs.{true-false}
 use Rattle.expressions.specs.Fuel.{turn, fuel-enough, climb-equation}
 use Rattle.operand.specs.Operands.{RegisterListItem, Operand, Maybe, some, none}
@@ -25,7 +26,7 @@ use Rattle.operand.specs.declared.forms.Register.{Register}
 use Rattle.expressions.specs.declared.reading.Setting.{Setting}
 use Rattle.operand.specs.Operand.{readingOf, listItem, nextItem, listLoop}
 use Rattle.operand.specs.Records.{sizeM, nodesM, operandRecord, diagnosticRecords}
-use Rattle.operand.specs.Entry.{Input, placeOf, conditions, firstOf, refusal, setting, readingAt}
+use Rattle.operand.specs.Entry.{Input, placeOf, freeRecords, goodTokens, conditions, firstOf, refusal, setting, readingAt}
 use Rattle.operand.specs.Readings as R
 use Rattle.operand.specs.Readings.{gap}
 use Rattle.operand.specs.Fuel.{list-equation}
@@ -56,6 +57,19 @@ unfolding refusal conditions
 valid-bounds a v =
     let h = none-holds 1 (conditions a) (omega arith) v in
     (ltb-false 255 (count (a .tokens)) (right-false (not (eqb (length (a .tokens) % 4) 0)) _ (h .1 .1 .0)), ltb-false (count (a .tokens)) (a .start) (h .1 .1 .1 .1 .0))
+
+-- a line of at most 255 bytes, over which each token is good
+pub valid-tokens : (a : Input) → Valid a → (length (a .line) ≤ 255) × (goodTokens (a .line) 0 (a .tokens) ≡ true)
+unfolding refusal conditions
+valid-tokens a v = let h = none-holds 1 (conditions a) (omega arith) v in (ltb-false 255 (length (a .line)) (h .0), not-false _ (h .1 .1 .1 .0))
+
+-- 255 node records, and 511 free diagnostic records
+pub valid-stores : (a : Input) → Valid a → (nodeBytes ≤ length (a .nodes)) × (10 * a .used + 5110 ≤ length (a .diagnostics))
+unfolding refusal conditions freeRecords
+valid-stores a v =
+    let h = none-holds 1 (conditions a) (omega arith) v in
+    let free = ltb-false (length (a .diagnostics) / 10) (a .used + 511) (h .1 .1 .1 .1 .1 .1 .0) in
+    (ltb-false (length (a .nodes)) nodeBytes (h .1 .1 .1 .1 .1 .0), omega arith)
 
 module _ (limit : ℕ) (lim : 1 ≤ limit) (a : Input) where
   abbrev pub answered : Reading (Maybe Operand)
@@ -134,15 +148,19 @@ pub record AlikeThrough (a b : Input) (last : ℕ) : Type 0 where
   pub mark : a .mark ≡ b .mark
   pub places : (j : ℕ) → a .start ≤ j → j ≤ last → AlikeAt a b j
 
+-- they are read alike: `gap` is 0 for an operand and 1 for none
+pub same-reading : (limit : ℕ) → 1 ≤ limit → (a b : Input) → AlikeThrough a b (readingAt limit a .cursor + gap (readingAt limit a .value))
+    → readingAt limit a ≡ readingAt limit b
+same-reading limit lim a b h =
+    R.local (setting limit a) lim (placeOf a) (a .start) (placeOf b) (h .places)
+    ∙ ap₂ (λ m i. readingOf (record { limit = limit; mark = m }) (placeOf b) i) (h .mark) (h .start)
+
 -- "What stands behind the cursor's token changes nothing: two valid inputs alike from the start through the cursor (one place further where there is no
--- operand) have the same answer." `gap` is 0 for an operand and 1 for none; there is no exception.
+-- operand) have the same answer." There is no exception.
 pub local : (limit : ℕ) → 1 ≤ limit → (a b : Input) → Valid a → Valid b
     → AlikeThrough a b (readingAt limit a .cursor + gap (readingAt limit a .value))
     → SameAnswer (readingAt limit a) (readingAt limit b)
-local limit lim a b va vb h =
-    same-answer
-    (R.local (setting limit a) lim (placeOf a) (a .start) (placeOf b) (h .places)
-    ∙ ap₂ (λ m i. readingOf (record { limit = limit; mark = m }) (placeOf b) i) (h .mark) (h .start))
+local limit lim a b va vb h = same-answer (same-reading limit lim a b h)
 
 -- a diagnostic of kind 13 whose plus is the token at this place
 unfoldable pub plusAt : Place → List Diagnostic → Bool

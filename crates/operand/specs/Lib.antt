@@ -8,8 +8,11 @@ pub mod Forms
 pub mod Steps
 pub mod Tests
 pub mod Items
+pub mod Promise
 pub mod Costs
 pub mod Readings
 pub mod Fuel
 pub mod Conditions
+pub mod Lengths
+pub mod Answers
 pub mod Trials

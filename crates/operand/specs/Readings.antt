@@ -2,7 +2,7 @@
 -- Assumes nothing.
 use mathlib.Core.Path.{_≡_, refl, sym, _∙_, ap}
 use mathlib.Core.Bool.{Bool, true, false}
-use mathlib.Core.List.{List}
+use mathlib.Core.List.{List, []}
 use Prim.Native.Nat.{ℕ, _+_, _*_, _≤_, _<_, max}
 use native.Mathlib.Omega.{arith}
 use borrow.Author.Tests.{ltb-true, ltb-false, lt-ltb, le-ltb}
@@ -14,7 +14,7 @@ use Rattle.names.specs.Places.{Place, nothing, stands}
 use Rattle.names.specs.declared.tokens.Token.{Token}
 use Rattle.expressions.specs.Reader.{any, Reading, reading, run, met}
 use Rattle.expressions.specs.Laws as L
-use Rattle.expressions.specs.Laws.{holds, All, Law, call, law-run, Every, Fine, all-fine, met-yes}
+use Rattle.expressions.specs.Laws.{holds, All, Law, call, law-run, Every, Fine, all-fine, met-yes, met-no}
 use Rattle.expressions.specs.Costs.{Clean, true-false}
 use Rattle.operand.specs.Operands.{Operand, Maybe, some, none}
 use Rattle.expressions.specs.declared.reading.Setting.{Setting}
@@ -82,8 +82,13 @@ from-same : (i : ℕ) (at : ℕ → Place) (j : ℕ) → i ≤ j → at j ≡ fr
 unfolding from
 from-same i at j h = rw (le-ltb j i h)
 
+-- at the end there is no operand
+pub ended : (s : Setting) (at : ℕ → Place) (i : ℕ) → at i ≡ nothing → readingOf s at i ≡ reading i 0 [] none
+unfolding readingOf run parseOperand holds
+ended s at i there = let e : i + 0 ≡ i = omega arith in met-no any _ _ (at (i + 0)) (rw (e, there))
+
 -- from a token on, the reading is that of `operandFrom`
-started : (s : Setting) (at : ℕ → Place) (i : ℕ) (k : Token) (x : List ℕ) → at i ≡ stands k x → readingOf s at i ≡ run (operandFrom s (k .start)) at i 0
+pub started : (s : Setting) (at : ℕ → Place) (i : ℕ) (k : Token) (x : List ℕ) → at i ≡ stands k x → readingOf s at i ≡ run (operandFrom s (k .start)) at i 0
 unfolding readingOf run parseOperand
 started s at i k x there = let e : i + 0 ≡ i = omega arith in met-yes any _ _ (at (i + 0)) k x (rw e there) refl
 

@@ -1,5 +1,6 @@
 // Operands: every addressing mode, and the entry with its refusals.
 mod bases;
+mod entry;
 mod forms;
 mod indexes;
 mod lists;
