@@ -138,9 +138,11 @@ fn binary_operator(kind: u8) -> u8
 pub fn span_of(token: Token) -> Span
     ensures { λ r. ⌜ r ≡ spanOf token ⌝ }
 {
+    let first = token.start;
+    let last = token.end;
     Span {
-        start: token.start,
-        end: token.end,
+        start: first,
+        end: last,
     }
 }
 
@@ -149,9 +151,10 @@ pub fn step_over(c: Counters, token: Token) -> Counters
     requires { ⌜ c .at < 256 ⌝ }
     ensures { λ r. ⌜ r ≡ stepped c token ⌝ }
 {
+    let behind = token.end;
     Counters {
         at: c.at + 1,
-        end: token.end,
+        end: behind,
         nodes: c.nodes,
         diagnostics: c.diagnostics,
     }
