@@ -8,3 +8,5 @@ pub mod Rooms
 pub mod Suffixes
 pub mod Tails
 pub mod Outcomes
+pub mod Trees
+pub mod Inners

@@ -104,7 +104,7 @@ suffix-room from {L = L} {T = T} {c = c} h t e =
     room-behind h t (omega (arith, law-run (suffix-cost (place L T) 0 (clean (place L T)) from (c .at) (c .end) 0 0) .0)) e
 
 -- behind a reader that has answered something
-left-room : {A B : Type 0} {f : Maybe A → B} {Q : Maybe A → Counters → Type 0} {p : Reader (Maybe A)} {L T D D₁ : List ℕ} {c : Counters} {v : B} {c₁ : Counters} (g : A → ℕ) (least given far : ℕ) {x : A}
+pub left-room : {A B : Type 0} {f : Maybe A → B} {Q : Maybe A → Counters → Type 0} {p : Reader (Maybe A)} {L T D D₁ : List ℕ} {c : Counters} {v : B} {c₁ : Counters} (g : A → ℕ) (least given far : ℕ) {x : A}
     → Law p (place L T) (Left (place L T) 0 (clean (place L T)) g least given far (c .at) 0 0) (c .at) (c .end) 0 0
     → run p (place L T) (c .at) (c .end) .value ≡ some x → Room T D c → Told f Q p L T D D₁ c v c₁ → length D₁ ≡ length D → Room T D₁ c₁
 left-room g least given far law w h t e = let q = rw w at (law-run law) in room-behind h t (omega (arith, q .2)) e

@@ -308,7 +308,7 @@ module _ (at : ℕ → Place) (w : ℕ) (clean : Clean at w) where
 
   -- ---- memory indirect
 
-  displacement-cost : (z : Setting) (o i l d r : ℕ) → Law (Operand.parseSizedDisplacement z o) at (Left sizeD 0 0 0 i d r) i l d r
+  pub displacement-cost : (z : Setting) (o i l d r : ℕ) → Law (Operand.parseSizedDisplacement z o) at (Left sizeD 0 0 0 i d r) i l d r
   unfolding All Operand.parseSizedDisplacement Operand.displacementValue Operand.sized sizeD
   displacement-cost z o i l d r = record {
     all = call (expression-cost at w clean _ _ _ _ _) λ j e s. elim [
@@ -324,7 +324,7 @@ module _ (at : ℕ → Place) (w : ℕ) (clean : Clean at w) where
   abbrev sizeU : Outer → ℕ
   sizeU u = sizeD (u .displacement)
 
-  inner-cost : (z : Setting) (o i l d r : ℕ) → Law (Operand.parseInner z o) at (Left sizeI 0 0 1 i d r) i l d r
+  pub inner-cost : (z : Setting) (o i l d r : ℕ) → Law (Operand.parseInner z o) at (Left sizeI 0 0 1 i d r) i l d r
   unfolding All Operand.parseInner Operand.innerRegisters Operand.innerDisplaced sizeD
   inner-cost z o i l d r = record {
     all = (
@@ -355,7 +355,7 @@ module _ (at : ℕ → Place) (w : ℕ) (clean : Clean at w) where
     ];
   }
 
-  outer-cost : (z : Setting) (o : ℕ) (v : Index) (i l d r : ℕ) → Law (Operand.parseOuter z o v) at (Left sizeU 0 0 0 i d r) i l d r
+  pub outer-cost : (z : Setting) (o : ℕ) (v : Index) (i l d r : ℕ) → Law (Operand.parseOuter z o v) at (Left sizeU 0 0 0 i d r) i l d r
   unfolding All Operand.parseOuter Operand.outerDisplaced sizeD
   outer-cost z o v i l d r = record {
     all = (

@@ -8,6 +8,7 @@ pub mod Forms
 pub mod Steps
 pub mod Tests
 pub mod Items
+pub mod Brackets
 pub mod Promise
 pub mod Costs
 pub mod Readings

@@ -2,9 +2,11 @@
 use expressions::Counters;
 use expressions::Span;
 ghost use mathlib.Core.Path.{_≡_};
+ghost use Prim.Native.Nat.{_-_, _≤_, _<_};
 ghost use Rattle.operand.specs.Forms.{formOf};
 ghost use Rattle.operand.specs.declared.forms.Index.{Index};
 ghost use Rattle.operand.specs.declared.forms.OperandRead.{OperandRead};
+ghost use Rattle.operand.specs.declared.forms.SizedDisplacement.{SizedDisplacement};
 
 // A register by its mask index, and the span of its token.
 pub struct Register {
@@ -184,4 +186,15 @@ pub(crate) fn an_operand(operand: OperandRecord, c: Counters) -> OperandStep
         operand: OperandRead::Is(operand),
         counters: c,
     }
+}
+
+// The tree that the last records hold, with this size.
+pub(crate) fn last_tree(c: Counters, size: u8) -> SizedDisplacement
+    requires { ⌜ (0 < c .nodes) × (c .nodes ≤ 255) ⌝ }
+    ensures { λ r. ⌜ r ≡ SizedDisplacement.Is (record { node = c .nodes - 1; size = size }) ⌝ }
+{
+    SizedDisplacement::Is(Sized {
+        node: (c.nodes - 1) as u8,
+        size: size,
+    })
 }

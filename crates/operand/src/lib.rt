@@ -3,6 +3,7 @@ mod bases;
 mod entry;
 mod forms;
 mod indexes;
+mod indirect;
 mod lists;
 mod places;
 mod refusals;
