@@ -37,7 +37,7 @@ use Rattle.operand.specs.declared.forms.OperandRead.{OperandRead}
 use Rattle.operand.specs.declared.forms.OperandStep.{OperandStep}
 use Rattle.operand.specs.declared.entry.Answer.{Answer}
 use Rattle.operand.proofs.Paths.{there, nowhere}
-use Rattle.operand.proofs.Checks.{token-below, tokens-on, tokens-not}
+use Rattle.operand.specs.Listed.{token-below, tokens-on, tokens-not}
 
 -- ---- a size suffix begins before place 255: it is not empty, and ends within the line
 

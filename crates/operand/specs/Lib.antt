@@ -4,6 +4,7 @@ pub mod Operand
 pub mod Records
 pub mod Mask
 pub mod Entry
+pub mod Listed
 pub mod Forms
 pub mod Steps
 pub mod Tests

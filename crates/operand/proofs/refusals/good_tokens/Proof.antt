@@ -7,7 +7,7 @@ use borrow.Author.Tests.{not-true, not-false}
 use lib.ListN.{drop}
 use Rattle.names.specs.Tokens.{count}
 use Rattle.operand.specs.Entry.{goodTokens}
-use Rattle.operand.proofs.Checks.{token-below, tokens-end, tokens-on, tokens-not}
+use Rattle.operand.specs.Listed.{token-below, tokens-end, tokens-on, tokens-not}
 use borrow.Author.Needs.{needs}
 use Rattle.operand.proofs.refusals.good_tokens.Statement.{statement}
 use Rattle.operand.proofs.refusals.good_tokens.Tie as tie
