@@ -10,3 +10,5 @@ pub mod Tails
 pub mod Outcomes
 pub mod Trees
 pub mod Inners
+pub mod Holdings
+pub mod Operations

@@ -10,6 +10,7 @@ pub mod Steps
 pub mod Tests
 pub mod Items
 pub mod Brackets
+pub mod Behind
 pub mod Promise
 pub mod Costs
 pub mod Readings

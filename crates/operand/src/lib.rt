@@ -5,6 +5,7 @@ mod forms;
 mod indexes;
 mod indirect;
 mod lists;
+mod operands;
 mod places;
 mod refusals;
 mod reports;
