@@ -6,11 +6,6 @@ pub mod Mask
 pub mod Entry
 pub mod Listed
 pub mod Forms
-pub mod Steps
-pub mod Tests
-pub mod Items
-pub mod Brackets
-pub mod Behind
 pub mod Promise
 pub mod Costs
 pub mod Readings

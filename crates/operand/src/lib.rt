@@ -1,11 +1,30 @@
-// Operands: every addressing mode, and the entry with its refusals.
-mod bases;
+// Operands: the definition of a reading in specs/, the types of its answer, and the refusals.
 mod entry;
 mod forms;
-mod indexes;
-mod indirect;
-mod lists;
-mod operands;
-mod places;
 mod refusals;
-mod reports;
+
+pub use entry::Answer;
+pub use entry::Found;
+pub use entry::Missed;
+pub use forms::BaseRegister;
+pub use forms::Close;
+pub use forms::CloseStep;
+pub use forms::DisplacementRead;
+pub use forms::DisplacementStep;
+pub use forms::Index;
+pub use forms::IndexRead;
+pub use forms::IndexRegister;
+pub use forms::IndexStep;
+pub use forms::OperandRead;
+pub use forms::OperandRecord;
+pub use forms::OperandStep;
+pub use forms::Register;
+pub use forms::Registers;
+pub use forms::RegistersRead;
+pub use forms::RegistersStep;
+pub use forms::Sized;
+pub use forms::SizedDisplacement;
+pub use forms::SuffixRead;
+pub use forms::SuffixStep;
+pub use forms::Suffixed;
+pub use refusals::refusal;

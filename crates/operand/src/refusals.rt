@@ -188,7 +188,7 @@ fn crowded(bytes: usize, used: usize) -> bool
 }
 
 // The number of the refusal, 0 for none. Of the stores only their lengths count, in bytes.
-pub(crate) fn refusal(
+pub fn refusal(
     line: &[u8],
     tokens: &[u8],
     start: usize,

@@ -1,0 +1,13 @@
+-- What the proofs of the functions share.
+pub mod Paths
+pub mod Names
+pub mod Ranges
+pub mod Turns
+pub mod Rooms
+pub mod Suffixes
+pub mod Tails
+pub mod Outcomes
+pub mod Trees
+pub mod Inners
+pub mod Holdings
+pub mod Operations

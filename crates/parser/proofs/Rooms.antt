@@ -1,0 +1,120 @@
+-- What is left of the stores behind a reader that has read something: its law bounds the diagnostics by the tokens.
+-- Assumes nothing.
+use mathlib.Core.Path.{_≡_, refl, sym, _∙_, ap}
+use mathlib.Core.List.{List}
+use Prim.Native.Nat.{ℕ, _+_, _*_, _≤_, _<_}
+use native.Mathlib.Omega.{arith}
+use lib.ListN.{length}
+use Rattle.names.specs.Tokens.{count, tokenAt}
+use Rattle.names.specs.Places.{Place, place, below}
+use Rattle.names.specs.declared.tokens.Token.{Token}
+use Rattle.names.specs.declared.tokens.Peeked.the-variants as peeked
+use Rattle.expressions.specs.declared.terms.Counters.{Counters}
+use Rattle.expressions.specs.declared.reading.Setting.{Setting}
+use Rattle.expressions.specs.Costs.{Clean, suffix-cost}
+use Rattle.expressions.specs.Expressions.{Suffix, suffixed, bare, takeSizeSuffix}
+use Rattle.expressions.specs.Laws as laws
+use Rattle.expressions.specs.Laws.{Law, law-run}
+use Rattle.expressions.specs.Reader.{Reader, run}
+use Rattle.expressions.specs.Terms.{stepped}
+use Rattle.operand.specs.Operands.{Maybe, some, none}
+use Rattle.operand.specs.Operand.{parseIndexRegister, parseBaseAndIndexRegisters, Inner, Outer}
+use Rattle.operand.specs.Costs.{Left}
+use Rattle.operand.specs.Costs as cost
+use Rattle.operand.specs.Forms.{indexRead, registersRead, closeRead, suffixRead}
+use Rattle.parser.specs.Steps.{Room, Told}
+use Rattle.operand.specs.declared.forms.IndexRegister.{IndexRegister}
+use Rattle.operand.specs.declared.forms.IndexRead.{IndexRead}
+use Rattle.operand.specs.declared.forms.Registers.{Registers}
+use Rattle.operand.specs.declared.forms.RegistersRead.{RegistersRead}
+use Rattle.operand.specs.declared.forms.Close.{Close}
+use Rattle.operand.specs.declared.forms.Suffixed.{Suffixed}
+use Rattle.operand.specs.declared.forms.SuffixRead.{SuffixRead}
+use Rattle.parser.proofs.Paths.{live}
+
+-- ---- the definition's answer, by the code's
+
+pub index-is : (m : Maybe IndexRegister) {x : IndexRegister} → indexRead m ≡ IndexRead.Is x → m ≡ some x
+unfolding indexRead
+index-is (some y) h = cc
+index-is none h = let z : _≡_ {A = ℕ} 0 1 = cc in absurd (omega arith)
+
+pub index-not : (m : Maybe IndexRegister) → indexRead m ≡ IndexRead.Not → m ≡ none
+unfolding indexRead
+index-not (some y) h = let z : _≡_ {A = ℕ} 0 1 = cc in absurd (omega arith)
+index-not none h = refl
+
+pub registers-is : (m : Maybe Registers) {x : Registers} → registersRead m ≡ RegistersRead.Is x → m ≡ some x
+unfolding registersRead
+registers-is (some y) h = cc
+registers-is none h = let z : _≡_ {A = ℕ} 0 1 = cc in absurd (omega arith)
+
+pub registers-not : (m : Maybe Registers) → registersRead m ≡ RegistersRead.Not → m ≡ none
+unfolding registersRead
+registers-not (some y) h = let z : _≡_ {A = ℕ} 0 1 = cc in absurd (omega arith)
+registers-not none h = refl
+
+pub close-is : (m : Maybe ℕ) {e : ℕ} → closeRead m ≡ Close.Is e → m ≡ some e
+unfolding closeRead
+close-is (some y) h = cc
+close-is none h = let z : _≡_ {A = ℕ} 0 1 = cc in absurd (omega arith)
+
+pub close-not : (m : Maybe ℕ) → closeRead m ≡ Close.Not → m ≡ none
+unfolding closeRead
+close-not (some y) h = let z : _≡_ {A = ℕ} 0 1 = cc in absurd (omega arith)
+close-not none h = refl
+
+pub suffix-is : (m : Suffix) {x : Suffixed} → suffixRead m ≡ SuffixRead.Is x → m ≡ suffixed (x .size) (x .span)
+unfolding suffixRead
+suffix-is (suffixed n s) h = cc
+suffix-is bare h = let z : _≡_ {A = ℕ} 0 1 = cc in absurd (omega arith)
+
+pub suffix-not : (m : Suffix) → suffixRead m ≡ SuffixRead.Not → m ≡ bare
+unfolding suffixRead
+suffix-not (suffixed n s) h = let z : _≡_ {A = ℕ} 0 1 = cc in absurd (omega arith)
+suffix-not bare h = refl
+
+-- ---- room
+
+-- behind a token
+pub room-step : {T D : List ℕ} {c c₁ : Counters} {k : Token} → Room T D c → tokenAt T (c .at) ≡ peeked.Is k → c₁ ≡ stepped c k → Room T D c₁
+room-step {T} {D} {c} {c₁} {k} h t e = record {
+  few = h .few;
+  within = omega (arith, live T (c .at) k t, ap (λ z. z .at) e);
+  room = omega (arith, h .room, ap (λ z. z .at) e, ap (λ z. z .diagnostics) e);
+  suffixes = h .suffixes;
+}
+
+-- behind a reader that has raised no more than it has consumed
+room-behind : {A B : Type 0} {f : A → B} {Q : A → Counters → Type 0} {p : Reader A} {L T D D₁ : List ℕ} {c : Counters} {v : B} {c₁ : Counters}
+    → Room T D c → Told f Q p L T D D₁ c v c₁ → length (run p (place L T) (c .at) (c .end) .raised) + c .at ≤ run p (place L T) (c .at) (c .end) .cursor → length D₁ ≡ length D → Room T D₁ c₁
+room-behind {p = p} {L = L} {T = T} {c = c} h t q e = record {
+  few = h .few;
+  within = omega (arith, t .at, laws.within p (place L T) (count T) (c .at) (c .end) (λ j k x g. below L T j k x g) (h .within));
+  room = omega (arith, h .room, t .at, t .seen);
+  suffixes = h .suffixes;
+}
+
+pub clean : (at : ℕ → Place) → Clean at 0
+clean at = record { small = omega arith; none = λ j k x h q. refl }
+
+pub suffix-room : (from : ℕ) {Q : Suffix → Counters → Type 0} {L T D D₁ : List ℕ} {c : Counters} {v : SuffixRead} {c₁ : Counters}
+    → Room T D c → Told suffixRead Q (takeSizeSuffix from) L T D D₁ c v c₁ → length D₁ ≡ length D → Room T D₁ c₁
+suffix-room from {L = L} {T = T} {c = c} h t e =
+    room-behind h t (omega (arith, law-run (suffix-cost (place L T) 0 (clean (place L T)) from (c .at) (c .end) 0 0) .0)) e
+
+-- behind a reader that has answered something
+pub left-room : {A B : Type 0} {f : Maybe A → B} {Q : Maybe A → Counters → Type 0} {p : Reader (Maybe A)} {L T D D₁ : List ℕ} {c : Counters} {v : B} {c₁ : Counters} (g : A → ℕ) (least given far : ℕ) {x : A}
+    → Law p (place L T) (Left (place L T) 0 (clean (place L T)) g least given far (c .at) 0 0) (c .at) (c .end) 0 0
+    → run p (place L T) (c .at) (c .end) .value ≡ some x → Room T D c → Told f Q p L T D D₁ c v c₁ → length D₁ ≡ length D → Room T D₁ c₁
+left-room g least given far law w h t e = let q = rw w at (law-run law) in room-behind h t (omega (arith, q .2)) e
+
+pub index-room : (s : Setting) (o shape : ℕ) {Q : Maybe IndexRegister → Counters → Type 0} {L T D D₁ : List ℕ} {c : Counters} {v : IndexRead} {c₁ : Counters} {x : IndexRegister}
+    → Room T D c → Told indexRead Q (parseIndexRegister s o shape) L T D D₁ c v c₁ → v ≡ IndexRead.Is x → length D₁ ≡ length D → Room T D₁ c₁
+index-room s o shape {L = L} {T = T} {c = c} h t w e =
+    left-room (cost.nil (place L T) 0 (clean (place L T))) 1 0 0 (cost.index-cost (place L T) 0 (clean (place L T)) s o shape (c .at) (c .end) 0 0) (index-is _ (sym (t .what) ∙ w)) h t e
+
+pub registers-room : (s : Setting) (o shape : ℕ) {Q : Maybe Registers → Counters → Type 0} {L T D D₁ : List ℕ} {c : Counters} {v : RegistersRead} {c₁ : Counters} {x : Registers}
+    → Room T D c → Told registersRead Q (parseBaseAndIndexRegisters s o shape) L T D D₁ c v c₁ → v ≡ RegistersRead.Is x → length D₁ ≡ length D → Room T D₁ c₁
+registers-room s o shape {L = L} {T = T} {c = c} h t w e =
+    left-room (cost.nil (place L T) 0 (clean (place L T))) 1 0 1 (cost.registers-cost (place L T) 0 (clean (place L T)) s o shape (c .at) (c .end) 0 0) (registers-is _ (sym (t .what) ∙ w)) h t e

@@ -1,0 +1,144 @@
+-- `parser::bases::after_counter` meets its contract.
+-- Assumes nothing.
+use mathlib.Core.Path.{refl, sym, _∙_, ap}
+use native.Mathlib.Omega.{arith}
+use borrow.Author.Tests.{eq-eqb, ne-eqb}
+use Rattle.names.specs.Kinds
+use Rattle.operand.specs.Operand.{afterCounter}
+use Rattle.operand.specs.Forms.{operandRead}
+use Rattle.parser.proofs.Paths.{live, hit, miss, done, failed-unclosed}
+use Rattle.parser.proofs.Rooms.{room-step}
+use Rattle.parser.proofs.Tails.{kept-from, counter-plain, no-operand-held}
+use borrow.Author.Needs.{needs}
+use Rattle.parser.proofs.bases.after_counter.Statement.{statement}
+use Rattle.parser.proofs.bases.after_counter.Tie as tie
+
+token-at-requires : tie.Need-token-at-requires
+token-at-requires c κs = search needs
+
+enum-known-p : tie.Need-enum-known-p
+enum-known-p c = search needs
+
+enum-told : tie.Need-enum-told
+enum-told c = search needs
+
+unclosed-requires : tie.Need-unclosed-requires
+unclosed-requires c κs =
+    let c-pre = c .before .before .before .before .before .before .before .pre in
+    omega (arith, c-pre)
+
+no-operand-requires : tie.Need-no-operand-requires
+no-operand-requires c κs = search needs
+
+same-length : tie.Need-same-length
+same-length c = search needs
+
+returns : tie.Need-returns
+unfolding afterCounter operandRead
+returns c =
+    let c-token-at = c .before .before .before .before .before .before .before .token-at in
+    let c-enum-told = c .before .before .before .before .before .enum-told in
+    let c-unclosed = c .before .before .before .unclosed in
+    let c-no-operand = c .no-operand in
+    record { told = λ y e z. done (sym (c-token-at .ensures) ∙ c-enum-told .given .1) (done (sym (c-token-at .ensures) ∙ c-enum-told .given .1) (failed-unclosed _ _ 7 3 (c-unclosed .ensures) (c-no-operand .ensures .0) (c-no-operand .ensures .1) (no-operand-held y (c-unclosed .ensures)))) }
+
+step-over-requires : tie.Need-step-over-requires
+step-over-requires c κs =
+    let c-pre = c .before .before .before .before .before .before .before .before .before .pre in
+    let c-token-at = c .before .before .before .before .before .token-at in
+    let c-p = c .before .before .before .p in
+    omega (arith, c-pre, live _ _ _ (sym (c-token-at .ensures) ∙ c-p .given .1))
+
+closed-counter-requires : tie.Need-closed-counter-requires
+closed-counter-requires c κs =
+    let c-pre = c .before .before .before .before .before .before .before .before .before .before .pre in
+    let c-token-at = c .before .before .before .before .before .before .token-at in
+    let c-p = c .before .before .before .before .p in
+    let c-step-over = c .step-over in
+    omega (arith, c-pre, live _ _ _ (sym (c-token-at .ensures) ∙ c-p .given .1), ap (λ z. z .diagnostics) (c-step-over .ensures))
+
+step-over-requires-2 : tie.Need-step-over-requires-2
+step-over-requires-2 c κs =
+    let c-pre = c .before .before .before .before .before .before .before .before .before .pre in
+    let c-token-at = c .before .before .before .before .before .token-at in
+    let c-p = c .before .before .before .p in
+    omega (arith, c-pre, live _ _ _ (sym (c-token-at .ensures) ∙ c-p .given .1))
+
+base-and-index-requires : tie.Need-base-and-index-requires
+base-and-index-requires c κs =
+    let c-pre = c .before .before .before .before .before .before .before .before .before .before .pre in
+    let c-token-at = c .before .before .before .before .before .before .token-at in
+    let c-p = c .before .before .before .before .p in
+    let c-step-over2 = c .step-over2 in
+    room-step (c-pre) (sym (c-token-at .ensures) ∙ c-p .given .1) (c-step-over2 .ensures)
+
+unclosed-requires-2 : tie.Need-unclosed-requires-2
+unclosed-requires-2 c κs =
+    let c-pre = c .before .before .before .before .before .before .before .before .before .pre in
+    omega (arith, c-pre)
+
+no-operand-requires-2 : tie.Need-no-operand-requires-2
+no-operand-requires-2 c κs = search needs
+
+same-length-2 : tie.Need-same-length-2
+same-length-2 c = search needs
+
+returns-2 : tie.Need-returns-2
+unfolding afterCounter operandRead
+returns-2 c =
+    let c-token-at = c .before .before .before .before .before .before .before .before .before .token-at in
+    let c-p = c .before .before .before .before .before .before .before .p in
+    let c-match2 = c .before .before .before .before .before .match2 in
+    let c-step-over = c .before .before .before .step-over in
+    let c-closed-counter = c .before .before .closed-counter in
+    record { told = λ y e z. hit (sym (c-token-at .ensures) ∙ c-p .given .1) (eq-eqb _ Kinds.rightParen (c-match2 .keys1)) (c-step-over .ensures) (kept-from y (ap (λ w. w .nodes) (c-step-over .ensures)) (c-closed-counter .ensures _ _ .told y e z)) }
+
+same-length-3 : tie.Need-same-length-3
+same-length-3 c = search needs
+
+returns-3 : tie.Need-returns-3
+unfolding afterCounter operandRead
+returns-3 c =
+    let c-token-at = c .before .before .before .before .before .before .before .before .before .token-at in
+    let c-p = c .before .before .before .before .before .before .before .p in
+    let c-match2 = c .before .before .before .before .before .match2 in
+    let c-step-over2 = c .before .before .before .step-over2 in
+    let c-base-and-index = c .before .before .base-and-index in
+    record { told = λ y e z. miss (sym (c-token-at .ensures) ∙ c-p .given .1) (rw (c-match2 .keys2)) (hit (sym (c-token-at .ensures) ∙ c-p .given .1) (eq-eqb _ Kinds.comma (c-match2 .keys2)) (c-step-over2 .ensures) (kept-from y (ap (λ w. w .nodes) (c-step-over2 .ensures)) (c-base-and-index .ensures .told y e _ (counter-plain y e)))) }
+
+same-length-4 : tie.Need-same-length-4
+same-length-4 c = search needs
+
+returns-4 : tie.Need-returns-4
+unfolding afterCounter operandRead
+returns-4 c =
+    let c-token-at = c .before .before .before .before .before .before .before .before .before .token-at in
+    let c-p = c .before .before .before .before .before .before .before .p in
+    let c-match2 = c .before .before .before .before .before .match2 in
+    let c-unclosed2 = c .before .before .before .unclosed2 in
+    let c-no-operand2 = c .no-operand2 in
+    record { told = λ y e z. miss (sym (c-token-at .ensures) ∙ c-p .given .1) (ne-eqb _ Kinds.rightParen (c-match2 .rest .0 .1)) (miss (sym (c-token-at .ensures) ∙ c-p .given .1) (ne-eqb _ Kinds.comma (c-match2 .rest .1)) (failed-unclosed _ _ 7 3 (c-unclosed2 .ensures) (c-no-operand2 .ensures .0) (c-no-operand2 .ensures .1) (no-operand-held y (c-unclosed2 .ensures)))) }
+
+pub after-counter-spec : {M : Type 1} → statement M
+after-counter-spec =
+    tie.close
+    (tie.spec
+    token-at-requires
+    enum-known-p
+    enum-told
+    unclosed-requires
+    no-operand-requires
+    same-length
+    returns
+    step-over-requires
+    closed-counter-requires
+    step-over-requires-2
+    base-and-index-requires
+    unclosed-requires-2
+    no-operand-requires-2
+    same-length-2
+    returns-2
+    same-length-3
+    returns-3
+    same-length-4
+    returns-4)

@@ -1,0 +1,178 @@
+-- `parser::bases::parse_base_and_index` meets its contract.
+-- Assumes nothing.
+use mathlib.Core.Path.{refl, sym, _∙_, ap}
+use native.Mathlib.Omega.{arith}
+use Rattle.operand.specs.Operand.{parseBaseAndIndex, afterBase}
+use Rattle.operand.specs.Forms.{operandRead}
+use Rattle.parser.proofs.Names.{address-hit, address-miss}
+use Rattle.parser.proofs.Paths.{live, renamed, hit, miss, done, failed-unclosed, failed-register}
+use Rattle.parser.proofs.Rooms.{room-step}
+use Rattle.parser.proofs.Tails.{kept-from, unclosed-shape, register-shape, register-at-base, no-operand-held, no-operand-behind}
+use borrow.Author.Needs.{needs}
+use Rattle.parser.proofs.bases.parse_base_and_index.Statement.{statement}
+use Rattle.parser.proofs.bases.parse_base_and_index.Tie as tie
+
+token-at-requires : tie.Need-token-at-requires
+token-at-requires c κs = search needs
+
+enum-known-p : tie.Need-enum-known-p
+enum-known-p c = search needs
+
+enum-told : tie.Need-enum-told
+enum-told c = search needs
+
+base-shape-requires : tie.Need-base-shape-requires
+base-shape-requires c κs = search needs
+
+unclosed-requires : tie.Need-unclosed-requires
+unclosed-requires c κs =
+    let c-pre = c .before .before .before .before .before .before .before .before .pre in
+    omega (arith, c-pre)
+
+no-operand-requires : tie.Need-no-operand-requires
+no-operand-requires c κs = search needs
+
+same-length : tie.Need-same-length
+same-length c = search needs
+
+returns : tie.Need-returns
+unfolding parseBaseAndIndex operandRead
+returns c =
+    let c-token-at = c .before .before .before .before .before .before .before .before .token-at in
+    let c-enum-told = c .before .before .before .before .before .before .enum-told in
+    let c-base-shape = c .before .before .before .before .base-shape in
+    let c-unclosed = c .before .before .before .unclosed in
+    let c-no-operand = c .no-operand in
+    record { told = λ y e z. done (sym (c-token-at .ensures) ∙ c-enum-told .given .1) (done (sym (c-token-at .ensures) ∙ c-enum-told .given .1) (done (sym (c-token-at .ensures) ∙ c-enum-told .given .1) (failed-unclosed _ _ _ 5 (unclosed-shape 5 _ _ (c-base-shape .ensures y e) (c-unclosed .ensures)) (c-no-operand .ensures .0) (c-no-operand .ensures .1) (no-operand-held y (c-unclosed .ensures))))) }
+
+step-over-requires : tie.Need-step-over-requires
+step-over-requires c κs =
+    let c-pre = c .before .before .before .before .before .before .before .pre in
+    let c-token-at = c .before .before .before .token-at in
+    let c-p = c .before .p in
+    omega (arith, c-pre, live _ _ _ (sym (c-token-at .ensures) ∙ c-p .given .1))
+
+address-register-at-requires : tie.Need-address-register-at-requires
+address-register-at-requires c κs = search needs
+
+enum-known-r : tie.Need-enum-known-r
+enum-known-r c = search needs
+
+span-of-requires : tie.Need-span-of-requires
+span-of-requires c κs = search needs
+
+after-base-requires : tie.Need-after-base-requires
+after-base-requires c κs =
+    let c-pre = c .before .before .before .before .before .before .before .before .before .before .before .before .before .before .pre in
+    let c-token-at = c .before .before .before .before .before .before .before .before .before .before .token-at in
+    let c-p = c .before .before .before .before .before .before .before .before .p in
+    let c-step-over = c .before .before .before .before .before .before .step-over in
+    room-step (c-pre) (sym (c-token-at .ensures) ∙ c-p .given .1) (c-step-over .ensures)
+
+same-length-2 : tie.Need-same-length-2
+same-length-2 c = search needs
+
+returns-2 : tie.Need-returns-2
+unfolding parseBaseAndIndex operandRead
+returns-2 c =
+    let c-address-register-at = c .before .before .before .before .before .before .before .before .address-register-at in
+    let c-r = c .before .before .before .before .before .before .r in
+    let c-token-at = c .before .before .before .before .before .before .before .before .before .before .before .before .before .token-at in
+    let c-p = c .before .before .before .before .before .before .before .before .before .before .before .p in
+    let c-step-over = c .before .before .before .before .before .before .before .before .before .step-over in
+    let c-args = c .before .before .before .before .before .before .before .before .before .before .before .before .before .before .before .before .before .args in
+    let c-span-of = c .before .before .before .before .span-of in
+    let c-after-base = c .before .before .after-base in
+    record { told = λ y e z. let h = address-hit _ _ (sym (c-address-register-at .ensures) ∙ c-r .given .1) in hit (sym (c-token-at .ensures) ∙ c-p .given .1) (h .0) (c-step-over .ensures) (renamed (ap (afterBase (c-args .s) (c-args .o) (c-args .paren) y) (register-at-base (c-span-of .ensures) (h .1))) (kept-from y (ap (λ w. w .nodes) (c-step-over .ensures)) (c-after-base .ensures .told y e z))) }
+
+enum-told-2 : tie.Need-enum-told-2
+enum-told-2 c = search needs
+
+program-counter-at-requires : tie.Need-program-counter-at-requires
+program-counter-at-requires c κs = search needs
+
+after-counter-requires : tie.Need-after-counter-requires
+after-counter-requires c κs =
+    let c-pre = c .before .before .before .before .before .before .before .before .before .before .before .before .before .before .pre in
+    let c-token-at = c .before .before .before .before .before .before .before .before .before .before .token-at in
+    let c-p = c .before .before .before .before .before .before .before .before .p in
+    let c-step-over = c .before .before .before .before .before .before .step-over in
+    room-step (c-pre) (sym (c-token-at .ensures) ∙ c-p .given .1) (c-step-over .ensures)
+
+same-length-3 : tie.Need-same-length-3
+same-length-3 c = search needs
+
+returns-3 : tie.Need-returns-3
+unfolding parseBaseAndIndex operandRead
+returns-3 c =
+    let c-token-at = c .before .before .before .before .before .before .before .before .before .before .before .before .before .token-at in
+    let c-p = c .before .before .before .before .before .before .before .before .before .before .before .p in
+    let c-address-register-at = c .before .before .before .before .before .before .before .before .address-register-at in
+    let c-enum-told2 = c .before .before .before .before .before .before .enum-told2 in
+    let c-program-counter-at = c .before .before .before .before .before .program-counter-at in
+    let c-if1 = c .before .before .before .before .if1 in
+    let c-step-over = c .before .before .before .before .before .before .before .before .before .step-over in
+    let c-after-counter = c .before .before .after-counter in
+    record { told = λ y e z. miss (sym (c-token-at .ensures) ∙ c-p .given .1) (address-miss _ _ (sym (c-address-register-at .ensures) ∙ c-enum-told2 .given .1)) (hit (sym (c-token-at .ensures) ∙ c-p .given .1) (sym (c-program-counter-at .ensures) ∙ c-if1 .taken) (c-step-over .ensures) (kept-from y (ap (λ w. w .nodes) (c-step-over .ensures)) (c-after-counter .ensures .told y e z))) }
+
+base-shape-requires-2 : tie.Need-base-shape-requires-2
+base-shape-requires-2 c κs = search needs
+
+not-an-address-register-requires : tie.Need-not-an-address-register-requires
+not-an-address-register-requires c κs =
+    let c-pre = c .before .before .before .before .before .before .before .before .before .before .before .before .before .before .before .pre in
+    let c-token-at = c .before .before .before .before .before .before .before .before .before .before .before .token-at in
+    let c-p = c .before .before .before .before .before .before .before .before .before .p in
+    let c-step-over = c .before .before .before .before .before .before .before .step-over in
+    omega (arith, c-pre, live _ _ _ (sym (c-token-at .ensures) ∙ c-p .given .1), ap (λ w. w .diagnostics) (c-step-over .ensures))
+
+no-operand-requires-2 : tie.Need-no-operand-requires-2
+no-operand-requires-2 c κs = search needs
+
+same-length-4 : tie.Need-same-length-4
+same-length-4 c = search needs
+
+returns-4 : tie.Need-returns-4
+unfolding parseBaseAndIndex operandRead
+returns-4 c =
+    let c-token-at = c .before .before .before .before .before .before .before .before .before .before .before .before .before .before .before .token-at in
+    let c-p = c .before .before .before .before .before .before .before .before .before .before .before .before .before .p in
+    let c-address-register-at = c .before .before .before .before .before .before .before .before .before .before .address-register-at in
+    let c-enum-told2 = c .before .before .before .before .before .before .before .before .enum-told2 in
+    let c-program-counter-at = c .before .before .before .before .before .before .before .program-counter-at in
+    let c-if1 = c .before .before .before .before .before .before .if1 in
+    let c-step-over = c .before .before .before .before .before .before .before .before .before .before .before .step-over in
+    let c-base-shape2 = c .before .before .before .before .base-shape2 in
+    let c-not-an-address-register = c .before .before .before .not-an-address-register in
+    let c-no-operand2 = c .no-operand2 in
+    record { told = λ y e z. miss (sym (c-token-at .ensures) ∙ c-p .given .1) (address-miss _ _ (sym (c-address-register-at .ensures) ∙ c-enum-told2 .given .1)) (miss (sym (c-token-at .ensures) ∙ c-p .given .1) (sym (c-program-counter-at .ensures) ∙ c-if1 .left) (hit (sym (c-token-at .ensures) ∙ c-p .given .1) refl (c-step-over .ensures) (failed-register _ _ _ (register-shape _ _ (c-base-shape2 .ensures y e) (c-not-an-address-register .ensures)) (c-no-operand2 .ensures .0) (c-no-operand2 .ensures .1) (no-operand-behind y (ap (λ w. w .nodes) (c-step-over .ensures)) (c-not-an-address-register .ensures))))) }
+
+pub parse-base-and-index-spec : {M : Type 1} → statement M
+parse-base-and-index-spec =
+    tie.close
+    (tie.spec
+    token-at-requires
+    enum-known-p
+    enum-told
+    base-shape-requires
+    unclosed-requires
+    no-operand-requires
+    same-length
+    returns
+    step-over-requires
+    address-register-at-requires
+    enum-known-r
+    span-of-requires
+    after-base-requires
+    same-length-2
+    returns-2
+    enum-told-2
+    program-counter-at-requires
+    after-counter-requires
+    same-length-3
+    returns-3
+    base-shape-requires-2
+    not-an-address-register-requires
+    no-operand-requires-2
+    same-length-4
+    returns-4)

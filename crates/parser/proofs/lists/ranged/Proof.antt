@@ -1,0 +1,32 @@
+-- `parser::lists::ranged` meets its contract.
+-- Assumes nothing.
+use mathlib.Core.Path.{refl}
+use Rattle.parser.specs.Items.{rising, falling}
+use Rattle.parser.proofs.Paths.{raised-as}
+use borrow.Author.Needs.{needs}
+use Rattle.parser.proofs.lists.ranged.Statement.{statement}
+use Rattle.parser.proofs.lists.ranged.Tie as tie
+
+diagnostic-requires : tie.Need-diagnostic-requires
+diagnostic-requires c κs = search needs
+
+raise-requires : tie.Need-raise-requires
+raise-requires c κs = search needs
+
+same-length : tie.Need-same-length
+same-length c = search needs
+
+returns : tie.Need-returns
+returns c =
+    let c-if1 = c .before .before .before .before .before .if1 in
+    let c-diagnostic = c .before .before .before .diagnostic in
+    let c-raise = c .before .before .raise in
+    falling (c-if1 .taken) refl (raised-as (c-diagnostic .ensures) (c-raise .ensures))
+
+returns-2 : tie.Need-returns-2
+returns-2 c =
+    let c-if1 = c .if1 in
+    rising (c-if1 .left) refl refl refl
+
+pub ranged-spec : {M : Type 1} → statement M
+ranged-spec = tie.close (tie.spec diagnostic-requires raise-requires same-length returns returns-2)

@@ -1,0 +1,101 @@
+-- `parser::operands::parse_predecrement` meets its contract.
+-- Assumes nothing.
+use mathlib.Core.Path.{refl, sym, _∙_}
+use native.Mathlib.Omega.{arith}
+use borrow.Author.Tests.{le-leb, lt-leb}
+use lib.Dec.{leb}
+use Rattle.operand.specs.Operand.{predecrementClose, predecremented}
+use Rattle.operand.specs.Operands.{undisplaced}
+use Rattle.operand.specs.Records.{sizeD, nodesD, sizeO, nodesO}
+use Rattle.operand.specs.Forms.{recordOf, operandRead}
+use Rattle.parser.proofs.Paths.{bound, chosen, unchosen, failed-register, raised-same}
+use Rattle.parser.proofs.Rooms.{close-is, close-not}
+use Rattle.parser.proofs.Tails.{operand-told}
+use Rattle.parser.proofs.Holdings.{kept-none, nothing-told}
+use borrow.Author.Needs.{needs}
+use Rattle.parser.proofs.operands.parse_predecrement.Statement.{statement}
+use Rattle.parser.proofs.operands.parse_predecrement.Tie as tie
+
+not-an-address-register-requires : tie.Need-not-an-address-register-requires
+not-an-address-register-requires c κs =
+    let c-pre = c .before .before .before .before .before .pre in
+    omega (arith, c-pre)
+
+no-operand-requires : tie.Need-no-operand-requires
+no-operand-requires c κs = search needs
+
+same-length : tie.Need-same-length
+same-length c = search needs
+
+returns : tie.Need-returns
+unfolding predecrementClose predecremented operandRead recordOf sizeD nodesD sizeO nodesO
+returns c =
+    let c-args = c .before .before .before .before .before .before .before .before .before .args in
+    let c-if1 = c .before .before .before .before .before .if1 in
+    let c-not-an-address-register = c .before .before .before .not-an-address-register in
+    let c-no-operand = c .no-operand in
+    λ L. unchosen (leb 8 (c-args .r .index)) _ (lt-leb 8 _ (c-if1 .taken)) (failed-register _ 4 (c-args .token) (c-not-an-address-register .ensures) (c-no-operand .ensures .0) (c-no-operand .ensures .1) (kept-none undisplaced (raised-same (c-not-an-address-register .ensures))))
+
+expect-close-requires : tie.Need-expect-close-requires
+expect-close-requires c κs = search needs
+
+enum-told : tie.Need-enum-told
+enum-told c = search needs
+
+no-operand-requires-2 : tie.Need-no-operand-requires-2
+no-operand-requires-2 c κs = search needs
+
+enum-known-close : tie.Need-enum-known-close
+enum-known-close c = search needs
+
+plain-operand-requires : tie.Need-plain-operand-requires
+plain-operand-requires c κs = search needs
+
+an-operand-requires : tie.Need-an-operand-requires
+an-operand-requires c κs = search needs
+
+same-length-2 : tie.Need-same-length-2
+same-length-2 c = search needs
+
+returns-2 : tie.Need-returns-2
+unfolding predecrementClose predecremented operandRead recordOf sizeD nodesD sizeO nodesO
+returns-2 c =
+    let c-args = c .before .before .before .before .before .before .before .before .before .before .before .before .args in
+    let c-if1 = c .before .before .before .before .before .before .before .before .if1 in
+    let c-expect-close = c .before .before .before .before .before .before .expect-close in
+    let c-enum-told = c .before .enum-told in
+    let c-no-operand2 = c .no-operand2 in
+    λ L. chosen (leb 8 (c-args .r .index)) _ (le-leb 8 _ (c-if1 .left)) (bound (c-expect-close .ensures L) (close-not _ (sym ((c-expect-close .ensures L) .what) ∙ c-enum-told .given .1)) (nothing-told undisplaced (c-no-operand2 .ensures) ((c-expect-close .ensures L) .held)))
+
+same-length-3 : tie.Need-same-length-3
+same-length-3 c = search needs
+
+returns-3 : tie.Need-returns-3
+unfolding predecrementClose predecremented operandRead recordOf sizeD nodesD sizeO nodesO
+returns-3 c =
+    let c-args = c .before .before .before .before .before .before .before .before .before .before .before .before .before .before .args in
+    let c-if1 = c .before .before .before .before .before .before .before .before .before .before .if1 in
+    let c-expect-close = c .before .before .before .before .before .before .before .before .expect-close in
+    let c-close = c .before .before .before .close in
+    let c-an-operand = c .an-operand in
+    let c-plain-operand = c .before .plain-operand in
+    λ L. chosen (leb 8 (c-args .r .index)) _ (le-leb 8 _ (c-if1 .left)) (bound (c-expect-close .ensures L) (close-is _ (sym ((c-expect-close .ensures L) .what) ∙ c-close .given .1)) (operand-told _ undisplaced (c-an-operand .ensures) (c-plain-operand .ensures) ((c-expect-close .ensures L) .held) refl refl))
+
+pub parse-predecrement-spec : {M : Type 1} → statement M
+parse-predecrement-spec =
+    tie.close
+    (tie.spec
+    not-an-address-register-requires
+    no-operand-requires
+    same-length
+    returns
+    expect-close-requires
+    enum-told
+    no-operand-requires-2
+    enum-known-close
+    plain-operand-requires
+    an-operand-requires
+    same-length-2
+    returns-2
+    same-length-3
+    returns-3)

@@ -1,0 +1,6 @@
+-- What the functions ask and tell, in reading order.
+pub mod Steps
+pub mod Tests
+pub mod Items
+pub mod Brackets
+pub mod Behind

@@ -1,0 +1,130 @@
+-- What the functions ask and tell: the answer, the counters and the diagnostics, by the reading that the definition gives.
+-- Assumes nothing.
+use mathlib.Core.Path.{_≡_}
+use mathlib.Core.List.{List, [], _++_}
+use Prim.Native.Nat.{ℕ, _+_, _*_, _≤_, _<_}
+use lib.ListN.{length, take, drop}
+use Rattle.names.specs.Kinds
+use Rattle.names.specs.Tokens.{count, tokenAt}
+use Rattle.names.specs.Places.{place}
+use Rattle.names.specs.declared.tokens.Token.{Token}
+use Rattle.names.specs.declared.tokens.Peeked.the-variants as peeked
+use Rattle.expressions.specs.declared.records.Diagnostic.{Diagnostic}
+use Rattle.expressions.specs.declared.terms.Counters.{Counters}
+use Rattle.expressions.specs.Diagnostics.{diagnosticRecord}
+use Rattle.expressions.specs.Reader.{is, Reader, answer, bump, run, _>>=_}
+use Rattle.expressions.specs.Stores.{written, nodeBytes, added}
+use Rattle.expressions.specs.Terms.{stepped}
+use Rattle.operand.specs.Operands.{Displacement, displaced, undisplaced, Operand, Maybe, some, none}
+use Rattle.operand.specs.Operand.{registers, expectClose, indexedOperand, closedIndex, indexAlone, parseIndexRegister}
+use Rattle.operand.specs.Records.{sizeD, nodesD, sizeO, nodesO}
+use Rattle.operand.specs.Forms.{sizedOf, formOf, recordOf, operandRead}
+use Rattle.expressions.specs.declared.records.Span.{Span}
+use Rattle.expressions.specs.declared.reading.Setting.{Setting}
+use Rattle.operand.specs.declared.forms.IndexRegister.{IndexRegister}
+use Rattle.operand.specs.declared.forms.BaseRegister.{BaseRegister}
+use Rattle.operand.specs.declared.forms.Index.{Index}
+use Rattle.operand.specs.declared.forms.Registers.{Registers}
+use Rattle.operand.specs.declared.forms.SizedDisplacement.{SizedDisplacement}
+use Rattle.operand.specs.declared.forms.OperandStep.{OperandStep}
+
+-- ---- what they ask
+
+-- a diagnostic for each token that is left, and one more. The run of a size suffix begins behind its first byte, which is a place of the line
+pub record Room (T D : List ℕ) (c : Counters) : Type 0 where
+  pub few : count T ≤ 255
+  pub within : c .at ≤ count T
+  pub room : 10 * c .diagnostics + 10 * count T + 10 ≤ length D + 10 * c .at
+  pub suffixes : (i : ℕ) (t : Token) → tokenAt T i ≡ peeked.Is t → t .kind ≡ Kinds.sizeSuffix → t .start < 255
+
+-- and a node for each token that is left
+pub record NodeRoom (T N D : List ℕ) (c : Counters) : Type 0 where
+  pub room : Room T D c
+  pub nodesFit : c .nodes + count T ≤ 255 + c .at
+  pub nodesLong : 3570 ≤ length N
+
+-- ---- what they tell
+
+-- the diagnostic x behind those that count; nothing else moves
+pub record Raised (D D′ : List ℕ) (c : Counters) (x : Diagnostic) (r : Counters) : Type 0 where
+  pub counters : r ≡ record { at = c .at; end = c .end; nodes = c .nodes; diagnostics = c .diagnostics + 1 }
+  pub more : D′ ≡ written D (10 * c .diagnostics) (diagnosticRecord x)
+
+-- the same, behind whatever stands at the cursor. x: by where the last token ended
+pub data RaisedOver (T D D′ : List ℕ) (c : Counters) (x : ℕ → Diagnostic) (r : Counters) : Type 0 where
+  over : (t : Token) → tokenAt T (c .at) ≡ peeked.Is t → Raised D D′ (stepped c t) (x (t .end)) r → RaisedOver T D D′ c x r
+  ended : tokenAt T (c .at) ≡ peeked.End → Raised D D′ c (x (c .end)) r → RaisedOver T D D′ c x r
+
+-- The answer v, the counters r and the diagnostics D′ are what the reader p says, from the counters c on.
+-- f: the code's value for the definition's. Q: what else holds of the answer, as of the nodes
+pub record Told {A B : Type 0} (f : A → B) (Q : A → Counters → Type 0) (p : Reader A) (L T D D′ : List ℕ) (c : Counters) (v : B) (r : Counters) : Type 0 where
+  pub what : v ≡ f (run p (place L T) (c .at) (c .end) .value)
+  pub at : r .at ≡ run p (place L T) (c .at) (c .end) .cursor
+  pub end : r .end ≡ run p (place L T) (c .at) (c .end) .end
+  pub seen : r .diagnostics ≡ c .diagnostics + length (run p (place L T) (c .at) (c .end) .raised)
+  pub more : D′ ≡ added D (c .diagnostics) (run p (place L T) (c .at) (c .end) .raised)
+  pub held : Q (run p (place L T) (c .at) (c .end) .value) r
+
+-- no node is written
+abbrev pub Same : {A : Type 0} → ℕ → A → Counters → Type 0
+Same n a r = r .nodes ≡ n
+
+-- ---- operands
+
+-- the nodes of an operand are n records, of these bytes
+unfoldable pub HeldBy : List ℕ → ℕ → Maybe Operand → Type 0
+HeldBy b n (some x) = (nodesO x ≡ b) × (sizeO x ≡ n)
+HeldBy b n none = Unit {0}
+
+-- the operand's nodes are those of its displacement, whose tree stands there
+abbrev pub Kept : ℕ → Displacement → Maybe Operand → Counters → Type 0
+Kept n y x r = (r .nodes ≡ n) × HeldBy (nodesD 0 y) (sizeD y) x
+
+-- a reader behind a displacement d that begins at node 0
+pub record TailTold (p : Displacement → Reader (Maybe Operand)) (L T D D′ : List ℕ) (c : Counters) (d : SizedDisplacement) (r : OperandStep) : Type 0 where
+  pub told : (y : Displacement) → sizedOf 0 y ≡ d → Told operandRead (Kept (c .nodes) y) (p y) L T D D′ c (r .operand) (r .counters)
+
+-- a base takes a displacement without a size
+unfoldable pub Unsized : Displacement → Type 0
+Unsized (displaced e n) = n ≡ 0
+Unsized undisplaced = Unit {0}
+
+pub record BaseTold (p : Displacement → Reader (Maybe Operand)) (L T D D′ : List ℕ) (c : Counters) (d : SizedDisplacement) (r : OperandStep) : Type 0 where
+  pub told : (y : Displacement) → sizedOf 0 y ≡ d → Unsized y → Told operandRead (Kept (c .nodes) y) (p y) L T D D′ c (r .operand) (r .counters)
+
+-- ---- an index behind a base
+
+-- the operand that an index makes with a base, where it is not suppressed: of this form, with the displacement y
+abbrev pub Plain : ℕ → SizedDisplacement → BaseRegister → Displacement → (IndexRegister → Span → Operand) → Type 0
+Plain form d base y plain = (x : IndexRegister) (z : Span) → (recordOf (plain x z) ≡ formOf form z d base (Index.Indexed x)) × (nodesO (plain x z) ≡ nodesD 0 y) × (sizeO (plain x z) ≡ sizeD y)
+
+pub record IndexedTold (p : Displacement → (IndexRegister → Span → Operand) → Reader (Maybe Operand)) (L T D D′ : List ℕ) (c : Counters) (form : ℕ) (d : SizedDisplacement) (base : BaseRegister) (r : OperandStep) : Type 0 where
+  pub told : (y : Displacement) → sizedOf 0 y ≡ d → (plain : IndexRegister → Span → Operand) → Plain form d base y plain
+      → Told operandRead (Kept (c .nodes) y) (p y plain) L T D D′ c (r .operand) (r .counters)
+
+-- the parenthesis behind the index x
+abbrev pub closeIndex : ℕ → Token → ℕ → BaseRegister → IndexRegister → Displacement → (IndexRegister → Span → Operand) → Reader (Maybe Operand)
+closeIndex o k shape base x y plain = expectClose o k shape >>= indexedOperand o y base plain x
+
+-- an index and the parenthesis
+abbrev pub baseAndIndex : Setting → ℕ → Token → ℕ → BaseRegister → Displacement → (IndexRegister → Span → Operand) → Reader (Maybe Operand)
+baseAndIndex s o k shape base y plain = parseIndexRegister s o shape >>= closedIndex o k shape (indexedOperand o y base plain)
+
+-- an index, with this base
+abbrev pub withIndex : Setting → ℕ → ℕ → BaseRegister → Reader (Maybe Registers)
+withIndex s o shape base = parseIndexRegister s o shape >>= indexAlone base
+
+-- a comma and an index, or neither
+abbrev pub commaAndIndex : Setting → ℕ → ℕ → BaseRegister → Reader (Maybe Registers)
+commaAndIndex s o shape base = bump (is Kinds.comma) (λ c y. withIndex s o shape base) λ u. answer (some (registers base Index.Unindexed))
+
+-- ---- operands with nodes
+
+-- the operand's nodes are the records that count
+abbrev pub Stored : List ℕ → Maybe Operand → Counters → Type 0
+Stored N′ x r = HeldBy (take (14 * r .nodes) N′) (r .nodes) x
+
+-- a reader of an operand, from no node on
+pub record OperandTold (p : Reader (Maybe Operand)) (L T N D N′ D′ : List ℕ) (c : Counters) (r : OperandStep) : Type 0 where
+  pub told : Told operandRead (Stored N′) p L T D D′ c (r .operand) (r .counters)
+  pub past : drop nodeBytes N′ ≡ drop nodeBytes N

@@ -1,0 +1,370 @@
+// Sizes, scales and index registers, and the end of a parenthesis.
+use crate::places::register_at;
+use crate::places::suppressed_register_at;
+use crate::reports::diagnostic;
+use crate::reports::malformed;
+use crate::reports::raise;
+use crate::reports::stepped_over;
+use crate::reports::unclosed;
+use expressions::Counters;
+use expressions::Setting;
+use expressions::Span;
+use expressions::span_of;
+use expressions::step_over;
+use names::Number;
+use names::Peeked;
+use names::Reg;
+use names::SizeSuffix;
+use names::Suppressed;
+use names::Token;
+use names::kinds;
+use operand::Close;
+use operand::CloseStep;
+use operand::IndexRead;
+use operand::IndexRegister;
+use operand::IndexStep;
+use operand::Register;
+use operand::SuffixRead;
+use operand::SuffixStep;
+use operand::Suffixed;
+ghost use mathlib.Core.Path.{_≡_};
+ghost use mathlib.Core.List.{List};
+ghost use Prim.Native.Nat.{ℕ, _+_, _*_, _≤_, _<_};
+ghost use lib.ListN.{length};
+ghost use Rattle.names.specs.Places.{textOf};
+ghost use Rattle.names.specs.Sizes.{runOf};
+ghost use Rattle.expressions.specs.Expressions.{suffixRun, takeSizeSuffix};
+ghost use Rattle.operand.specs.Operand.{expectClose, scaleOf, scaled, scaleValue, indexScale, indexRegister, parseIndexRegister};
+ghost use Rattle.operand.specs.Forms.{suffixRead, closeRead, indexRead};
+ghost use Rattle.parser.specs.Steps.{Room, Told, Same};
+ghost use Rattle.operand.specs.declared.forms.Close.{Close};
+ghost use Rattle.operand.specs.declared.forms.IndexRead.{IndexRead};
+ghost use Rattle.operand.specs.declared.forms.SuffixRead.{SuffixRead};
+
+// Behind the token of a size suffix. A run of two letters or more is a dot inside a name, which began at `from`.
+fn suffix_run(
+    line: &[u8],
+    diagnostics: &mut [u8],
+    c: Counters,
+    from: u8,
+    token: Token,
+) -> SuffixStep
+    requires { ⌜ (10 * c .diagnostics + 10 ≤ length (now diagnostics)) × (token .start < 255) ⌝ }
+    ensures { λ r. ⌜ ((T : List ℕ) → Told suffixRead (Same (c .nodes)) (suffixRun from token (runOf (textOf (now (line .entry)) (token .start) (token .end)))) (now (line .entry)) T (now (diagnostics .entry)) (now (diagnostics .exit)) c (r .suffix) (r .counters)) ⌝ }
+{
+    let run = names::suffix_run(names::text_of(line, token));
+    let span = span_of(token);
+    if 2 <= run.len() {
+        let name = Span {
+            start: from,
+            end: token.end,
+        };
+        return unknown(raise(diagnostics, c, diagnostic(3, 0, 0, span, name)), span);
+    }
+    let size = SizeSuffix::from_run(run);
+    match size {
+        SizeSuffix::Is(n) => SuffixStep {
+            suffix: SuffixRead::Is(Suffixed {
+                size: n,
+                span: span,
+            }),
+            counters: c,
+        },
+        SizeSuffix::Not => {
+            let text = Span {
+                start: token.start + 1,
+                end: token.end,
+            };
+            unknown(raise(diagnostics, c, diagnostic(2, 0, 0, span, text)), span)
+        }
+    }
+}
+
+// A size that is not known.
+fn unknown(c: Counters, span: Span) -> SuffixStep
+    ensures { λ r. ⌜ (r .suffix ≡ SuffixRead.Is (record { size = 0; span = span })) × (r .counters ≡ c) ⌝ }
+{
+    SuffixStep {
+        suffix: SuffixRead::Is(Suffixed {
+            size: 0,
+            span: span,
+        }),
+        counters: c,
+    }
+}
+
+pub(crate) fn take_size_suffix(
+    line: &[u8],
+    tokens: &[u8],
+    diagnostics: &mut [u8],
+    c: Counters,
+    from: u8,
+) -> SuffixStep
+    requires { ⌜ Room (now tokens) (now diagnostics) c ⌝ }
+    ensures { λ r. ⌜ Told suffixRead (Same (c .nodes)) (takeSizeSuffix from) (now (line .entry)) (now (tokens .entry)) (now (diagnostics .entry)) (now (diagnostics .exit)) c (r .suffix) (r .counters) ⌝ }
+{
+    let at = c.at;
+    let p = names::token_at(tokens, at);
+    match p {
+        Peeked::End => bare(c),
+        Peeked::Is(t) => {
+            if t.kind != kinds::SIZE_SUFFIX {
+                return bare(c);
+            }
+            suffix_run(line, diagnostics, step_over(c, t), from, t)
+        }
+    }
+}
+
+// No suffix.
+fn bare(c: Counters) -> SuffixStep
+    ensures { λ r. ⌜ (r .suffix ≡ SuffixRead.Not) × (r .counters ≡ c) ⌝ }
+{
+    SuffixStep {
+        suffix: SuffixRead::Not,
+        counters: c,
+    }
+}
+
+pub(crate) fn expect_close(
+    tokens: &[u8],
+    diagnostics: &mut [u8],
+    c: Counters,
+    o: u8,
+    paren: Token,
+    shape: u8,
+) -> CloseStep
+    requires { ⌜ Room (now tokens) (now diagnostics) c ⌝ }
+    ensures { λ r. ⌜ ((L : List ℕ) → Told closeRead (Same (c .nodes)) (expectClose o paren shape) L (now (tokens .entry)) (now (diagnostics .entry)) (now (diagnostics .exit)) c (r .close) (r .counters)) ⌝ }
+{
+    let at = c.at;
+    let p = names::token_at(tokens, at);
+    match p {
+        Peeked::End => never_closed(unclosed(diagnostics, c, o, paren, shape, 3)),
+        Peeked::Is(t) => {
+            if t.kind != kinds::RIGHT_PAREN {
+                return never_closed(unclosed(diagnostics, c, o, paren, shape, 3));
+            }
+            CloseStep {
+                close: Close::Is(t.end),
+                counters: step_over(c, t),
+            }
+        }
+    }
+}
+
+fn never_closed(c: Counters) -> CloseStep
+    ensures { λ r. ⌜ (r .close ≡ Close.Not) × (r .counters ≡ c) ⌝ }
+{
+    CloseStep {
+        close: Close::Not,
+        counters: c,
+    }
+}
+
+fn an_index(x: IndexRegister, c: Counters) -> IndexStep
+    ensures { λ r. ⌜ (r .index ≡ IndexRead.Is x) × (r .counters ≡ c) ⌝ }
+{
+    IndexStep {
+        index: IndexRead::Is(x),
+        counters: c,
+    }
+}
+
+fn no_index(c: Counters) -> IndexStep
+    ensures { λ r. ⌜ (r .index ≡ IndexRead.Not) × (r .counters ≡ c) ⌝ }
+{
+    IndexStep {
+        index: IndexRead::Not,
+        counters: c,
+    }
+}
+
+fn is_scale(value: u64) -> bool
+    ensures { λ r. ⌜ r ≡ scaleOf value ⌝ }
+{
+    match value {
+        1 => true,
+        2 => true,
+        4 => true,
+        8 => true,
+        _ => false,
+    }
+}
+
+// A scale, once its value is known.
+fn scaled(
+    diagnostics: &mut [u8],
+    c: Counters,
+    o: u8,
+    shape: u8,
+    x: IndexRegister,
+    token: Token,
+    value: u64,
+) -> IndexStep
+    requires { ⌜ 10 * c .diagnostics + 10 ≤ length (now diagnostics) ⌝ }
+    ensures { λ r. ⌜ ((L T : List ℕ) → Told indexRead (Same (c .nodes)) (scaled o shape x token value) L T (now (diagnostics .entry)) (now (diagnostics .exit)) c (r .index) (r .counters)) ⌝ }
+{
+    if is_scale(value) {
+        let register = x.register;
+        let y = IndexRegister {
+            register: register,
+            size: x.size,
+            scale: value as u8,
+            suppressed: x.suppressed,
+            span: Span {
+                start: x.span.start,
+                end: token.end,
+            },
+        };
+        return an_index(y, c);
+    }
+    no_index(malformed(diagnostics, c, o, shape, 7))
+}
+
+// Behind the number of a scale. One that is too large is told, and is no scale either.
+fn index_scale_value(
+    line: &[u8],
+    diagnostics: &mut [u8],
+    c: Counters,
+    o: u8,
+    shape: u8,
+    x: IndexRegister,
+    token: Token,
+) -> IndexStep
+    requires { ⌜ 10 * c .diagnostics + 20 ≤ length (now diagnostics) ⌝ }
+    ensures { λ r. ⌜ ((T : List ℕ) → Told indexRead (Same (c .nodes)) (scaleValue o shape x token (textOf (now (line .entry)) (token .start) (token .end))) (now (line .entry)) T (now (diagnostics .entry)) (now (diagnostics .exit)) c (r .index) (r .counters)) ⌝ }
+{
+    let span = span_of(token);
+    let number = names::parse_number(token.detail, names::text_of(line, token));
+    match number {
+        Number::Value(v) => scaled(diagnostics, c, o, shape, x, token, v),
+        Number::TooLarge => {
+            let e = raise(diagnostics, c, diagnostic(1, 0, 0, span, span));
+            scaled(diagnostics, e, o, shape, x, token, 0)
+        }
+        Number::Invalid => scaled(diagnostics, c, o, shape, x, token, 0),
+    }
+}
+
+fn index_scale(
+    line: &[u8],
+    tokens: &[u8],
+    diagnostics: &mut [u8],
+    c: Counters,
+    o: u8,
+    shape: u8,
+    x: IndexRegister,
+) -> IndexStep
+    requires { ⌜ Room (now tokens) (now diagnostics) c ⌝ }
+    ensures { λ r. ⌜ Told indexRead (Same (c .nodes)) (indexScale o shape x) (now (line .entry)) (now (tokens .entry)) (now (diagnostics .entry)) (now (diagnostics .exit)) c (r .index) (r .counters) ⌝ }
+{
+    let at = c.at;
+    let p = names::token_at(tokens, at);
+    let Peeked::Is(star) = p else {
+        return an_index(x, c);
+    };
+    if star.kind != kinds::STAR {
+        return an_index(x, c);
+    }
+    let e = step_over(c, star);
+    let next = e.at;
+    let q = names::token_at(tokens, next);
+    let Peeked::Is(t) = q else {
+        return no_index(stepped_over(tokens, diagnostics, e, o, shape, 7));
+    };
+    if t.kind != kinds::NUMBER {
+        return no_index(stepped_over(tokens, diagnostics, e, o, shape, 7));
+    }
+    index_scale_value(line, diagnostics, step_over(e, t), o, shape, x, t)
+}
+
+// Behind the register of an index.
+fn index_register(
+    line: &[u8],
+    tokens: &[u8],
+    diagnostics: &mut [u8],
+    c: Counters,
+    o: u8,
+    shape: u8,
+    register: Register,
+    suppressed: bool,
+) -> IndexStep
+    requires { ⌜ Room (now tokens) (now diagnostics) c ⌝ }
+    ensures { λ r. ⌜ Told indexRead (Same (c .nodes)) (indexRegister o shape register suppressed) (now (line .entry)) (now (tokens .entry)) (now (diagnostics .entry)) (now (diagnostics .exit)) c (r .index) (r .counters) ⌝ }
+{
+    let own = register.span;
+    let start = own.start;
+    let s = take_size_suffix(line, tokens, diagnostics, c, start);
+    let e = s.counters;
+    let suffix = s.suffix;
+    match suffix {
+        SuffixRead::Not => {
+            let x = IndexRegister {
+                register: register,
+                size: 0,
+                scale: 0,
+                suppressed: suppressed,
+                span: own,
+            };
+            index_scale(line, tokens, diagnostics, e, o, shape, x)
+        }
+        SuffixRead::Is(size) => {
+            let x = IndexRegister {
+                register: register,
+                size: size.size,
+                scale: 0,
+                suppressed: suppressed,
+                span: Span {
+                    start: start,
+                    end: size.span.end,
+                },
+            };
+            index_scale(line, tokens, diagnostics, e, o, shape, x)
+        }
+    }
+}
+
+pub(crate) fn parse_index_register(
+    line: &[u8],
+    tokens: &[u8],
+    diagnostics: &mut [u8],
+    c: Counters,
+    s: Setting,
+    o: u8,
+    shape: u8,
+) -> IndexStep
+    requires { ⌜ Room (now tokens) (now diagnostics) c ⌝ }
+    ensures { λ r. ⌜ Told indexRead (Same (c .nodes)) (parseIndexRegister s o shape) (now (line .entry)) (now (tokens .entry)) (now (diagnostics .entry)) (now (diagnostics .exit)) c (r .index) (r .counters) ⌝ }
+{
+    let at = c.at;
+    let p = names::token_at(tokens, at);
+    let Peeked::Is(t) = p else {
+        return no_index(stepped_over(tokens, diagnostics, c, o, shape, 6));
+    };
+    let span = span_of(t);
+    let r = register_at(line, t);
+    if let Reg::Is(index) = r {
+        let register = Register {
+            index: index,
+            span: span,
+        };
+        let e = step_over(c, t);
+        return index_register(line, tokens, diagnostics, e, o, shape, register, false);
+    }
+    let z = suppressed_register_at(line, t, at, s);
+    match z {
+        Suppressed::Register(index) => {
+            let register = Register {
+                index: index,
+                span: span,
+            };
+            let e = step_over(c, t);
+            index_register(line, tokens, diagnostics, e, o, shape, register, true)
+        }
+        Suppressed::ProgramCounter => {
+            no_index(stepped_over(tokens, diagnostics, c, o, shape, 6))
+        }
+        Suppressed::Not => no_index(stepped_over(tokens, diagnostics, c, o, shape, 6)),
+    }
+}

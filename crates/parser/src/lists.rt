@@ -1,0 +1,300 @@
+// Register lists: each item is a node, and its registers are bits of the mask.
+use crate::places::register_at;
+use crate::reports::diagnostic;
+use crate::reports::raise;
+use crate::steps::no_operand;
+use expressions::Counters;
+use expressions::Span;
+use expressions::put_node;
+use expressions::span_of;
+use expressions::step_over;
+use names::Peeked;
+use names::Reg;
+use names::kinds;
+use operand::BaseRegister;
+use operand::Index;
+use operand::OperandRead;
+use operand::OperandRecord;
+use operand::OperandStep;
+use operand::Register;
+use operand::Sized;
+use operand::SizedDisplacement;
+ghost use mathlib.Core.Path.{_≡_};
+ghost use Prim.Native.Nat.{_+_, _-_, _*_, _≤_, _<_};
+ghost use lib.ListN.{length};
+ghost use Rattle.names.specs.Tokens.{tokenAt};
+ghost use Rattle.expressions.specs.Diagnostics.{registerExpectedInRegisterList};
+ghost use Rattle.expressions.specs.Terms.{NodeTold};
+ghost use Rattle.operand.specs.Operand.{parseRegisterList};
+ghost use Rattle.operand.specs.Mask.{bitsFrom};
+ghost use Rattle.parser.specs.Steps.{Room, Raised, OperandTold};
+ghost use Rattle.parser.specs.Items.{expectedAt, RegisterTold, RangedTold, singleStep, ItemTold, itemBytes, slashed, listStep, ListAsks};
+
+// A register (kind 7) or a range (kind 8), as its node has it.
+pub struct Item {
+    pub kind: u8,
+    pub from: Register,
+    pub to: Register,
+    pub span: Span,
+}
+
+pub enum ItemRead {
+    Is(Item),
+    Not,
+}
+
+pub struct ItemStep {
+    pub item: ItemRead,
+    pub counters: Counters,
+}
+
+// A register that stands at the cursor.
+pub enum RegisterRead {
+    Is(Register),
+    Not,
+}
+
+pub struct RegisterStep {
+    pub register: RegisterRead,
+    pub counters: Counters,
+}
+
+// A register was expected behind this sign: at what stands there instead, or at the end.
+fn register_expected(tokens: &[u8], diagnostics: &mut [u8], c: Counters, sign: u8) -> Counters
+    requires { ⌜ 10 * c .diagnostics + 10 ≤ length (now diagnostics) ⌝ }
+    ensures { λ r. ⌜ Raised (now (diagnostics .entry)) (now (diagnostics .exit)) c (registerExpectedInRegisterList sign (expectedAt (tokenAt (now (tokens .entry)) (c .at)) (c .end))) r ⌝ }
+{
+    let none = Span { start: 0, end: 0 };
+    let at = c.at;
+    let p = names::token_at(tokens, at);
+    match p {
+        Peeked::Is(t) => raise(diagnostics, c, diagnostic(9, 0, sign, span_of(t), none)),
+        Peeked::End => {
+            let last = Span {
+                start: c.end,
+                end: c.end,
+            };
+            raise(diagnostics, c, diagnostic(9, 0, sign, last, none))
+        }
+    }
+}
+
+// The register behind this sign.
+fn expect_register(
+    line: &[u8],
+    tokens: &[u8],
+    diagnostics: &mut [u8],
+    c: Counters,
+    sign: u8,
+) -> RegisterStep
+    requires { ⌜ Room (now tokens) (now diagnostics) c ⌝ }
+    ensures { λ r. ⌜ RegisterTold (now (line .entry)) (now (tokens .entry)) (now (diagnostics .entry)) (now (diagnostics .exit)) c sign r ⌝ }
+{
+    let at = c.at;
+    let p = names::token_at(tokens, at);
+    if let Peeked::Is(t) = p {
+        let r = register_at(line, t);
+        if let Reg::Is(index) = r {
+            return RegisterStep {
+                register: RegisterRead::Is(Register {
+                    index: index,
+                    span: span_of(t),
+                }),
+                counters: step_over(c, t),
+            };
+        }
+    }
+    RegisterStep {
+        register: RegisterRead::Not,
+        counters: register_expected(tokens, diagnostics, c, sign),
+    }
+}
+
+// A range that runs backwards is told, and kept.
+fn ranged(diagnostics: &mut [u8], c: Counters, from: Register, to: Register) -> ItemStep
+    requires { ⌜ 10 * c .diagnostics + 10 ≤ length (now diagnostics) ⌝ }
+    ensures { λ r. ⌜ RangedTold (now (diagnostics .entry)) (now (diagnostics .exit)) c from to r ⌝ }
+{
+    let span = Span {
+        start: from.span.start,
+        end: to.span.end,
+    };
+    let item = ItemRead::Is(Item {
+        kind: 8,
+        from: from,
+        to: to,
+        span: span,
+    });
+    if to.index < from.index {
+        let both = Span {
+            start: from.index,
+            end: to.index,
+        };
+        return ItemStep {
+            item: item,
+            counters: raise(diagnostics, c, diagnostic(10, 0, 0, span, both)),
+        };
+    }
+    ItemStep {
+        item: item,
+        counters: c,
+    }
+}
+
+fn single(c: Counters, r: Register) -> ItemStep
+    ensures { λ s. ⌜ s ≡ singleStep c r ⌝ }
+{
+    let span = r.span;
+    ItemStep {
+        item: ItemRead::Is(Item {
+            kind: 7,
+            from: r,
+            to: r,
+            span: span,
+        }),
+        counters: c,
+    }
+}
+
+// The item that begins with this register.
+fn list_item(
+    line: &[u8],
+    tokens: &[u8],
+    diagnostics: &mut [u8],
+    c: Counters,
+    r: Register,
+) -> ItemStep
+    requires { ⌜ Room (now tokens) (now diagnostics) c × (r .index < 16) ⌝ }
+    ensures { λ s. ⌜ ItemTold (now (line .entry)) (now (tokens .entry)) (now (diagnostics .entry)) (now (diagnostics .exit)) c r s ⌝ }
+{
+    let at = c.at;
+    let p = names::token_at(tokens, at);
+    let Peeked::Is(t) = p else {
+        return single(c, r);
+    };
+    if t.kind != kinds::MINUS {
+        return single(c, r);
+    }
+    let q = expect_register(line, tokens, diagnostics, step_over(c, t), 45);
+    let e = q.counters;
+    let register = q.register;
+    match register {
+        RegisterRead::Is(to) => ranged(diagnostics, e, r, to),
+        RegisterRead::Not => ItemStep {
+            item: ItemRead::Not,
+            counters: e,
+        },
+    }
+}
+
+// The bits of the registers from one through another.
+fn range_bits(from: u8, to: u8) -> u16
+    requires { ⌜ to < 16 ⌝ }
+    ensures { λ r. ⌜ r ≡ bitsFrom from (to + 1 - from) ⌝ }
+{
+    let mut bits: u16 = 0;
+    let mut i = from;
+    while i <= to {
+        bits = bits | (1 << i);
+        i += 1;
+    }
+    bits
+}
+
+// Puts the node of an item.
+fn put_item(nodes: &mut [u8], c: Counters, item: Item) -> Counters
+    requires { ⌜ (c .nodes < 255) × (3570 ≤ length (now nodes)) ⌝ }
+    ensures { λ r. ⌜ NodeTold (now (nodes .entry)) (now (nodes .exit)) c (itemBytes item) r ⌝ }
+{
+    let from = item.from.span;
+    let to = item.to.span;
+    let ends = (to.start as u64) + 256 * (to.end as u64);
+    let value = (from.start as u64) + 256 * (from.end as u64) + 65536 * ends;
+    let left = item.from.index as usize;
+    let right = item.to.index as usize;
+    let m = put_node(nodes, c.nodes, item.kind, 0, left, right, item.span, value);
+    Counters {
+        at: c.at,
+        end: c.end,
+        nodes: m,
+        diagnostics: c.diagnostics,
+    }
+}
+
+fn listed(o: u8, c: Counters, mask: u16) -> OperandStep
+    ensures { λ r. ⌜ r ≡ listStep o c mask ⌝ }
+{
+    let span = Span {
+        start: o,
+        end: c.end,
+    };
+    let x = OperandRecord {
+        form: 14,
+        span: span,
+        displacement: SizedDisplacement::Is(Sized { node: 0, size: 0 }),
+        base: BaseRegister::Omitted,
+        index: Index::Unindexed,
+        indirection: 0,
+        outer: SizedDisplacement::Not,
+        special: 0,
+        mask: mask,
+    };
+    OperandStep {
+        operand: OperandRead::Is(x),
+        counters: c,
+    }
+}
+
+// A slash goes on, and anything else ends the list.
+fn slash_at(tokens: &[u8], i: usize) -> Peeked
+    ensures { λ r. ⌜ r ≡ slashed (tokenAt (now (tokens .entry)) i) ⌝ }
+{
+    let p = names::token_at(tokens, i);
+    let Peeked::Is(t) = p else {
+        return Peeked::End;
+    };
+    if t.kind != kinds::SLASH {
+        return Peeked::End;
+    }
+    p
+}
+
+// The list that begins with this register.
+pub(crate) fn parse_register_list(
+    line: &[u8],
+    tokens: &[u8],
+    nodes: &mut [u8],
+    diagnostics: &mut [u8],
+    c: Counters,
+    o: u8,
+    first: Register,
+) -> OperandStep
+    requires { ⌜ ListAsks (now tokens) (now nodes) (now diagnostics) c first ⌝ }
+    ensures { λ r. ⌜ OperandTold (parseRegisterList o first) (now (line .entry)) (now (tokens .entry)) (now (nodes .entry)) (now (diagnostics .entry)) (now (nodes .exit)) (now (diagnostics .exit)) c r ⌝ }
+{
+    let mut mask: u16 = 0;
+    let mut e = c;
+    let mut r = first;
+    loop {
+        let i = list_item(line, tokens, diagnostics, e, r);
+        let f = i.counters;
+        let read = i.item;
+        let ItemRead::Is(item) = read else {
+            return no_operand(f);
+        };
+        mask = mask | range_bits(item.from.index, item.to.index);
+        e = put_item(nodes, f, item);
+        let p = slash_at(tokens, e.at);
+        let Peeked::Is(t) = p else {
+            break;
+        };
+        let q = expect_register(line, tokens, diagnostics, step_over(e, t), 47);
+        e = q.counters;
+        let register = q.register;
+        let RegisterRead::Is(next) = register else {
+            return no_operand(e);
+        };
+        r = next;
+    }
+    listed(o, e, mask)
+}

@@ -1,0 +1,79 @@
+// The answers of the functions, put together.
+use expressions::Counters;
+use expressions::Span;
+use operand::BaseRegister;
+use operand::Index;
+use operand::OperandRead;
+use operand::OperandRecord;
+use operand::OperandStep;
+use operand::Sized;
+use operand::SizedDisplacement;
+ghost use mathlib.Core.Path.{_≡_};
+ghost use Prim.Native.Nat.{_-_, _≤_, _<_};
+ghost use Rattle.operand.specs.Forms.{formOf};
+ghost use Rattle.operand.specs.declared.forms.Index.{Index};
+ghost use Rattle.operand.specs.declared.forms.OperandRead.{OperandRead};
+ghost use Rattle.operand.specs.declared.forms.SizedDisplacement.{SizedDisplacement};
+
+// An operand without an index or an outer displacement.
+pub(crate) fn plain_operand(
+    form: u8,
+    span: Span,
+    displacement: SizedDisplacement,
+    base: BaseRegister,
+) -> OperandRecord
+    ensures { λ r. ⌜ r ≡ formOf form span displacement base Index.Unindexed ⌝ }
+{
+    indexed(form, span, displacement, base, Index::Unindexed)
+}
+
+pub(crate) fn indexed(
+    form: u8,
+    span: Span,
+    displacement: SizedDisplacement,
+    base: BaseRegister,
+    index: Index,
+) -> OperandRecord
+    ensures { λ r. ⌜ r ≡ formOf form span displacement base index ⌝ }
+{
+    OperandRecord {
+        form: form,
+        span: span,
+        displacement: displacement,
+        base: base,
+        index: index,
+        indirection: 0,
+        outer: SizedDisplacement::Not,
+        special: 0,
+        mask: 0,
+    }
+}
+
+pub(crate) fn no_operand(c: Counters) -> OperandStep
+    ensures { λ r. ⌜ (r .operand ≡ OperandRead.Not) × (r .counters ≡ c) ⌝ }
+{
+    OperandStep {
+        operand: OperandRead::Not,
+        counters: c,
+    }
+}
+
+pub(crate) fn an_operand(operand: OperandRecord, c: Counters) -> OperandStep
+    ensures { λ r. ⌜ (r .operand ≡ OperandRead.Is operand) × (r .counters ≡ c) ⌝ }
+{
+    OperandStep {
+        operand: OperandRead::Is(operand),
+        counters: c,
+    }
+}
+
+// The tree that the last records hold, with this size.
+pub(crate) fn last_tree(c: Counters, size: u8) -> SizedDisplacement
+    requires { ⌜ (0 < c .nodes) × (c .nodes ≤ 255) ⌝ }
+    ensures { λ r. ⌜ r ≡ SizedDisplacement.Is (record { node = c .nodes - 1; size = size }) ⌝ }
+{
+    SizedDisplacement::Is(Sized {
+        node: (c.nodes - 1) as u8,
+        size: size,
+    })
+}
