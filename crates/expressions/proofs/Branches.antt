@@ -12,8 +12,9 @@ use Rattle.names.specs.Kinds
 use Rattle.names.specs.Registers.{reserved}
 use Rattle.names.specs.Places.{Place, nothing, stands}
 use Rattle.names.specs.declared.tokens.Token.{Token}
-use Rattle.expressions.specs.Trees.{Expr, characterLiteral, symbol, currentAddress, unary, binary, span, spanOf, spanE, withSpan, empty, noSpan}
-use Rattle.expressions.specs.Diagnostics.{nestingTooDeep, expressionExpected, plusIsNotAUnaryOperator, unclosedParenthesis}
+use Rattle.records.specs.Spans.{span, spanOf, empty, noSpan}
+use Rattle.expressions.specs.Trees.{Expr, characterLiteral, symbol, currentAddress, unary, binary, spanE, withSpan}
+use Rattle.records.specs.Diagnostics.{nestingTooDeep, expressionExpected, plusIsNotAUnaryOperator, unclosedParenthesis}
 use Rattle.expressions.specs.Reader.{is, Reading, reading, after, Reader, bind, _>>=_, run, met}
 use Rattle.expressions.specs.Laws.{holds, met-no}
 use Rattle.expressions.specs.Expressions.{Term, read, reported, absent, numberTerm, named, leafTerm, tooDeep, precedence, binaryOperator, operator, operated, parseExpressionFrom, climbed, parseExpressionOf, parseExpression, isUnary, unaryOperator, negated, plussed, grouped, parsePrefixTerm, parsePrefix, fuel}

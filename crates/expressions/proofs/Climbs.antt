@@ -7,23 +7,25 @@ use native.Mathlib.Nat.{add-zero}
 use native.Mathlib.Omega.{arith}
 use lib.ListN.{length, take, length-append}
 use Rattle.names.specs.Tokens.{count, tokenAt}
-use Rattle.names.specs.Places.{nothing, stands, textOf, placed, place, below}
+use Rattle.names.specs.Places.{nothing, stands, textOf, placed, place, below, there}
 use Rattle.names.specs.declared.tokens.Token.{Token}
 use Rattle.names.specs.declared.tokens.Peeked.the-variants as peeked
-use Rattle.expressions.specs.Trees.{Expr, binary, span, spanOf, spanE, size}
-use Rattle.expressions.specs.declared.records.Span.{Span}
-use Rattle.expressions.specs.declared.records.Diagnostic.{Diagnostic}
-use Rattle.expressions.specs.declared.terms.Counters.{Counters}
+use Rattle.records.specs.Spans.{span, spanOf}
+use Rattle.expressions.specs.Trees.{Expr, binary, spanE, size}
+use Rattle.records.specs.declared.spans.Span.{Span}
+use Rattle.records.specs.declared.diagnostics.Diagnostic.{Diagnostic}
+use Rattle.records.specs.declared.counters.Counters.{Counters}
 use Rattle.expressions.specs.declared.terms.Parsed.the-variants as parsed
 use Rattle.expressions.specs.declared.terms.Step.{Step}
 use Rattle.expressions.specs.declared.terms.Chain.{Chain}
-use Rattle.expressions.specs.Diagnostics.{expressionExpected}
+use Rattle.records.specs.Diagnostics.{expressionExpected}
 use Rattle.expressions.specs.Reader.{Reading, reading, run}
 use Rattle.expressions.specs.Expressions.{Term, read, reported, absent, precedence, binaryOperator, parsePrefix, parseExpressionFrom, fuel}
-use Rattle.expressions.specs.Records.{nodes, record14, lowFirst}
-use Rattle.expressions.specs.Terms.{NodeTold, sizeT, nodesT, stepped, Told, DeepTold, TermTold, PrefixTold, Says, ClimbTold}
+use Rattle.records.specs.Nodes.{record14, lowFirst}
+use Rattle.expressions.specs.Records.{nodes}
+use Rattle.records.specs.Counting.{stepped}
+use Rattle.expressions.specs.Terms.{NodeTold, sizeT, nodesT, Told, DeepTold, TermTold, PrefixTold, Says, ClimbTold}
 use Rattle.expressions.proofs.Branches as branch
-use Rattle.expressions.proofs.Groups.{token-there}
 use Rattle.expressions.proofs.Leaves.{added-nil, added-more, added-one}
 use Rattle.expressions.proofs.Returns.{what-read, what-reported, what-absent, size-pos, kept, absent-quiet}
 
@@ -56,7 +58,7 @@ climb-ends L T N D c left min room h = climb-stops L T N D c left min room λ e 
 pub climb-lows : (L T N D : List ℕ) (c : Counters) (left : Span) (min room : ℕ) (k : Token) → tokenAt T (c .at) ≡ peeked.Is k → precedence (k .kind) < min → 0 < c .nodes → c .at ≤ count T
     → ClimbTold L T N D N D c left min room (record { span = left; counters = c })
 climb-lows L T N D c left min room k h q =
-    climb-stops L T N D c left min room λ e g. branch.climb-low (parsePrefix fuel room) (place L T) min e (c .at) (c .end) k _ (token-there L T (c .at) k h) g q
+    climb-stops L T N D c left min room λ e g. branch.climb-low (parsePrefix fuel room) (place L T) min e (c .at) (c .end) k _ (there L T (c .at) k h) g q
 
 -- an operator k at the cursor, and a term behind it that answers r
 module _ (L T N D N₁ D₁ : List ℕ) (c : Counters) (left : Span) (min room : ℕ) (k : Token) (r : Step) (next : Counters)
@@ -71,7 +73,7 @@ module _ (L T N D N₁ D₁ : List ℕ) (c : Counters) (left : Span) (min room :
   text = textOf L (k .start) (k .end)
 
   live : c .at < count T
-  live = below L T (c .at) k text (token-there L T (c .at) k op)
+  live = below L T (c .at) k text (there L T (c .at) k op)
 
   -- the tree e stands in the last records; the fuel is enough for this turn
   module _ (P : List ℕ) (b : ℕ) (e : Expr) (st : take (14 * c .nodes) N ≡ P ++ nodes b e) (cnt : c .nodes ≡ b + size e) (sp : left ≡ spanE e) where
@@ -86,7 +88,7 @@ module _ (L T N D N₁ D₁ : List ℕ) (c : Counters) (left : Span) (min room :
     unfolding sizeT
     at-reported f v =
         let same : r .counters .nodes ≡ c .nodes = omega (arith, h .told .total ∙ ap (λ x. c .nodes + sizeT x) v) in
-        rw (branch.climb-reported (parsePrefix fuel room) (place L T) min e (c .at) (c .end) k text (token-there L T (c .at) k op) f low s refl v)
+        rw (branch.climb-reported (parsePrefix fuel room) (place L T) min e (c .at) (c .end) k text (there L T (c .at) k op) f low s refl v)
         (record {
           span = sp;
           at = h .told .at;
@@ -102,7 +104,7 @@ module _ (L T N D N₁ D₁ : List ℕ) (c : Counters) (left : Span) (min room :
     unfolding sizeT
     at-absent f {D₂} {q} v p =
         let same : r .counters .nodes ≡ c .nodes = omega (arith, h .told .total ∙ ap (λ x. c .nodes + sizeT x) v) in
-        rw (branch.climb-absent (parsePrefix fuel room) (place L T) min e (c .at) (c .end) k text (token-there L T (c .at) k op) f low s refl v)
+        rw (branch.climb-absent (parsePrefix fuel room) (place L T) min e (c .at) (c .end) k text (there L T (c .at) k op) f low s refl v)
         (record {
           span = sp;
           at = p .at ∙ h .told .at;
@@ -135,7 +137,7 @@ module _ (L T N D N₁ D₁ : List ℕ) (c : Counters) (left : Span) (min room :
         let cnt₃ : n .nodes ≡ b + size B = omega (arith, hp .put .next, sq .total, cnt) in
         let W = run (parseExpressionFrom f (parsePrefix fuel room) min B) (place L T) (n .at) (n .end) in
         let sw : Says W D₂ N₄ D₄ P b (n .diagnostics) w = hw .told f (omega (arith, hq .on, h .on, hp .at)) P b B st₃ cnt₃ sB in
-        rw (branch.climb-read (parsePrefix fuel room) (place L T) min e (c .at) (c .end) k text (token-there L T (c .at) k op) f low s refl (y .0) (y .1) Q (ap₂ (λ i l. run (parseExpressionFrom f (parsePrefix fuel room) (precedence (k .kind) + 1) (y .0)) (place L T) i l) (h .told .at) (h .told .end)), ← (hp .at ∙ sq .at), ← (hp .end ∙ sq .end))
+        rw (branch.climb-read (parsePrefix fuel room) (place L T) min e (c .at) (c .end) k text (there L T (c .at) k op) f low s refl (y .0) (y .1) Q (ap₂ (λ i l. run (parseExpressionFrom f (parsePrefix fuel room) (precedence (k .kind) + 1) (y .0)) (place L T) i l) (h .told .at) (h .told .end)), ← (hp .at ∙ sq .at), ← (hp .end ∙ sq .end))
         (record {
           span = sw .span;
           at = sw .at;

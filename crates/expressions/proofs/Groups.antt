@@ -14,17 +14,18 @@ use Rattle.names.specs.Places.{stands, textOf, placed, place, below}
 use Rattle.names.specs.declared.tokens.Token.{Token}
 use Rattle.names.specs.declared.tokens.Peeked.{Peeked}
 use Rattle.names.specs.declared.tokens.Peeked.the-variants as peeked
-use Rattle.expressions.specs.declared.records.Span.{Span}
-use Rattle.expressions.specs.declared.terms.Counters.{Counters}
+use Rattle.records.specs.declared.spans.Span.{Span}
+use Rattle.records.specs.declared.counters.Counters.{Counters}
 use Rattle.expressions.specs.declared.terms.Parsed.the-variants as parsed
 use Rattle.expressions.specs.declared.terms.Step.{Step}
 use Rattle.expressions.specs.Trees.{Expr, number, characterLiteral, symbol, currentAddress, unary, binary, spanE, withSpan, size}
 use Rattle.expressions.specs.Reader.{is}
 use Rattle.expressions.specs.Laws.{holds}
-use Rattle.expressions.specs.Records.{nodes, lowFirst, own, zeros}
-use Rattle.expressions.specs.Stores.{written, nodeBytes}
-use Rattle.expressions.specs.Terms.{stepped}
-use Rattle.expressions.proofs.Bytes.{written-past}
+use Rattle.records.specs.Nodes.{lowFirst, own, zeros}
+use Rattle.expressions.specs.Records.{nodes, length-nodes}
+use Rattle.records.specs.Stores.{written, nodeBytes}
+use Rattle.records.specs.Counting.{stepped}
+use Rattle.records.specs.Written.{written-past}
 
 pub another-kind : {p : Peeked} {t : Token} → p ≡ peeked.Is t → (t .kind ≡ Kinds.rightParen → ⊥) → (u : Token) → p ≡ peeked.Is u → u .kind ≡ Kinds.rightParen → ⊥
 another-kind {t = t} e n u f q = let g : t ≡ u = cc in n (ap (λ x. x .kind) g ∙ q)
@@ -40,13 +41,6 @@ not-closed L T i open-there = go (tokenAt T i) refl
     go : (p : Peeked) → tokenAt T i ≡ p → holds (is Kinds.rightParen) (placed L p) ≡ false
     go peeked.End e = refl
     go (peeked.Is t) e = ne-eqb (t .kind) Kinds.rightParen (open-there t e)
-
-pub token-there : (L T : List ℕ) (i : ℕ) (t : Token) → tokenAt T i ≡ peeked.Is t → place L T i ≡ stands t (textOf L (t .start) (t .end))
-unfolding place placed
-token-there L T i t e = rw e
-
-pub token-live : (T : List ℕ) (i : ℕ) (t : Token) → tokenAt T i ≡ peeked.Is t → i < count T
-token-live T i t e = below [] T i t _ (token-there [] T i t e)
 
 -- ---- a tree's root is its last record
 
@@ -102,15 +96,6 @@ back-with (symbol o s) t = refl
 back-with (currentAddress s) t = refl
 back-with (unary o e s) t = refl
 back-with (binary o l r s) t = refl
-
-pub length-nodes : (b : ℕ) (e : Expr) → length (nodes b e) ≡ 14 * size e
-unfolding nodes size lowFirst
-length-nodes b (number base v s) = refl
-length-nodes b (characterLiteral q o s) = refl
-length-nodes b (symbol o s) = refl
-length-nodes b (currentAddress s) = refl
-length-nodes b (unary o e s) = simp length-append (omega (arith, length-nodes b e))
-length-nodes b (binary o l r s) = simp length-append (omega (arith, length-nodes b l, length-nodes (b + size l) r))
 
 length-back : (e : Expr) → length (back e) ≡ 8
 unfolding back lowFirst

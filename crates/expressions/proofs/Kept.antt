@@ -9,20 +9,20 @@ use lib.Seq.{length-take-le}
 use Rattle.names.specs.Tokens.{count}
 use Rattle.names.specs.Places.{place}
 use Rattle.expressions.specs.Trees.{Expr, spanE, withSpan, size}
-use Rattle.expressions.specs.declared.records.Span.{Span}
-use Rattle.expressions.specs.declared.terms.Counters.{Counters}
+use Rattle.records.specs.declared.spans.Span.{Span}
+use Rattle.records.specs.declared.counters.Counters.{Counters}
 use Rattle.expressions.specs.declared.terms.Parsed.{Parsed}
 use Rattle.expressions.specs.declared.terms.Step.{Step}
 use Rattle.expressions.specs.declared.terms.Chain.{Chain}
 use Rattle.expressions.specs.Reader.{Reading, run}
 use Rattle.expressions.specs.Expressions.{Term, parsePrefix, parseExpression, parseExpressionFrom, expressionFrom, fuel}
-use Rattle.expressions.specs.Records.{nodes}
-use Rattle.expressions.specs.Stores.{nodeBytes, written, cleared}
+use Rattle.expressions.specs.Records.{nodes, length-nodes}
+use Rattle.records.specs.Stores.{nodeBytes, written, cleared}
 use Rattle.expressions.specs.Terms.{sizeT, nodesT, FitClimb, ExpressionTold, ClimbTold, Says}
 use Rattle.expressions.specs.Promises.{filled, countersOf, stepOf, chainOf, ExpressionPromise, StepPromise, Stands, ChainPromise, FromPromise}
 use Rattle.expressions.specs.Fuel.{fuel-enough}
 use Rattle.expressions.specs.Costs.{size-withSpan}
-use Rattle.expressions.proofs.Groups.{length-nodes, spanE-withSpan, widened}
+use Rattle.expressions.proofs.Groups.{spanE-withSpan, widened}
 
 counters-are : (c : Counters) (a l n d : ℕ) → c .at ≡ a → c .end ≡ l → c .nodes ≡ n → c .diagnostics ≡ d → c ≡ record { at = a; end = l; nodes = n; diagnostics = d }
 counters-are c a l n d h i j k = rw (sym h, sym i, sym j, sym k)

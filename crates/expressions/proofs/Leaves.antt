@@ -15,18 +15,22 @@ use Rattle.names.specs.declared.tokens.Peeked.the-variants as peeked
 use Rattle.names.specs.Numbers.{numberOf}
 use Rattle.names.specs.declared.tokens.Token.{Token}
 use Rattle.names.specs.declared.numbers.Number.{Number}
-use Rattle.expressions.specs.Trees.{Expr, number, characterLiteral, symbol, currentAddress, spanOf, spanE, size, empty, noSpan}
-use Rattle.expressions.specs.declared.records.Span.{Span}
-use Rattle.expressions.specs.declared.records.Diagnostic.{Diagnostic}
-use Rattle.expressions.specs.declared.terms.Counters.{Counters}
+use Rattle.records.specs.Spans.{spanOf, empty, noSpan}
+use Rattle.expressions.specs.Trees.{Expr, number, characterLiteral, symbol, currentAddress, spanE, size}
+use Rattle.records.specs.declared.spans.Span.{Span}
+use Rattle.records.specs.declared.diagnostics.Diagnostic.{Diagnostic}
+use Rattle.records.specs.declared.counters.Counters.{Counters}
 use Rattle.expressions.specs.declared.terms.Step.{Step}
 use Rattle.expressions.specs.declared.terms.Parsed.the-variants as parsed
-use Rattle.expressions.specs.Diagnostics.{plain, nestingTooDeep, numberTooLarge, registerInExpression, diagnosticRecord}
+use Rattle.records.specs.Diagnostics.{plain, nestingTooDeep, numberTooLarge, registerInExpression, diagnosticRecord}
 use Rattle.expressions.specs.Reader.{Reading, reading, run, answer, _>>=_}
 use Rattle.expressions.specs.Expressions.{Term, read, reported, absent, valued, numberTerm, named, leafTerm, tooDeep}
-use Rattle.expressions.specs.Records.{nodes, record14, lowFirst, own}
-use Rattle.expressions.specs.Stores.{written, added, PushTold}
-use Rattle.expressions.specs.Terms.{parsedOf, sizeT, nodesT, stepped, Told, LeafTold, DeepTold, ReaderTold, TokenTold, DepthTold}
+use Rattle.records.specs.Nodes.{record14, lowFirst, own}
+use Rattle.expressions.specs.Records.{nodes}
+use Rattle.records.specs.Stores.{written, added, PushTold}
+use Rattle.records.specs.Written.{added-append}
+use Rattle.records.specs.Counting.{stepped}
+use Rattle.expressions.specs.Terms.{parsedOf, sizeT, nodesT, Told, LeafTold, DeepTold, ReaderTold, TokenTold, DepthTold}
 use Rattle.expressions.proofs.Branches.{leaf-star, leaf-number, leaf-string, leaf-name, leaf-local, leaf-error, leaf-other, deep-there, deep-end}
 
 -- ---- diagnostics added in two runs
@@ -34,14 +38,6 @@ use Rattle.expressions.proofs.Branches.{leaf-star, leaf-number, leaf-st
 pub added-nil : (D : List ℕ) (d : ℕ) → D ≡ added D d []
 unfolding added
 added-nil D d = refl
-
-pub added-append : (D : List ℕ) (d : ℕ) (xs ys : List Diagnostic) → added D d (xs ++ ys) ≡ added (added D d xs) (d + length xs) ys
-unfolding added
-added-append D d [] ys = rw add-zero
-added-append D d (x ∷ xs) ys =
-    let D₁ = written D (10 * d) (diagnosticRecord x) in
-    let e : d + 1 + length xs ≡ d + length (x ∷ xs) = omega arith in
-    added-append D₁ (d + 1) xs ys ∙ ap (λ k. added (added D₁ (d + 1) xs) k ys) e
 
 -- what two readings add, one after the other
 pub added-more : (D : List ℕ) (d : ℕ) {D₁ D₂ : List ℕ} {d₁ : ℕ} (xs ys : List Diagnostic) → D₁ ≡ added D d xs → d₁ ≡ d + length xs → D₂ ≡ added D₁ d₁ ys → D₂ ≡ added D d (xs ++ ys)

@@ -1,5 +1,4 @@
 -- Laws that the proofs share, in the order of the code.
-pub mod Bytes
 pub mod Tables
 pub mod Branches
 pub mod Leaves

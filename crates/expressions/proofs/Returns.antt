@@ -10,23 +10,27 @@ use lib.Seq.{take-take, take-at, length-take-le}
 use Rattle.names.specs.Kinds
 use Rattle.names.specs.Tokens.{count, tokenAt}
 use Rattle.names.specs.Places.{Place, nothing, stands, textOf, placed, place, below}
+use Rattle.names.specs.Places as Places
 use Rattle.names.specs.declared.tokens.Token.{Token}
 use Rattle.names.specs.declared.tokens.Peeked.{Peeked}
 use Rattle.names.specs.declared.tokens.Peeked.the-variants as peeked
-use Rattle.expressions.specs.Trees.{Expr, number, characterLiteral, symbol, currentAddress, unary, binary, span, spanOf, spanE, withSpan, size, noSpan}
-use Rattle.expressions.specs.declared.records.Span.{Span}
-use Rattle.expressions.specs.declared.records.Diagnostic.{Diagnostic}
-use Rattle.expressions.specs.declared.terms.Counters.{Counters}
+use Rattle.records.specs.Spans.{span, spanOf, noSpan}
+use Rattle.expressions.specs.Trees.{Expr, number, characterLiteral, symbol, currentAddress, unary, binary, spanE, withSpan, size}
+use Rattle.records.specs.declared.spans.Span.{Span}
+use Rattle.records.specs.declared.diagnostics.Diagnostic.{Diagnostic}
+use Rattle.records.specs.declared.counters.Counters.{Counters}
 use Rattle.expressions.specs.declared.terms.Parsed.{Parsed}
 use Rattle.expressions.specs.declared.terms.Parsed.the-variants as parsed
 use Rattle.expressions.specs.declared.terms.Step.{Step}
 use Rattle.expressions.specs.declared.terms.Chain.{Chain}
-use Rattle.expressions.specs.Diagnostics.{plain, expressionExpected, plusIsNotAUnaryOperator, unclosedParenthesis}
+use Rattle.records.specs.Diagnostics.{plain, expressionExpected, plusIsNotAUnaryOperator, unclosedParenthesis}
 use Rattle.expressions.specs.Reader.{Reading, reading, Reader, _>>=_, run}
 use Rattle.expressions.specs.Expressions.{Term, read, reported, absent, unaryOperator, isUnary, negated, plussed, grouped, leafTerm, parsePrefix, parseExpression, parseExpressionFrom, fuel}
-use Rattle.expressions.specs.Records.{nodes, record14, lowFirst, zeros}
-use Rattle.expressions.specs.Stores.{nodeBytes, written, added, PutTold, PushTold}
-use Rattle.expressions.specs.Terms.{NodeTold, parsedOf, sizeT, nodesT, stepped, Told, DeepTold, TokenTold, DepthTold, TermTold, PrefixTold, ExpressionTold, unaryTerm, plusTerm, groupTerm, BehindTold, Says, ClimbTold, withNodes, CloseTold, closed, unclosed}
+use Rattle.records.specs.Nodes.{record14, lowFirst, zeros}
+use Rattle.expressions.specs.Records.{nodes}
+use Rattle.records.specs.Stores.{nodeBytes, written, added, PutTold, PushTold}
+use Rattle.records.specs.Counting.{stepped}
+use Rattle.expressions.specs.Terms.{NodeTold, parsedOf, sizeT, nodesT, Told, DeepTold, TokenTold, DepthTold, TermTold, PrefixTold, ExpressionTold, unaryTerm, plusTerm, groupTerm, BehindTold, Says, ClimbTold, withNodes, CloseTold, closed, unclosed}
 use Rattle.expressions.specs.Laws as laws
 use Rattle.expressions.specs.Laws.{law-run}
 use Rattle.expressions.specs.Costs.{Clean, Cost, prefix-cost, expression-cost}
@@ -35,7 +39,7 @@ use Rattle.expressions.specs.Reader.{is}
 use Rattle.expressions.specs.Laws.{holds}
 use Rattle.expressions.specs.Costs.{size-withSpan}
 use Rattle.expressions.proofs.Branches as branch
-use Rattle.expressions.proofs.Groups.{not-closed, token-there, spanE-withSpan, widened}
+use Rattle.expressions.proofs.Groups.{not-closed, spanE-withSpan, widened}
 use Rattle.expressions.proofs.Leaves.{added-nil, added-more, added-one, absent-told}
 
 -- ---- an answer's term
@@ -175,8 +179,7 @@ module _ (L T N D : List ℕ) (c : Counters) (room : ℕ) (on : c .at ≤ count 
       text = textOf L (k .start) (k .end)
 
       there : place L T (c .at) ≡ stands k text
-      unfolding place placed
-      there = rw t
+      there = Places.there L T (c .at) k t
 
       module _ {N′ D′ : List ℕ} {r : Step} {q : Counters} (step : q ≡ stepped c k) where
         unary-tells : isUnary k text ≡ true → BehindTold (unaryTerm (room - 1) k) L T N D N′ D′ q r → PrefixTold L T N D N′ D′ c room r
@@ -409,7 +412,7 @@ module _ (L T N D N₁ D₁ : List ℕ) (c : Counters) (room : ℕ) (k : Token) 
       let cnt : r .counters .nodes ≡ c .nodes + size (y .0) = g .told .total ∙ ap (λ v. c .nodes + sizeT v) (y .1) in
       let b : take (14 * r .counters .nodes) N₁ ≡ take (14 * c .nodes) N ++ nodes (c .nodes) (y .0) = g .told .bytes ∙ ap (λ v. take (14 * c .nodes) N ++ nodesT (c .nodes) v) (y .1) in
       let wide = widened (take (14 * c .nodes) N) N₁ (c .nodes) (r .counters .nodes) (y .0) (span (k .start) (t .end)) b cnt (length-take-le (14 * c .nodes) N long) all top (omega (arith, cnt, size-pos (y .0))) in
-      let th : place L T (inner .cursor) ≡ stands t (textOf L (t .start) (t .end)) = rw (g .told .at) at (token-there L T (r .counters .at) t e) in
+      let th : place L T (inner .cursor) ≡ stands t (textOf L (t .start) (t .end)) = rw (g .told .at) at (Places.there L T (r .counters .at) t e) in
       let at′ : q .counters .at ≡ r .counters .at + 1 = ap (λ z. z .at) hc in
       let nodes′ : q .counters .nodes ≡ r .counters .nodes = ap (λ z. z .nodes) hc in
       let diags′ : q .counters .diagnostics ≡ r .counters .diagnostics = ap (λ z. z .diagnostics) hc in

@@ -17,9 +17,10 @@ use Rattle.names.specs.Numbers.{numberOf}
 use Rattle.names.specs.declared.tokens.Token.{Token}
 use Rattle.names.specs.declared.sizes.SizeSuffix.{SizeSuffix}
 use Rattle.names.specs.declared.numbers.Number.{Number}
-use Rattle.expressions.specs.Trees.{Expr, number, characterLiteral, symbol, currentAddress, unary, binary, spanOf, withSpan, size}
-use Rattle.expressions.specs.declared.records.Span.{Span}
-use Rattle.expressions.specs.Diagnostics.{dotInName}
+use Rattle.records.specs.Spans.{spanOf}
+use Rattle.expressions.specs.Trees.{Expr, number, characterLiteral, symbol, currentAddress, unary, binary, withSpan, size}
+use Rattle.records.specs.declared.spans.Span.{Span}
+use Rattle.records.specs.Diagnostics.{dotInName}
 use Rattle.expressions.specs.Reader.{Reader, answer, raise}
 use Rattle.expressions.specs.Expressions.{Term, read, reported, absent, Suffix, suffixed, known, suffixRun, takeSizeSuffix, operated, parseExpressionFrom, climbed, parseExpressionOf, isUnary, negated, plussed, valued, named, grouped, numberTerm, leafTerm, parsePrefixTerm, tooDeep, parsePrefix, parseExpression, expressionFrom, fuel}
 use Rattle.expressions.specs.Laws.{holds, All, all-choose, Law, call, PlusBefore}

@@ -13,9 +13,10 @@ use Rattle.names.specs.Numbers.{numberOf}
 use Rattle.names.specs.declared.tokens.Token.{Token}
 use Rattle.names.specs.declared.sizes.SizeSuffix.{SizeSuffix}
 use Rattle.names.specs.declared.numbers.Number.{Number}
-use Rattle.expressions.specs.Trees.{span, noSpan, empty, spanOf, Expr, number, characterLiteral, symbol, currentAddress, unary, binary, spanE, withSpan}
-use Rattle.expressions.specs.declared.records.Span.{Span}
-use Rattle.expressions.specs.Diagnostics.{numberTooLarge, unknownSizeSuffix, dotInName, unclosedParenthesis, nestingTooDeep, registerInExpression, expressionExpected, plusIsNotAUnaryOperator}
+use Rattle.records.specs.Spans.{span, noSpan, empty, spanOf}
+use Rattle.expressions.specs.Trees.{Expr, number, characterLiteral, symbol, currentAddress, unary, binary, spanE, withSpan}
+use Rattle.records.specs.declared.spans.Span.{Span}
+use Rattle.records.specs.Diagnostics.{numberTooLarge, unknownSizeSuffix, dotInName, unclosedParenthesis, nestingTooDeep, registerInExpression, expressionExpected, plusIsNotAUnaryOperator}
 use Rattle.expressions.specs.Reader.{Test, is, any, Reader, answer, here, raise, bump, peek, _>>=_, choose}
 
 -- `Result<Expr, TermError>`

@@ -7,7 +7,8 @@ use Prim.Native.Nat.{ℕ, zero, suc, _+_, _≤_, _<_}
 use native.Mathlib.Omega.{arith}
 use Rattle.names.specs.Places.{Place, stands}
 use Rattle.names.specs.declared.tokens.Token.{Token}
-use Rattle.expressions.specs.Trees.{Expr, binary, span, spanE}
+use Rattle.records.specs.Spans.{span}
+use Rattle.expressions.specs.Trees.{Expr, binary, spanE}
 use Rattle.expressions.specs.Reader.{Test, Reading, reading, after, Reader, answer, bind, here, bump, _>>=_, run, met}
 use Rattle.expressions.specs.Expressions.{Term, read, reported, absent, precedence, binaryOperator, operator, operated, parseExpressionFrom, parsePrefix, fuel, expressionFrom}
 use Rattle.expressions.specs.Laws.{holds, met-all, met-one, met-yes, met-no, forward}

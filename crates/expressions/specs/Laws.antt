@@ -11,9 +11,9 @@ use lib.ListN.{length, length-append}
 use Rattle.names.specs.Kinds
 use Rattle.names.specs.Places.{Place, nothing, stands}
 use Rattle.names.specs.declared.tokens.Token.{Token}
-use Rattle.expressions.specs.Trees.{spanOf}
-use Rattle.expressions.specs.declared.records.Span.{Span}
-use Rattle.expressions.specs.declared.records.Diagnostic.{Diagnostic}
+use Rattle.records.specs.Spans.{spanOf}
+use Rattle.records.specs.declared.spans.Span.{Span}
+use Rattle.records.specs.declared.diagnostics.Diagnostic.{Diagnostic}
 use Rattle.expressions.specs.Reader.{Test, Reading, after, Reader, answer, bind, here, raise, bump, peek, choose, run, met, reach}
 
 -- ---- a test at a place, by cases

@@ -1,10 +1,8 @@
 -- What reading an expression means, in reading order.
 pub mod Trees
-pub mod Diagnostics
 pub mod Reader
 pub mod Expressions
 pub mod Records
-pub mod Stores
 pub mod Terms
 pub mod Promises
 pub mod Examples

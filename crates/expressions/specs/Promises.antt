@@ -7,14 +7,14 @@ use lib.ListN.{length, take, drop, replicate}
 use Rattle.names.specs.Tokens.{count}
 use Rattle.names.specs.Places.{place}
 use Rattle.expressions.specs.Trees.{Expr, spanE, withSpan, size}
-use Rattle.expressions.specs.declared.records.Span.{Span}
-use Rattle.expressions.specs.declared.terms.Counters.{Counters}
+use Rattle.records.specs.declared.spans.Span.{Span}
+use Rattle.records.specs.declared.counters.Counters.{Counters}
 use Rattle.expressions.specs.declared.terms.Step.{Step}
 use Rattle.expressions.specs.declared.terms.Chain.{Chain}
 use Rattle.expressions.specs.Reader.{Reading, run}
 use Rattle.expressions.specs.Expressions.{Term, parseExpression, expressionFrom}
 use Rattle.expressions.specs.Records.{nodes}
-use Rattle.expressions.specs.Stores.{nodeBytes, added}
+use Rattle.records.specs.Stores.{nodeBytes, added}
 use Rattle.expressions.specs.Terms.{parsedOf, sizeT, nodesT, FitClimb}
 
 -- the node store N with the bytes b of its first n records, zeros to the end of the 255, and the bytes past them as they were

@@ -6,7 +6,7 @@ use Prim.Native.Nat.{ℕ, _+_, max}
 use lib.Dec.{eqb}
 use Rattle.names.specs.Places.{Place, nothing, stands}
 use Rattle.names.specs.declared.tokens.Token.{Token}
-use Rattle.expressions.specs.declared.records.Diagnostic.{Diagnostic}
+use Rattle.records.specs.declared.diagnostics.Diagnostic.{Diagnostic}
 
 -- what a reading comes to: the cursor, the end of the last token stepped over, what was raised, and the answer
 pub record Reading (A : Type 0) : Type 0 where

@@ -9,23 +9,22 @@ use Rattle.names.specs.Tokens.{count, tokenAt}
 use Rattle.names.specs.declared.tokens.Peeked.the-variants as peeked
 use Rattle.names.specs.Places.{Place, stands, place}
 use Rattle.names.specs.declared.tokens.Token.{Token}
-use Rattle.expressions.specs.Trees.{Expr, span, spanOf, spanE, size}
-use Rattle.expressions.specs.declared.records.Span.{Span}
-use Rattle.expressions.specs.declared.records.Diagnostic.{Diagnostic}
-use Rattle.expressions.specs.declared.terms.Counters.{Counters}
+use Rattle.records.specs.Spans.{span, spanOf}
+use Rattle.expressions.specs.Trees.{Expr, spanE, size}
+use Rattle.records.specs.declared.spans.Span.{Span}
+use Rattle.records.specs.declared.diagnostics.Diagnostic.{Diagnostic}
+use Rattle.records.specs.declared.counters.Counters.{Counters}
 use Rattle.expressions.specs.declared.terms.Parsed.{Parsed}
 use Rattle.expressions.specs.declared.terms.Parsed.the-variants as parsed
 use Rattle.expressions.specs.declared.terms.Step.{Step}
 use Rattle.expressions.specs.declared.terms.Chain.{Chain}
-use Rattle.expressions.specs.Diagnostics.{unclosedParenthesis}
+use Rattle.records.specs.Diagnostics.{unclosedParenthesis}
 use Rattle.expressions.specs.Reader.{Reading, Reader, run, _>>=_}
 use Rattle.expressions.specs.Expressions.{Term, precedence, read, reported, absent, tooDeep, fuel, negated, plussed, grouped, parsePrefix, parseExpression, parseExpressionFrom}
-use Rattle.expressions.specs.Records.{nodes, record14, lowFirst}
-use Rattle.expressions.specs.Stores.{nodeBytes, written, added, PutTold, PushTold}
-
--- behind a token
-abbrev pub stepped : Counters → Token → Counters
-stepped c t = record { at = c .at + 1; end = t .end; nodes = c .nodes; diagnostics = c .diagnostics }
+use Rattle.records.specs.Nodes.{record14, lowFirst}
+use Rattle.expressions.specs.Records.{nodes}
+use Rattle.records.specs.Counting.{stepped}
+use Rattle.records.specs.Stores.{nodeBytes, written, added, PutTold, PushTold}
 
 -- ---- a term as the answer has it
 

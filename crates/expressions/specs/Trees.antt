@@ -1,22 +1,7 @@
--- Spans and expression trees, as the Rust has them.
+-- Expression trees, as the Rust has them.
 -- Assumes nothing.
 use Prim.Native.Nat.{ℕ, _+_}
-use Rattle.names.specs.declared.tokens.Token.{Token}
-use Rattle.expressions.specs.declared.records.Span.{Span}
-
-abbrev pub span : ℕ → ℕ → Span
-span s e = record { start = s; end = e }
-
--- the empty span at an offset
-abbrev pub empty : ℕ → Span
-empty s = span s s
-
--- where a record has no span
-abbrev pub noSpan : Span
-noSpan = span 0 0
-
-abbrev pub spanOf : Token → Span
-spanOf t = span (t .start) (t .end)
+use Rattle.records.specs.declared.spans.Span.{Span}
 
 -- `Expr`. The last span is the node's, which a group widens; a literal and a symbol keep their own span, the first, as well.
 -- number: base and value. literal: quote. unary, binary: the operator, in the order of `UnaryOperator` and `BinaryOperator`

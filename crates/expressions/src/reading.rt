@@ -1,12 +1,12 @@
 // The public functions: an expression at the cursor, and one that goes on from a left side.
-use crate::records::Span;
-use crate::records::clear_nodes;
-use crate::records::widen;
 use crate::terms::Chain;
-use crate::terms::Counters;
 use crate::terms::Step;
 use crate::terms::parse_expression;
 use crate::terms::parse_expression_from;
+use records::Counters;
+use records::Span;
+use records::clear_nodes;
+use records::widen;
 ghost use Rattle.expressions.specs.Terms.{Fit, FitClimb};
 ghost use Rattle.expressions.specs.Promises.{ExpressionPromise, LeftStands, FromPromise};
 

@@ -1,33 +1,28 @@
 // Terms, expressions and the climb over levels: `parse_prefix`, `parse_expression` and `parse_expression_from` call each other.
-use crate::records::Diagnostic;
-use crate::records::Span;
-use crate::records::plain;
-use crate::records::push_diagnostic;
-use crate::records::put_node;
-use crate::records::widen;
 use names::Number;
 use names::Peeked;
 use names::Token;
 use names::kinds;
+use records::Counters;
+use records::Diagnostic;
+use records::Span;
+use records::diagnostic;
+use records::push_diagnostic;
+use records::put_node;
+use records::span_of;
+use records::step_over;
+use records::widen;
 ghost use mathlib.Core.Path.{_≡_};
 ghost use Prim.Native.Nat.{ℕ, _+_, _*_, _≤_, _<_};
 ghost use lib.ListN.{length};
-ghost use Rattle.expressions.specs.Trees.{spanOf};
+ghost use Rattle.records.specs.Spans.{spanOf};
 ghost use Rattle.names.specs.Places.{textOf};
 ghost use Rattle.names.specs.Registers.{reserved};
-ghost use Rattle.expressions.specs.Diagnostics.{expressionExpected, unclosedParenthesis};
+ghost use Rattle.records.specs.Diagnostics.{plain, expressionExpected, unclosedParenthesis};
 ghost use Rattle.expressions.specs.Expressions.{precedence, binaryOperator, unaryOperator, numberTerm, named, leafTerm};
-ghost use Rattle.expressions.specs.Records.{record14, lowFirst};
-ghost use Rattle.expressions.specs.Stores.{PutAsks};
-ghost use Rattle.expressions.specs.Terms.{stepped, NodeTold, OperatedAsks, LeafAsks, LeafTold, DeepTold, ReaderTold, TokenTold, DepthTold, Fit, FitBehind, FitClimb, PrefixTold, ExpressionTold, BehindTold, ClimbTold, CloseAsks, CloseTold, withNodes, unaryTerm, plusTerm, groupTerm};
-
-// What is read so far: the cursor, the end of the last token, and how many records the stores hold.
-pub struct Counters {
-    pub at: usize,
-    pub end: u8,
-    pub nodes: usize,
-    pub diagnostics: usize,
-}
+ghost use Rattle.records.specs.Nodes.{record14, lowFirst};
+ghost use Rattle.records.specs.Stores.{PutAsks};
+ghost use Rattle.expressions.specs.Terms.{NodeTold, OperatedAsks, LeafAsks, LeafTold, DeepTold, ReaderTold, TokenTold, DepthTold, Fit, FitBehind, FitClimb, PrefixTold, ExpressionTold, BehindTold, ClimbTold, CloseAsks, CloseTold, withNodes, unaryTerm, plusTerm, groupTerm};
 
 // A term: read, with its root's span; failed and reported; or not there.
 pub enum Parsed {
@@ -115,6 +110,13 @@ const OPERATORS: [u8; 30] = [
     9,
 ];
 
+// A diagnostic with no shape and no problem.
+fn plain(kind: u8, span: Span, text: Span) -> Diagnostic
+    ensures { λ r. ⌜ r ≡ plain kind span text ⌝ }
+{
+    diagnostic(kind, 0, 0, span, text)
+}
+
 fn precedence(kind: u8) -> u8
     ensures { λ r. ⌜ r ≡ precedence kind ⌝ }
 {
@@ -133,31 +135,6 @@ fn binary_operator(kind: u8) -> u8
     }
     let i = kind as usize;
     OPERATORS[i]
-}
-
-pub fn span_of(token: Token) -> Span
-    ensures { λ r. ⌜ r ≡ spanOf token ⌝ }
-{
-    let first = token.start;
-    let last = token.end;
-    Span {
-        start: first,
-        end: last,
-    }
-}
-
-// Behind a token that stands at the cursor.
-pub fn step_over(c: Counters, token: Token) -> Counters
-    requires { ⌜ c .at < 256 ⌝ }
-    ensures { λ r. ⌜ r ≡ stepped c token ⌝ }
-{
-    let behind = token.end;
-    Counters {
-        at: c.at + 1,
-        end: behind,
-        nodes: c.nodes,
-        diagnostics: c.diagnostics,
-    }
 }
 
 // A name's or a literal's own span, as the last eight bytes of its record hold it.

@@ -38,3 +38,15 @@ below L T i t x h = go (leb (count T) i) refl h
     go : (b : Bool) → leb (count T) i ≡ b → placed L (pick b End (Is (tokenFrom T i))) ≡ stands t x → i < count T
     go true q g = let z : _≡_ {A = ℕ} 0 1 = cc in omega arith
     go false q g = leb-false (count T) i q
+
+-- by what the list has there
+pub there : (L T : List ℕ) (i : ℕ) (t : Token) → tokenAt T i ≡ Is t → place L T i ≡ stands t (textOf L (t .start) (t .end))
+unfolding place placed
+there L T i t e = rw e
+
+pub nowhere : (L T : List ℕ) (i : ℕ) → tokenAt T i ≡ End → place L T i ≡ nothing
+unfolding place placed
+nowhere L T i e = rw e
+
+pub live : (T : List ℕ) (i : ℕ) (t : Token) → tokenAt T i ≡ Is t → i < count T
+live T i t e = below [] T i t _ (there [] T i t e)

@@ -17,7 +17,7 @@ use Rattle.names.specs.Tokens.{count, tokenFrom, tokenAt}
 use Rattle.names.specs.declared.tokens.Token.{Token}
 use Rattle.names.specs.declared.tokens.Peeked.the-variants.{Is, End}
 use Rattle.expressions.specs.Costs.{true-false}
-use Rattle.expressions.specs.Stores.{nodeBytes}
+use Rattle.records.specs.Stores.{nodeBytes}
 use Rattle.operand.specs.Listed.{from}
 use Rattle.operand.specs.Entry.{Input, freeRecords, foreign, signs, spelledAs, prefixed, goodToken, goodTokens, conditions, firstOf, refusal}
 

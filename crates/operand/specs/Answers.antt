@@ -14,7 +14,7 @@ use Rattle.names.specs.Tokens.{count}
 use Rattle.names.specs.Places.{Place, nothing, stands, below}
 use Rattle.names.specs.declared.tokens.Token.{Token}
 use Rattle.expressions.specs.Reader.{Reading, reading}
-use Rattle.expressions.specs.Stores.{nodeBytes}
+use Rattle.records.specs.Stores.{nodeBytes}
 use Rattle.operand.specs.Operands.{Operand, Maybe, some, none}
 use Rattle.operand.specs.Records.{sizeM, nodesM, diagnosticRecords}
 use Rattle.operand.specs.Entry.{Input, placeOf, conditions, firstOf, refusal, setting, readingAt, nodesAfter, diagnosticsAfter, outcome, outcomeOf}

@@ -14,11 +14,11 @@ use Rattle.names.specs.Tokens.{count}
 use Rattle.names.specs.Places.{Place, nothing, stands, below}
 use Rattle.names.specs.declared.tokens.Token.{Token}
 use Rattle.expressions.specs.Trees.{Expr}
-use Rattle.expressions.specs.declared.records.Diagnostic.{Diagnostic}
+use Rattle.records.specs.declared.diagnostics.Diagnostic.{Diagnostic}
 use Rattle.expressions.specs.Reader.{Reading, run, _>>=_}
 use Rattle.expressions.specs.Expressions.{fuel, parsePrefix, parseExpressionFrom}
 use Rattle.expressions.specs.Laws.{Every, Fine}
-use Rattle.expressions.specs.Stores.{nodeBytes}
+use Rattle.records.specs.Stores.{nodeBytes}
 use Rattle.expressions.specs.Costs.{true-false}
 use Rattle.expressions.specs.Fuel.{turn, fuel-enough, climb-equation}
 use Rattle.operand.specs.Operands.{RegisterListItem, Operand, Maybe, some, none}

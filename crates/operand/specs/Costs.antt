@@ -11,8 +11,9 @@ use Rattle.names.specs.Kinds
 use Rattle.names.specs.Places.{Place, stands}
 use Rattle.names.specs.declared.tokens.Token.{Token}
 use Rattle.names.specs.Choice.{pick}
-use Rattle.expressions.specs.Trees.{span, spanOf, Expr, size}
-use Rattle.expressions.specs.declared.records.Span.{Span}
+use Rattle.records.specs.Spans.{span, spanOf}
+use Rattle.expressions.specs.Trees.{Expr, size}
+use Rattle.records.specs.declared.spans.Span.{Span}
 use Rattle.expressions.specs.Reader.{Reader, any, _>>=_}
 use Rattle.expressions.specs.Expressions.{Term, read, reported, absent, Suffix, suffixed, bare, fuel, parseExpression}
 use Rattle.expressions.specs.Laws.{holds, All, all-choose, Law, call}

@@ -13,7 +13,7 @@ use Rattle.names.specs.Tokens.{count, detailDefined}
 use Rattle.names.specs.Places.{Place, place, textOf}
 use Rattle.names.specs.Letters.{bytes, same}
 use Rattle.expressions.specs.Reader.{Reading}
-use Rattle.expressions.specs.Stores.{nodeBytes}
+use Rattle.records.specs.Stores.{nodeBytes}
 use Rattle.operand.specs.Operands.{Operand, Maybe, some, none}
 use Rattle.expressions.specs.declared.reading.Setting.{Setting}
 use Rattle.operand.specs.Operand.{readingOf}
@@ -29,6 +29,9 @@ pub record Input : Type 0 where
   pub nodes : List ℕ
   pub diagnostics : List ℕ
   pub used : ℕ
+
+abbrev pub call : List ℕ → List ℕ → ℕ → ℕ → List ℕ → List ℕ → ℕ → Input
+call L T start mark N D used = record { line = L; tokens = T; start = start; mark = mark; nodes = N; diagnostics = D; used = used }
 
 -- what stands at each place
 abbrev pub placeOf : Input → ℕ → Place

@@ -6,8 +6,8 @@ use mathlib.Core.List.{List, [], _∷_, _++_}
 use Prim.Native.Nat.{ℕ, _+_, _-_}
 use Rattle.expressions.specs.Trees.{size}
 use Rattle.expressions.specs.Expressions.{Suffix, suffixed, bare}
-use Rattle.expressions.specs.Records.{absent}
-use Rattle.expressions.specs.declared.records.Span.{Span}
+use Rattle.records.specs.Nodes.{absent}
+use Rattle.records.specs.declared.spans.Span.{Span}
 use Rattle.operand.specs.Operands.{Displacement, displaced, undisplaced, Operand, Maybe, some, none}
 use Rattle.operand.specs.Operands as O
 use Rattle.operand.specs.Records.{flag, spanned, sizeD, displacementPart, basePart, indexPart, operandRecord}

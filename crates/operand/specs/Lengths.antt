@@ -5,26 +5,16 @@ use mathlib.Core.List.{List, [], _∷_}
 use Prim.Native.Nat.{ℕ, _+_, _*_}
 use native.Mathlib.Omega.{arith}
 use lib.ListN.{length, length-append}
-use Rattle.expressions.specs.Trees.{Expr, number, characterLiteral, symbol, currentAddress, unary, binary, size}
-use Rattle.expressions.specs.declared.records.Diagnostic.{Diagnostic}
-use Rattle.expressions.specs.Diagnostics.{diagnosticRecord}
-use Rattle.expressions.specs.Records.{nodes, lowFirst}
+use Rattle.records.specs.declared.diagnostics.Diagnostic.{Diagnostic}
+use Rattle.records.specs.Diagnostics.{diagnosticRecord}
+use Rattle.expressions.specs.Records as Expressions
 use Rattle.operand.specs.Operands.{Displacement, displaced, undisplaced, RegisterListItem, single, range, Operand, Maybe, some, none}
 use Rattle.operand.specs.Operands as O
 use Rattle.operand.specs.Records.{itemRecord, itemRecords, sizeD, nodesD, sizeO, nodesO, sizeM, nodesM, diagnosticRecords}
 
-length-tree : (b : ℕ) (e : Expr) → length (nodes b e) ≡ 14 * size e
-unfolding nodes size lowFirst
-length-tree b (number base v s) = refl
-length-tree b (characterLiteral q o s) = refl
-length-tree b (symbol o s) = refl
-length-tree b (currentAddress s) = refl
-length-tree b (unary o e s) = simp length-append (omega (arith, length-tree b e))
-length-tree b (binary o l r s) = simp length-append (omega (arith, length-tree b l, length-tree (b + size l) r))
-
 length-displacement : (b : ℕ) (d : Displacement) → length (nodesD b d) ≡ 14 * sizeD d
 unfolding nodesD sizeD
-length-displacement b (displaced e n) = length-tree b e
+length-displacement b (displaced e n) = Expressions.length-nodes b e
 length-displacement b undisplaced = refl
 
 length-item : (x : RegisterListItem) → length (itemRecord x) ≡ 14
@@ -39,19 +29,19 @@ length-items (x ∷ xs) = simp length-append (omega (arith, length-item x, lengt
 
 length-operand : (x : Operand) → length (nodesO x) ≡ 14 * sizeO x
 unfolding nodesO sizeO
-length-operand (O.immediate e l s) = length-tree 0 e
+length-operand (O.immediate e l s) = Expressions.length-nodes 0 e
 length-operand (O.dataRegisterDirect r s) = refl
 length-operand (O.addressRegisterDirect r s) = refl
 length-operand (O.specialRegister n s) = refl
 length-operand (O.indirect r s) = refl
 length-operand (O.postincrement r s) = refl
 length-operand (O.predecrement r s) = refl
-length-operand (O.displacement e r s) = length-tree 0 e
+length-operand (O.displacement e r s) = Expressions.length-nodes 0 e
 length-operand (O.index d r x s) = length-displacement 0 d
-length-operand (O.pcDisplacement e s) = length-tree 0 e
+length-operand (O.pcDisplacement e s) = Expressions.length-nodes 0 e
 length-operand (O.pcIndex d x s) = length-displacement 0 d
 length-operand (O.fullIndex d b x n e s) = simp length-append (omega (arith, length-displacement 0 d, length-displacement (sizeD d) e))
-length-operand (O.absolute e n s) = length-tree 0 e
+length-operand (O.absolute e n s) = Expressions.length-nodes 0 e
 length-operand (O.registerList items s) = length-items items
 
 pub length-nodes : (v : Maybe Operand) → length (nodesM v) ≡ 14 * sizeM v

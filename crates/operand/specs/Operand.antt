@@ -14,10 +14,11 @@ use Rattle.names.specs.declared.tokens.Token.{Token}
 use Rattle.names.specs.declared.registers.Reg.{Reg}
 use Rattle.names.specs.declared.registers.SpecialRegister.{SpecialRegister}
 use Rattle.names.specs.declared.registers.Suppressed.{Suppressed}
-use Rattle.expressions.specs.Trees.{span, noSpan, empty, spanOf, Expr, spanE, withSpan}
-use Rattle.expressions.specs.declared.records.Span.{Span}
+use Rattle.records.specs.Spans.{span, noSpan, empty, spanOf}
+use Rattle.expressions.specs.Trees.{Expr, spanE, withSpan}
+use Rattle.records.specs.declared.spans.Span.{Span}
 use Rattle.expressions.specs.declared.reading.Setting.{Setting}
-use Rattle.expressions.specs.Diagnostics.{operandExpected, unclosedParenthesis, malformedOperand, malformedOpen, unexpectedTokenInOperand, registerExpectedInRegisterList, registerRangeOutOfOrder, expressionExpected}
+use Rattle.records.specs.Diagnostics.{operandExpected, unclosedParenthesis, malformedOperand, malformedOpen, unexpectedTokenInOperand, registerExpectedInRegisterList, registerRangeOutOfOrder, expressionExpected}
 use Rattle.expressions.specs.Reader.{Test, is, any, Reading, Reader, answer, here, raise, bump, peek, _>>=_, choose, run}
 use Rattle.expressions.specs.Expressions.{Term, read, reported, absent, Suffix, suffixed, bare, takeSizeSuffix, valued, fuel, parseExpression, expressionFrom}
 use Rattle.operand.specs.Operands.{Displacement, displaced, undisplaced, RegisterListItem, single, range, Operand, Maybe, some, none}

@@ -4,12 +4,14 @@ use mathlib.Core.Bool.{Bool, true, false}
 use mathlib.Core.List.{List, [], _∷_, _++_}
 use Prim.Native.Nat.{ℕ, _+_, _-_, _/_, _%_, _*_}
 use lib.ListN.{length}
-use Rattle.expressions.specs.Trees.{noSpan, Expr, size}
-use Rattle.expressions.specs.declared.records.Span.{Span}
-use Rattle.expressions.specs.Diagnostics.{diagnosticRecord}
-use Rattle.expressions.specs.declared.records.Diagnostic.{Diagnostic}
+use Rattle.records.specs.Spans.{noSpan}
+use Rattle.expressions.specs.Trees.{Expr, size}
+use Rattle.records.specs.declared.spans.Span.{Span}
+use Rattle.records.specs.Diagnostics.{diagnosticRecord}
+use Rattle.records.specs.declared.diagnostics.Diagnostic.{Diagnostic}
 use Rattle.expressions.specs.Reader.{Reading}
-use Rattle.expressions.specs.Records.{absent, record14, nodes, lowFirst}
+use Rattle.records.specs.Nodes.{absent, record14, lowFirst}
+use Rattle.expressions.specs.Records.{nodes}
 use Rattle.operand.specs.Operands.{Displacement, displaced, undisplaced, RegisterListItem, single, range, Operand, Maybe, some, none}
 use Rattle.operand.specs.declared.forms.Register.{Register}
 use Rattle.operand.specs.declared.forms.BaseRegister.{BaseRegister}

@@ -1,6 +1,6 @@
 // Operands as the Rust has them. An expression is the number of its root's node.
-use expressions::Counters;
-use expressions::Span;
+use records::Counters;
+use records::Span;
 
 // A register by its mask index, and the span of its token.
 pub struct Register {

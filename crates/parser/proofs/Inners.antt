@@ -10,15 +10,16 @@ use Rattle.names.specs.Tokens.{tokenAt}
 use Rattle.names.specs.Places.{textOf, place}
 use Rattle.names.specs.declared.tokens.Token.{Token}
 use Rattle.names.specs.declared.tokens.Peeked.the-variants as peeked
-use Rattle.expressions.specs.declared.terms.Counters.{Counters}
-use Rattle.expressions.specs.declared.records.Span.{Span}
+use Rattle.records.specs.declared.counters.Counters.{Counters}
+use Rattle.records.specs.declared.spans.Span.{Span}
 use Rattle.expressions.specs.declared.reading.Setting.{Setting}
 use Rattle.expressions.specs.Expressions.{takeSizeSuffix}
 use Rattle.expressions.specs.Reader.{Test, Reader, answer, here, bump, peek, run, _>>=_}
 use Rattle.expressions.specs.Laws as laws
 use Rattle.expressions.specs.Laws.{Law, law-run, holds}
-use Rattle.expressions.specs.Terms.{stepped}
-use Rattle.expressions.specs.Trees.{Expr, span, spanE, size}
+use Rattle.records.specs.Counting.{stepped}
+use Rattle.records.specs.Spans.{span}
+use Rattle.expressions.specs.Trees.{Expr, spanE, size}
 use Rattle.operand.specs.Operands.{Displacement, displaced, undisplaced, Maybe, some, none}
 use Rattle.operand.specs.Operand.{anIndex, steppedOver, parseIndexRegister, outerIndexed, outerIndex, sized, parseSizedDisplacement, Inner, Outer, inner, outer, parseInner, parseOuter, memoryIndirect}
 use Rattle.operand.specs.Records.{sizeD, nodesD, sizeO, nodesO}

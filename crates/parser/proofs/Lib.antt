@@ -6,7 +6,6 @@ pub mod Turns
 pub mod Rooms
 pub mod Suffixes
 pub mod Tails
-pub mod Outcomes
 pub mod Trees
 pub mod Inners
 pub mod Holdings

@@ -10,7 +10,7 @@ use lib.Dec.{eqb, leb, ltb}
 use Rattle.names.specs.Choice.{pick, both, either}
 use Rattle.names.specs.Kinds
 use Rattle.names.specs.Letters.{lowered}
-use Rattle.names.specs.Places.{Place, nothing, stands, textOf, place}
+use Rattle.names.specs.Places.{Place, nothing, stands, textOf, place, there, nowhere}
 use Rattle.names.specs.Registers.{pair, register, registerOf, suppressedOf}
 use Rattle.names.specs.Reserved.{isRegister}
 use Rattle.names.specs.Tokens.{tokenAt}
@@ -21,19 +21,19 @@ use Rattle.names.specs.declared.registers.Suppressed.{Suppressed}
 use Rattle.expressions.specs.Costs.{true-false}
 use Rattle.expressions.specs.Laws.{holds}
 use Rattle.expressions.specs.Reader.{Test, Reader, bump, peek, any}
-use Rattle.expressions.specs.Terms.{stepped}
-use Rattle.expressions.specs.Trees.{spanOf}
+use Rattle.records.specs.Counting.{stepped}
+use Rattle.records.specs.Spans.{spanOf}
 use Rattle.expressions.specs.declared.reading.Setting.{Setting}
-use Rattle.expressions.specs.declared.terms.Counters.{Counters}
+use Rattle.records.specs.declared.counters.Counters.{Counters}
 use Rattle.operand.specs.Operands.{Maybe}
 use Rattle.operand.specs.Operand.{isAddress, isSuppressed, isSuppressedRegister, isSuppressedAddress, aRegister, anAddressRegister, aProgramCounter, unmarked, anIndex, aBaseOrAnIndex, indexOf, suppressedIndex, registerFrom, afterBaseRegister, sizeOrScale, noBase, parseBaseAndIndexRegisters, closes, startsAFullIndex, startsABase}
 use Rattle.parser.specs.Steps.{Told}
-use Rattle.expressions.specs.declared.records.Span.{Span}
+use Rattle.records.specs.declared.spans.Span.{Span}
 use Rattle.operand.specs.declared.forms.Register.{Register}
 use Rattle.parser.specs.Tests.{addressOf, regAt, suppressedAt, fullIndexStarts, baseStarts, addressBase, suppressedBase, isCounter, baseAt}
 use Rattle.operand.specs.declared.forms.BaseRegister.{BaseRegister}
 use Rattle.operand.specs.declared.forms.Registers.{Registers}
-use Rattle.parser.proofs.Paths.{there, nowhere, hereby, hit, miss, done, passed, unseen, whether}
+use Rattle.parser.proofs.Paths.{hereby, hit, miss, done, passed, unseen, whether}
 
 -- ---- choices
 

@@ -10,7 +10,7 @@ use lib.Dec.{eqb, leb}
 use lib.ListN.{length}
 use Rattle.names.specs.Choice.{pick}
 use Rattle.names.specs.Kinds
-use Rattle.names.specs.Places.{Place, textOf, place}
+use Rattle.names.specs.Places.{Place, textOf, place, there}
 use Rattle.names.specs.Registers.{registerOf, specialOf}
 use Rattle.names.specs.Reserved.{isRegister, isSpecial}
 use Rattle.names.specs.Sizes.{runOf, sizeOf}
@@ -20,14 +20,15 @@ use Rattle.names.specs.declared.registers.SpecialRegister.{SpecialRegister}
 use Rattle.names.specs.declared.sizes.SizeSuffix.{SizeSuffix}
 use Rattle.names.specs.declared.tokens.Token.{Token}
 use Rattle.names.specs.declared.tokens.Peeked.the-variants as peeked
-use Rattle.expressions.specs.declared.records.Span.{Span}
-use Rattle.expressions.specs.declared.terms.Counters.{Counters}
-use Rattle.expressions.specs.Diagnostics.{malformedOperand, dotInName}
+use Rattle.records.specs.declared.spans.Span.{Span}
+use Rattle.records.specs.declared.counters.Counters.{Counters}
+use Rattle.records.specs.Diagnostics.{malformedOperand, dotInName}
 use Rattle.expressions.specs.Expressions.{Suffix, suffixed, bare, known, suffixRun, takeSizeSuffix}
 use Rattle.expressions.specs.Laws.{met-yes}
 use Rattle.expressions.specs.Reader.{is, Reading, Reader, answer, raise, choose, _>>=_, run}
-use Rattle.expressions.specs.Terms.{stepped}
-use Rattle.expressions.specs.Trees.{span, noSpan, spanOf, Expr, spanE, size}
+use Rattle.records.specs.Counting.{stepped}
+use Rattle.records.specs.Spans.{span, noSpan, spanOf}
+use Rattle.expressions.specs.Trees.{Expr, spanE, size}
 use Rattle.operand.specs.Operands.{displaced, undisplaced, some}
 use Rattle.operand.specs.Operands as O
 use Rattle.operand.specs.Operand.{name, aRegister, registerFrom, over, predecrementClose, parsePredecrement, registerDirect, parseRegisterOperand, immediateSize, absoluteSize, specialIndex}
@@ -42,7 +43,7 @@ use Rattle.operand.specs.declared.forms.SuffixRead.{SuffixRead}
 use Rattle.operand.specs.declared.forms.SuffixStep.{SuffixStep}
 use Rattle.operand.specs.declared.forms.OperandRead.{OperandRead}
 use Rattle.operand.specs.declared.forms.OperandStep.{OperandStep}
-use Rattle.parser.proofs.Paths.{there, bound, chosen, unchosen, hit, renamed, failed-malformed, raised-same}
+use Rattle.parser.proofs.Paths.{bound, chosen, unchosen, hit, renamed, failed-malformed, raised-same}
 use Rattle.parser.proofs.Names.{reg-from}
 use Rattle.parser.proofs.Rooms.{suffix-is, suffix-not}
 use Rattle.parser.proofs.Tails.{operand-told, register-at-base}

@@ -8,34 +8,23 @@ use native.Mathlib.Nat.{add-zero}
 use native.Mathlib.Omega.{arith}
 use lib.ListN.{length, length-append}
 use Rattle.names.specs.Tokens.{count, tokenAt}
-use Rattle.names.specs.Places.{Place, nothing, stands, textOf, placed, place, below}
+use Rattle.names.specs.Places.{Place, nothing, stands, textOf, place, there, nowhere}
 use Rattle.names.specs.declared.tokens.Token.{Token}
 use Rattle.names.specs.declared.tokens.Peeked.the-variants as peeked
-use Rattle.expressions.specs.declared.records.Diagnostic.{Diagnostic}
-use Rattle.expressions.specs.declared.terms.Counters.{Counters}
-use Rattle.expressions.specs.Diagnostics.{diagnosticRecord, malformedOperand, malformedOpen}
+use Rattle.records.specs.declared.diagnostics.Diagnostic.{Diagnostic}
+use Rattle.records.specs.declared.counters.Counters.{Counters}
+use Rattle.records.specs.Diagnostics.{diagnosticRecord, malformedOperand, malformedOpen}
 use Rattle.expressions.specs.Laws.{holds, met-one, met-yes, met-no}
 use Rattle.expressions.specs.Reader.{Test, Reading, reading, after, Reader, answer, here, raise, bump, peek, _>>=_, choose, run}
-use Rattle.expressions.specs.Stores.{written, added, PushTold}
-use Rattle.expressions.specs.Terms.{stepped}
-use Rattle.expressions.specs.Trees.{span, spanOf, noSpan}
+use Rattle.records.specs.Stores.{written, added, PushTold}
+use Rattle.records.specs.Written.{added-append}
+use Rattle.records.specs.Counting.{stepped}
+use Rattle.records.specs.Spans.{span, spanOf, noSpan}
 use Rattle.parser.specs.Steps.{Raised, RaisedOver, over, ended, Told, Same}
 use Rattle.operand.specs.Operands.{Maybe, some, none}
 use Rattle.operand.specs.Operand.{malformed, unclosed, notAnAddressRegister, steppedOver}
 
--- ---- what stands at a place
-
-pub there : (L T : List ℕ) (i : ℕ) (t : Token) → tokenAt T i ≡ peeked.Is t → place L T i ≡ stands t (textOf L (t .start) (t .end))
-unfolding place placed
-there L T i t e = rw e
-
-pub nowhere : (L T : List ℕ) (i : ℕ) → tokenAt T i ≡ peeked.End → place L T i ≡ nothing
-unfolding place placed
-nowhere L T i e = rw e
-
--- a token stands below the count
-pub live : (T : List ℕ) (i : ℕ) (t : Token) → tokenAt T i ≡ peeked.Is t → i < count T
-live T i t e = below [] T i t _ (there [] T i t e)
+-- ---- a test that fails
 
 fails : (t : Test) (p : Place) (k : Token) (x : List ℕ) → p ≡ stands k x → t k x ≡ false → holds t p ≡ false
 unfolding holds
@@ -44,16 +33,6 @@ fails t p k x h q = rw h q
 fails-end : (t : Test) (p : Place) → p ≡ nothing → holds t p ≡ false
 unfolding holds
 fails-end t p h = rw h
-
--- ---- diagnostics one after the other
-
-added-append : (D : List ℕ) (d : ℕ) (xs ys : List Diagnostic) → added D d (xs ++ ys) ≡ added (added D d xs) (d + length xs) ys
-unfolding added
-added-append D d [] ys = rw add-zero
-added-append D d (x ∷ xs) ys =
-    let D₁ = written D (10 * d) (diagnosticRecord x) in
-    let e : d + 1 + length xs ≡ d + length (x ∷ xs) = omega arith in
-    added-append D₁ (d + 1) xs ys ∙ ap (λ k. added (added D₁ (d + 1) xs) k ys) e
 
 -- ---- a diagnostic that is raised
 

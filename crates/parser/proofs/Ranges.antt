@@ -16,18 +16,19 @@ use Rattle.names.specs.Kinds
 use Rattle.names.specs.Letters.{lowered}
 use Rattle.names.specs.Registers.{pair, register, registerOf}
 use Rattle.names.specs.Tokens.{count, tokenAt}
-use Rattle.names.specs.Places.{textOf, place}
+use Rattle.names.specs.Places.{textOf, place, there, nowhere, live}
 use Rattle.names.specs.declared.registers.Reg.{Reg}
 use Rattle.names.specs.declared.tokens.Token.{Token}
 use Rattle.names.specs.declared.tokens.Peeked.{Peeked}
 use Rattle.names.specs.declared.tokens.Peeked.the-variants as peeked
-use Rattle.expressions.specs.Trees.{span, spanOf}
-use Rattle.expressions.specs.declared.terms.Counters.{Counters}
-use Rattle.expressions.specs.Diagnostics.{registerExpectedInRegisterList}
+use Rattle.records.specs.Spans.{span, spanOf}
+use Rattle.records.specs.declared.counters.Counters.{Counters}
+use Rattle.records.specs.Diagnostics.{registerExpectedInRegisterList}
 use Rattle.expressions.specs.Laws.{holds}
-use Rattle.expressions.specs.Records.{record14, lowFirst}
-use Rattle.expressions.specs.Stores.{PutTold}
-use Rattle.expressions.specs.Terms.{stepped, NodeTold}
+use Rattle.records.specs.Nodes.{record14, lowFirst}
+use Rattle.records.specs.Stores.{PutTold}
+use Rattle.records.specs.Counting.{stepped}
+use Rattle.expressions.specs.Terms.{NodeTold}
 use Rattle.operand.specs.Operands.{single, Maybe, some, none}
 use Rattle.operand.specs.Operand.{aRegister, indexOf, registerFrom, registerExpected, ranged, listItem}
 use Rattle.operand.specs.Mask.{bitsFrom}
@@ -41,7 +42,7 @@ use Rattle.parser.specs.declared.lists.ItemStep.{ItemStep}
 use Rattle.parser.specs.declared.lists.RegisterRead.{RegisterRead}
 use Rattle.parser.specs.declared.lists.RegisterStep.{RegisterStep}
 use Rattle.parser.proofs.Names.{reg-small}
-use Rattle.parser.proofs.Paths.{there, nowhere, live, answered, hereby, raised, hit, missed, miss, done, seen, beyond, chosen, unchosen}
+use Rattle.parser.proofs.Paths.{answered, hereby, raised, hit, missed, miss, done, seen, beyond, chosen, unchosen}
 
 -- ---- a register at a place
 

@@ -6,17 +6,17 @@ use Prim.Native.Nat.{ℕ, _+_, _*_, _≤_, _<_}
 use native.Mathlib.Omega.{arith}
 use lib.ListN.{length}
 use Rattle.names.specs.Tokens.{count, tokenAt}
-use Rattle.names.specs.Places.{Place, place, below}
+use Rattle.names.specs.Places.{Place, place, below, live}
 use Rattle.names.specs.declared.tokens.Token.{Token}
 use Rattle.names.specs.declared.tokens.Peeked.the-variants as peeked
-use Rattle.expressions.specs.declared.terms.Counters.{Counters}
+use Rattle.records.specs.declared.counters.Counters.{Counters}
 use Rattle.expressions.specs.declared.reading.Setting.{Setting}
 use Rattle.expressions.specs.Costs.{Clean, suffix-cost}
 use Rattle.expressions.specs.Expressions.{Suffix, suffixed, bare, takeSizeSuffix}
 use Rattle.expressions.specs.Laws as laws
 use Rattle.expressions.specs.Laws.{Law, law-run}
 use Rattle.expressions.specs.Reader.{Reader, run}
-use Rattle.expressions.specs.Terms.{stepped}
+use Rattle.records.specs.Counting.{stepped}
 use Rattle.operand.specs.Operands.{Maybe, some, none}
 use Rattle.operand.specs.Operand.{parseIndexRegister, parseBaseAndIndexRegisters, Inner, Outer}
 use Rattle.operand.specs.Costs.{Left}
@@ -30,7 +30,6 @@ use Rattle.operand.specs.declared.forms.RegistersRead.{RegistersRead}
 use Rattle.operand.specs.declared.forms.Close.{Close}
 use Rattle.operand.specs.declared.forms.Suffixed.{Suffixed}
 use Rattle.operand.specs.declared.forms.SuffixRead.{SuffixRead}
-use Rattle.parser.proofs.Paths.{live}
 
 -- ---- the definition's answer, by the code's
 

@@ -14,13 +14,13 @@ use Rattle.names.specs.Numbers.{numberOf}
 use Rattle.names.specs.declared.numbers.Number.{Number}
 use Rattle.names.specs.declared.sizes.SizeSuffix.{SizeSuffix}
 use Rattle.names.specs.declared.tokens.Token.{Token}
-use Rattle.expressions.specs.Trees.{span, spanOf}
-use Rattle.expressions.specs.Diagnostics.{diagnostic, numberTooLarge}
+use Rattle.records.specs.Spans.{span, spanOf}
+use Rattle.records.specs.Diagnostics.{diagnostic, numberTooLarge}
 use Rattle.expressions.specs.Expressions.{suffixed, known, suffixRun, valued}
 use Rattle.expressions.specs.Reader.{raise, answer}
-use Rattle.expressions.specs.declared.records.Span.{Span}
-use Rattle.expressions.specs.declared.records.Diagnostic.{Diagnostic}
-use Rattle.expressions.specs.declared.terms.Counters.{Counters}
+use Rattle.records.specs.declared.spans.Span.{Span}
+use Rattle.records.specs.declared.diagnostics.Diagnostic.{Diagnostic}
+use Rattle.records.specs.declared.counters.Counters.{Counters}
 use Rattle.operand.specs.Forms.{suffixRead}
 use Rattle.operand.specs.Operand.{scaleOf}
 use Rattle.names.specs.Choice.{either}

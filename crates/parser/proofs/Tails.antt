@@ -12,14 +12,15 @@ use Rattle.names.specs.Tokens.{tokenAt}
 use Rattle.names.specs.Places.{place}
 use Rattle.names.specs.declared.tokens.Token.{Token}
 use Rattle.names.specs.declared.tokens.Peeked.the-variants as peeked
-use Rattle.expressions.specs.Diagnostics.{malformedOperand, malformedOpen}
-use Rattle.expressions.specs.Trees.{span, noSpan, Expr}
-use Rattle.expressions.specs.Terms.{stepped}
+use Rattle.records.specs.Diagnostics.{malformedOperand, malformedOpen}
+use Rattle.records.specs.Spans.{span, noSpan}
+use Rattle.expressions.specs.Trees.{Expr}
+use Rattle.records.specs.Counting.{stepped}
 use Rattle.expressions.specs.Reader.{is, Reader, answer}
 use Rattle.expressions.specs.Laws.{holds}
-use Rattle.expressions.specs.declared.records.Span.{Span}
-use Rattle.expressions.specs.declared.records.Diagnostic.{Diagnostic}
-use Rattle.expressions.specs.declared.terms.Counters.{Counters}
+use Rattle.records.specs.declared.spans.Span.{Span}
+use Rattle.records.specs.declared.diagnostics.Diagnostic.{Diagnostic}
+use Rattle.records.specs.declared.counters.Counters.{Counters}
 use Rattle.operand.specs.Operands.{Displacement, displaced, undisplaced, Operand, Maybe, some, none}
 use Rattle.operand.specs.Operands as O
 use Rattle.operand.specs.Operand.{baseShape, indexedOperand, closedBase, closedCounter, fullIndexed}

@@ -7,8 +7,8 @@ use native.Mathlib.Omega.{arith}
 use lib.ListN.{length, take, drop, replicate, length-append, length-replicate}
 use lib.Seq.{take-at, drop-at, length-take-le}
 use Rattle.names.specs.Places.{place}
-use Rattle.expressions.specs.declared.records.Span.{Span}
-use Rattle.expressions.specs.declared.terms.Counters.{Counters}
+use Rattle.records.specs.declared.spans.Span.{Span}
+use Rattle.records.specs.declared.counters.Counters.{Counters}
 use Rattle.expressions.specs.declared.terms.Parsed.the-variants as parsed
 use Rattle.expressions.specs.declared.terms.Step.{Step}
 use Rattle.expressions.specs.declared.terms.Chain.{Chain}
@@ -17,8 +17,9 @@ use Rattle.expressions.specs.Expressions.{Term, read, reported, absent, parseEx
 use Rattle.expressions.specs.Laws.{law-run}
 use Rattle.expressions.specs.Promises.{filled, ExpressionPromise, Stands, FromPromise}
 use Rattle.expressions.specs.Reader.{run}
-use Rattle.expressions.specs.Records.{nodes, lowFirst}
-use Rattle.expressions.specs.Stores.{nodeBytes}
+use Rattle.records.specs.Nodes.{lowFirst}
+use Rattle.expressions.specs.Records.{nodes, length-nodes}
+use Rattle.records.specs.Stores.{nodeBytes}
 use Rattle.expressions.specs.Terms.{parsedOf, sizeT, nodesT, Fit, FitClimb}
 use Rattle.expressions.specs.Trees.{Expr, number, characterLiteral, symbol, currentAddress, unary, binary, spanE, withSpan, size}
 use Rattle.parser.specs.Steps.{Room, NodeRoom, Told}
@@ -34,15 +35,6 @@ size-pos (symbol o s) = omega arith
 size-pos (currentAddress s) = omega arith
 size-pos (unary o e s) = omega arith
 size-pos (binary o l r s) = omega arith
-
-pub length-nodes : (b : ℕ) (e : Expr) → length (nodes b e) ≡ 14 * size e
-unfolding nodes size lowFirst
-length-nodes b (number base v s) = refl
-length-nodes b (characterLiteral q o s) = refl
-length-nodes b (symbol o s) = refl
-length-nodes b (currentAddress s) = refl
-length-nodes b (unary o e s) = simp length-append (omega (arith, length-nodes b e))
-length-nodes b (binary o l r s) = simp length-append (omega (arith, length-nodes b l, length-nodes (b + size l) r))
 
 -- ---- the definition's answer, by the code's
 

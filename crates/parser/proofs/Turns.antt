@@ -11,16 +11,17 @@ use lib.ListN.{length, take, drop, length-append}
 use Rattle.names.specs.Choice.{pick}
 use Rattle.names.specs.Kinds
 use Rattle.names.specs.Tokens.{count, tokenAt}
-use Rattle.names.specs.Places.{textOf, place, below}
+use Rattle.names.specs.Places.{textOf, place, below, there, nowhere}
 use Rattle.names.specs.declared.tokens.Token.{Token}
 use Rattle.names.specs.declared.tokens.Peeked.{Peeked}
 use Rattle.names.specs.declared.tokens.Peeked.the-variants as peeked
-use Rattle.expressions.specs.declared.terms.Counters.{Counters}
+use Rattle.records.specs.declared.counters.Counters.{Counters}
 use Rattle.expressions.specs.Expressions.{fuel}
 use Rattle.expressions.specs.Laws.{holds}
 use Rattle.expressions.specs.Reader.{is, _>>=_, run}
-use Rattle.expressions.specs.Stores.{nodeBytes}
-use Rattle.expressions.specs.Terms.{stepped, NodeTold}
+use Rattle.records.specs.Stores.{nodeBytes}
+use Rattle.records.specs.Counting.{stepped}
+use Rattle.expressions.specs.Terms.{NodeTold}
 use Rattle.operand.specs.Operands.{RegisterListItem, single, range, Operand, Maybe, some, none}
 use Rattle.operand.specs.Operand.{registerFrom, registerExpected, listItem, listed, nextItem, listLoop, parseRegisterList}
 use Rattle.operand.specs.Records.{itemRecord, itemRecords, sizeO, nodesO}
@@ -38,7 +39,7 @@ use Rattle.parser.specs.declared.lists.ItemRead.{ItemRead}
 use Rattle.parser.specs.declared.lists.ItemStep.{ItemStep}
 use Rattle.parser.specs.declared.lists.RegisterRead.{RegisterRead}
 use Rattle.parser.specs.declared.lists.RegisterStep.{RegisterStep}
-use Rattle.parser.proofs.Paths.{there, nowhere, retold, answered, hereby, bound, hit, missed}
+use Rattle.parser.proofs.Paths.{retold, answered, hereby, bound, hit, missed}
 use Rattle.parser.proofs.Ranges.{or-assoc, is-register, room-on, found-at, expected}
 
 -- ---- one more item

@@ -11,14 +11,15 @@ use Rattle.names.specs.Tokens.{tokenAt}
 use Rattle.names.specs.declared.tokens.Token.{Token}
 use Rattle.names.specs.declared.tokens.Peeked.the-variants as peeked
 use Rattle.expressions.specs.Reader.{Reader, answer, raise, peek, is, any, _>>=_}
-use Rattle.expressions.specs.Trees.{span, spanOf, empty, Expr, spanE, withSpan, size}
-use Rattle.expressions.specs.Diagnostics.{operandExpected, unexpectedTokenInOperand}
+use Rattle.records.specs.Spans.{span, spanOf, empty}
+use Rattle.expressions.specs.Trees.{Expr, spanE, withSpan, size}
+use Rattle.records.specs.Diagnostics.{operandExpected, unexpectedTokenInOperand}
 use Rattle.expressions.specs.Expressions.{takeSizeSuffix, expressionFrom}
 use Rattle.expressions.specs.Promises.{Stands}
-use Rattle.expressions.specs.Stores.{nodeBytes}
-use Rattle.expressions.specs.declared.records.Span.{Span}
+use Rattle.records.specs.Stores.{nodeBytes}
+use Rattle.records.specs.declared.spans.Span.{Span}
 use Rattle.expressions.specs.declared.reading.Setting.{Setting}
-use Rattle.expressions.specs.declared.terms.Counters.{Counters}
+use Rattle.records.specs.declared.counters.Counters.{Counters}
 use Rattle.operand.specs.Operands.{Displacement, displaced, undisplaced, Operand, Maybe, some, none}
 use Rattle.operand.specs.Operand.{parseRegisterList, registerDirect, immediateSize, finishExpressionOperand, displacementTail, parseBaseAndIndex, startsAFullIndex, parseFullIndex, sizedBase, unexpected, startsABase, parenthesised}
 use Rattle.operand.specs.Forms.{formOf, operandRead}

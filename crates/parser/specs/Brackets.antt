@@ -6,10 +6,10 @@ use Prim.Native.Nat.{ℕ, _+_, _*_}
 use lib.ListN.{take, drop}
 use Rattle.names.specs.declared.tokens.Token.{Token}
 use Rattle.expressions.specs.declared.reading.Setting.{Setting}
-use Rattle.expressions.specs.declared.terms.Counters.{Counters}
+use Rattle.records.specs.declared.counters.Counters.{Counters}
 use Rattle.expressions.specs.Expressions.{takeSizeSuffix}
 use Rattle.expressions.specs.Reader.{Reader, _>>=_}
-use Rattle.expressions.specs.Stores.{nodeBytes}
+use Rattle.records.specs.Stores.{nodeBytes}
 use Rattle.expressions.specs.Trees.{Expr}
 use Rattle.operand.specs.Operands.{Displacement, displaced, Operand, Maybe, some, none}
 use Rattle.operand.specs.Operand.{sized, parseSizedDisplacement, parseBaseAndIndexRegisters, Inner, Outer, innerRegisters, innerDisplaced, outerDisplaced, parseOuter, expectClose, memoryIndirect, outerClosed}

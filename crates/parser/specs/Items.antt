@@ -14,13 +14,13 @@ use Rattle.names.specs.declared.tokens.Token.{Token}
 use Rattle.names.specs.declared.tokens.Peeked.{Peeked}
 use Rattle.names.specs.declared.tokens.Peeked.the-variants as peeked
 use Rattle.names.specs.declared.registers.Reg.{Reg}
-use Rattle.expressions.specs.Trees.{span, empty, spanOf}
-use Rattle.expressions.specs.declared.records.Span.{Span}
-use Rattle.expressions.specs.declared.terms.Counters.{Counters}
-use Rattle.expressions.specs.Diagnostics.{registerExpectedInRegisterList, registerRangeOutOfOrder}
+use Rattle.records.specs.Spans.{span, empty, spanOf}
+use Rattle.records.specs.declared.spans.Span.{Span}
+use Rattle.records.specs.declared.counters.Counters.{Counters}
+use Rattle.records.specs.Diagnostics.{registerExpectedInRegisterList, registerRangeOutOfOrder}
 use Rattle.expressions.specs.Laws.{holds}
-use Rattle.expressions.specs.Records.{record14}
-use Rattle.expressions.specs.Terms.{stepped}
+use Rattle.records.specs.Nodes.{record14}
+use Rattle.records.specs.Counting.{stepped}
 use Rattle.operand.specs.Operands.{RegisterListItem, single, range, Maybe, some, none}
 use Rattle.operand.specs.Operand.{aRegister, listItem}
 use Rattle.parser.specs.Steps.{Room, Raised, Told}

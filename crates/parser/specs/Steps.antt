@@ -9,17 +9,17 @@ use Rattle.names.specs.Tokens.{count, tokenAt}
 use Rattle.names.specs.Places.{place}
 use Rattle.names.specs.declared.tokens.Token.{Token}
 use Rattle.names.specs.declared.tokens.Peeked.the-variants as peeked
-use Rattle.expressions.specs.declared.records.Diagnostic.{Diagnostic}
-use Rattle.expressions.specs.declared.terms.Counters.{Counters}
-use Rattle.expressions.specs.Diagnostics.{diagnosticRecord}
+use Rattle.records.specs.declared.diagnostics.Diagnostic.{Diagnostic}
+use Rattle.records.specs.declared.counters.Counters.{Counters}
+use Rattle.records.specs.Diagnostics.{diagnosticRecord}
 use Rattle.expressions.specs.Reader.{is, Reader, answer, bump, run, _>>=_}
-use Rattle.expressions.specs.Stores.{written, nodeBytes, added}
-use Rattle.expressions.specs.Terms.{stepped}
+use Rattle.records.specs.Stores.{written, nodeBytes, added}
+use Rattle.records.specs.Counting.{stepped}
 use Rattle.operand.specs.Operands.{Displacement, displaced, undisplaced, Operand, Maybe, some, none}
 use Rattle.operand.specs.Operand.{registers, expectClose, indexedOperand, closedIndex, indexAlone, parseIndexRegister}
 use Rattle.operand.specs.Records.{sizeD, nodesD, sizeO, nodesO}
 use Rattle.operand.specs.Forms.{sizedOf, formOf, recordOf, operandRead}
-use Rattle.expressions.specs.declared.records.Span.{Span}
+use Rattle.records.specs.declared.spans.Span.{Span}
 use Rattle.expressions.specs.declared.reading.Setting.{Setting}
 use Rattle.operand.specs.declared.forms.IndexRegister.{IndexRegister}
 use Rattle.operand.specs.declared.forms.BaseRegister.{BaseRegister}

@@ -11,7 +11,7 @@ use Rattle.names.specs.Registers.{registerOf, suppressedOf}
 use Rattle.names.specs.declared.tokens.Token.{Token}
 use Rattle.names.specs.declared.registers.Reg.{Reg}
 use Rattle.names.specs.declared.registers.Suppressed.{Suppressed}
-use Rattle.expressions.specs.Trees.{spanOf}
+use Rattle.records.specs.Spans.{spanOf}
 use Rattle.expressions.specs.Laws.{holds}
 use Rattle.expressions.specs.Reader.{any}
 use Rattle.expressions.specs.declared.reading.Setting.{Setting}

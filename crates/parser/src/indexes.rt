@@ -1,16 +1,11 @@
 // Sizes, scales and index registers, and the end of a parenthesis.
 use crate::places::register_at;
 use crate::places::suppressed_register_at;
-use crate::reports::diagnostic;
 use crate::reports::malformed;
 use crate::reports::raise;
 use crate::reports::stepped_over;
 use crate::reports::unclosed;
-use expressions::Counters;
 use expressions::Setting;
-use expressions::Span;
-use expressions::span_of;
-use expressions::step_over;
 use names::Number;
 use names::Peeked;
 use names::Reg;
@@ -27,6 +22,11 @@ use operand::Register;
 use operand::SuffixRead;
 use operand::SuffixStep;
 use operand::Suffixed;
+use records::Counters;
+use records::Span;
+use records::diagnostic;
+use records::span_of;
+use records::step_over;
 ghost use mathlib.Core.Path.{_≡_};
 ghost use mathlib.Core.List.{List};
 ghost use Prim.Native.Nat.{ℕ, _+_, _*_, _≤_, _<_};

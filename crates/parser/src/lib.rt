@@ -1,6 +1,5 @@
-// The reader of one operand: every addressing mode, and the entry.
+// The reader of one operand: every addressing mode.
 mod bases;
-mod entry;
 mod indexes;
 mod indirect;
 mod lists;
@@ -9,4 +8,4 @@ mod places;
 mod reports;
 mod steps;
 
-pub use entry::parse_operand;
+pub use operands::operand_from;

@@ -8,7 +8,6 @@ use crate::lists::parse_register_list;
 use crate::places::register_at;
 use crate::places::starts_a_base;
 use crate::places::starts_a_full_index;
-use crate::reports::diagnostic;
 use crate::reports::expression_expected;
 use crate::reports::malformed;
 use crate::reports::not_an_address_register;
@@ -17,14 +16,10 @@ use crate::steps::an_operand;
 use crate::steps::last_tree;
 use crate::steps::no_operand;
 use crate::steps::plain_operand;
-use expressions::Counters;
 use expressions::Parsed;
 use expressions::Setting;
-use expressions::Span;
 use expressions::expression;
 use expressions::expression_from;
-use expressions::span_of;
-use expressions::step_over;
 use names::Peeked;
 use names::Reg;
 use names::SpecialRegister;
@@ -39,6 +34,11 @@ use operand::OperandStep;
 use operand::Register;
 use operand::SizedDisplacement;
 use operand::SuffixRead;
+use records::Counters;
+use records::Span;
+use records::diagnostic;
+use records::span_of;
+use records::step_over;
 ghost use mathlib.Core.Path.{_≡_};
 ghost use mathlib.Core.List.{List};
 ghost use Prim.Native.Nat.{ℕ, _≤_, _<_};
@@ -648,7 +648,7 @@ fn minus_operand(
 }
 
 // The operand whose first token stands at the cursor.
-pub(crate) fn operand_from(
+pub fn operand_from(
     line: &[u8],
     tokens: &[u8],
     nodes: &mut [u8],

@@ -1,6 +1,5 @@
 // What stands at a place, as the Rust's `register_at` and its like ask. A token has been looked at already.
 use expressions::Setting;
-use expressions::span_of;
 use names::Peeked;
 use names::Reg;
 use names::Suppressed;
@@ -8,6 +7,7 @@ use names::Token;
 use names::kinds;
 use operand::BaseRegister;
 use operand::Register;
+use records::span_of;
 ghost use mathlib.Core.Path.{_≡_};
 ghost use mathlib.Core.Bool.{true, false, not};
 ghost use mathlib.Core.List.{List};

@@ -1,32 +1,19 @@
 // Diagnostics of operands. `o` is where the operand starts; a span ends where the last token ended.
-use expressions::Counters;
-use expressions::Diagnostic;
-use expressions::Span;
-use expressions::push_diagnostic;
-use expressions::span_of;
-use expressions::step_over;
 use names::Peeked;
 use names::Token;
+use records::Counters;
+use records::Diagnostic;
+use records::Span;
+use records::diagnostic;
+use records::push_diagnostic;
+use records::span_of;
+use records::step_over;
 ghost use mathlib.Core.Path.{_≡_};
 ghost use Prim.Native.Nat.{_+_, _*_, _≤_};
 ghost use lib.ListN.{length};
-ghost use Rattle.expressions.specs.Trees.{span, noSpan, spanOf};
-ghost use Rattle.expressions.specs.Diagnostics.{diagnostic, malformedOperand, malformedOpen, expressionExpected};
+ghost use Rattle.records.specs.Spans.{span, noSpan, spanOf};
+ghost use Rattle.records.specs.Diagnostics.{malformedOperand, malformedOpen, expressionExpected};
 ghost use Rattle.parser.specs.Steps.{Room, Raised, RaisedOver};
-
-pub(crate) fn diagnostic(kind: u8, shape: u8, problem: u8, span: Span, text: Span) -> Diagnostic
-    ensures { λ r. ⌜ r ≡ diagnostic kind shape problem span text ⌝ }
-{
-    Diagnostic {
-        kind: kind,
-        shape: shape,
-        problem: problem,
-        span: span,
-        text: text,
-        related: Span { start: 0, end: 0 },
-        has_related: 0,
-    }
-}
 
 pub(crate) fn raise(diagnostics: &mut [u8], c: Counters, x: Diagnostic) -> Counters
     requires { ⌜ 10 * c .diagnostics + 10 ≤ length (now diagnostics) ⌝ }

@@ -1,6 +1,4 @@
 // The answers of the functions, put together.
-use expressions::Counters;
-use expressions::Span;
 use operand::BaseRegister;
 use operand::Index;
 use operand::OperandRead;
@@ -8,6 +6,8 @@ use operand::OperandRecord;
 use operand::OperandStep;
 use operand::Sized;
 use operand::SizedDisplacement;
+use records::Counters;
+use records::Span;
 ghost use mathlib.Core.Path.{_≡_};
 ghost use Prim.Native.Nat.{_-_, _≤_, _<_};
 ghost use Rattle.operand.specs.Forms.{formOf};

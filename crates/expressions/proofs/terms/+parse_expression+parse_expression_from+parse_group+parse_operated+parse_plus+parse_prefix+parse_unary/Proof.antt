@@ -7,7 +7,7 @@ use mathlib.Core.Path.{sym, _∙_, ap}
 use Prim.Native.Nat.{ℕ, _+_, _-_, _*_, _<_}
 use Rattle.names.specs.Tokens.{count}
 use Rattle.expressions.proofs.Tables.{precedence-small}
-use Rattle.expressions.proofs.Groups.{token-live}
+use Rattle.names.specs.Places.{live}
 use Rattle.expressions.proofs.Returns.{read-some, absent-quiet, prefix-full, prefix-end, prefix-minus, prefix-tilde, prefix-plus, prefix-group, prefix-leaf, unary-reads, unary-reports, unary-absents, plus-reads, plus-reports, plus-absents, expression-reads, expression-reports, expression-absents, group-reports, group-absents, group-tells}
 use Rattle.expressions.proofs.Climbs.{climb-ends, climb-lows, climb-reports, climb-absents, climb-reads}
 use borrow.Fn.Kinds.{In}
@@ -33,7 +33,7 @@ use Rattle.expressions.proofs.terms.+parse_expression+parse_expression_
 use Rattle.expressions.proofs.terms.parse_unary.Reads as parse-unary
 use Rattle.expressions.proofs.terms.parse_unary.Kinds as parse-unary-kinds
 use Rattle.expressions.proofs.terms.+parse_expression+parse_expression_from+parse_group+parse_operated+parse_plus+parse_prefix+parse_unary.Lts-parse_unary as parse-unary-lts
-use Rattle.expressions.proofs.records.plain.Reads as plain-reads
+use Rattle.expressions.proofs.terms.plain.Reads as plain-reads
 use Rattle.expressions.proofs.terms.binary_operator.Reads as binary-operator-reads
 use Rattle.expressions.proofs.terms.close_group.Reads as close-group-reads
 use Rattle.expressions.proofs.terms.expected_after.Reads as expected-after-reads
@@ -41,8 +41,8 @@ use Rattle.expressions.proofs.terms.parse_leaf.Reads as parse-leaf-read
 use Rattle.expressions.proofs.terms.precedence.Reads as precedence-reads
 use Rattle.expressions.proofs.terms.put_operator.Reads as put-operator-reads
 use Rattle.expressions.proofs.terms.report.Reads as report-reads
-use Rattle.expressions.proofs.terms.span_of.Reads as span-of-reads
-use Rattle.expressions.proofs.terms.step_over.Reads as step-over-reads
+use Rattle.records.proofs.span_of.Reads as span-of-reads
+use Rattle.records.proofs.step_over.Reads as step-over-reads
 use Rattle.expressions.proofs.terms.too_deep.Reads as too-deep-reads
 use Rattle.expressions.proofs.terms.unary_operator.Reads as unary-operator-reads
 use Rattle.names.proofs.token_at.Reads as token-at-reads
@@ -369,7 +369,7 @@ parse-operated-parse-prefix-requires : (t : ℕ) → parse-operated-lts.Need-par
 parse-operated-parse-prefix-requires t c κs =
     let c-step-over = c .step-over in
     let c-pre = c .before .before .before .before .before .before .before .pre in
-    let h = c-step-over .ensures in rw h (omega (arith, token-live _ _ _ (c-pre .1 .1 .there), c-pre .0, c-pre .1 .0))
+    let h = c-step-over .ensures in rw h (omega (arith, live _ _ _ (c-pre .1 .1 .there), c-pre .0, c-pre .1 .0))
 
 parse-operated-enum-told : (t : ℕ) → parse-operated-lts.Need-enum-told (parse-operated-claims t) (parse-operated-at t) parse-operated.Post
 parse-operated-enum-told t c = search needs
@@ -386,7 +386,7 @@ parse-operated-report-requires t c κs =
     let c-pre = c .before .before .before .before .before .before .before .before .before .before .before .before .before .before .before .before .before .pre in
     let c-parse-prefix = c .before .before .before .before .before .before .before .before .before .parse-prefix in
     let c-enum-told2 = c .before .before .enum-told2 in
-    omega (arith, ap (λ z. z .at) (c-step-over .ensures), ap (λ z. z .nodes) (c-step-over .ensures), ap (λ z. z .diagnostics) (c-step-over .ensures), token-live _ _ _ (c-pre .1 .1 .there), c-pre .0, c-pre .1 .0, c-parse-prefix, absent-quiet _ _ _ _ _ _ _ _ _ (c-parse-prefix .ensures) (c-enum-told2 .given .1))
+    omega (arith, ap (λ z. z .at) (c-step-over .ensures), ap (λ z. z .nodes) (c-step-over .ensures), ap (λ z. z .diagnostics) (c-step-over .ensures), live _ _ _ (c-pre .1 .1 .there), c-pre .0, c-pre .1 .0, c-parse-prefix, absent-quiet _ _ _ _ _ _ _ _ _ (c-parse-prefix .ensures) (c-enum-told2 .given .1))
 
 parse-operated-enum-known-w : (t : ℕ) → parse-operated-lts.Need-enum-known-w (parse-operated-claims t) (parse-operated-at t) parse-operated.Post
 parse-operated-enum-known-w t c = search needs
@@ -406,7 +406,7 @@ parse-operated-parse-expression-from-requires t c κs =
     let c-pre = c .before .before .before .before .before .before .before .before .before .before .before .before .before .before .before .before .before .before .before .pre in
     let c-parse-prefix = c .before .before .before .before .before .before .before .before .before .before .before .parse-prefix in
     let c-w = c .before .before .before .before .w in
-    omega (arith, ap (λ z. z .at) (c-step-over .ensures), ap (λ z. z .nodes) (c-step-over .ensures), ap (λ z. z .diagnostics) (c-step-over .ensures), token-live _ _ _ (c-pre .1 .1 .there), c-pre .0, c-pre .1 .0, c-parse-prefix, read-some (c-parse-prefix .ensures .told) (c-w .given .1))
+    omega (arith, ap (λ z. z .at) (c-step-over .ensures), ap (λ z. z .nodes) (c-step-over .ensures), ap (λ z. z .diagnostics) (c-step-over .ensures), live _ _ _ (c-pre .1 .1 .there), c-pre .0, c-pre .1 .0, c-parse-prefix, read-some (c-parse-prefix .ensures .told) (c-w .given .1))
 
 parse-operated-binary-operator-requires :
     (t : ℕ) → parse-operated-lts.Need-binary-operator-requires (parse-operated-claims t) (parse-operated-at t) parse-operated.Post
@@ -428,7 +428,7 @@ parse-operated-put-operator-requires t c κs =
     let c-pre = c .before .before .before .before .before .before .before .before .before .before .before .before .before .before .before .before .before .before .before .before .before .before .before .before .before .before .before .before .before .before .pre in
     let c-parse-prefix = c .before .before .before .before .before .before .before .before .before .before .before .before .before .before .before .before .before .before .before .before .before .before .parse-prefix in
     let c-parse-expression-from = c .before .before .before .before .before .before .before .before .before .before .parse-expression-from in
-    omega (arith, ap (λ z. z .at) (c-step-over .ensures), ap (λ z. z .nodes) (c-step-over .ensures), ap (λ z. z .diagnostics) (c-step-over .ensures), token-live _ _ _ (c-pre .1 .1 .there), c-pre .0, c-pre .1 .0, c-parse-prefix, c-parse-expression-from)
+    omega (arith, ap (λ z. z .at) (c-step-over .ensures), ap (λ z. z .nodes) (c-step-over .ensures), ap (λ z. z .diagnostics) (c-step-over .ensures), live _ _ _ (c-pre .1 .1 .there), c-pre .0, c-pre .1 .0, c-parse-prefix, c-parse-expression-from)
 
 parse-operated-parse-expression-from-requires-2 :
     (t : ℕ) → parse-operated-lts.Need-parse-expression-from-requires-2 (parse-operated-claims t) (parse-operated-at t) parse-operated.Post
@@ -438,7 +438,7 @@ parse-operated-parse-expression-from-requires-2 t c κs =
     let c-parse-prefix = c .before .before .before .before .before .before .before .before .before .before .before .before .before .before .before .before .before .before .before .before .before .before .before .before .before .before .before .parse-prefix in
     let c-parse-expression-from = c .before .before .before .before .before .before .before .before .before .before .before .before .before .before .before .parse-expression-from in
     let c-put-operator = c .before .before .before .before .put-operator in
-    omega (arith, ap (λ z. z .at) (c-step-over .ensures), ap (λ z. z .nodes) (c-step-over .ensures), ap (λ z. z .diagnostics) (c-step-over .ensures), token-live _ _ _ (c-pre .1 .1 .there), c-pre .0, c-pre .1 .0, c-parse-prefix, c-parse-expression-from, c-put-operator .ensures .put, c-put-operator)
+    omega (arith, ap (λ z. z .at) (c-step-over .ensures), ap (λ z. z .nodes) (c-step-over .ensures), ap (λ z. z .diagnostics) (c-step-over .ensures), live _ _ _ (c-pre .1 .1 .there), c-pre .0, c-pre .1 .0, c-parse-prefix, c-parse-expression-from, c-put-operator .ensures .put, c-put-operator)
 
 parse-operated-same-length : (t : ℕ) → parse-operated-lts.Need-same-length (parse-operated-claims t) (parse-operated-at t) parse-operated.Post
 parse-operated-same-length t c = search needs
@@ -627,7 +627,7 @@ parse-prefix-parse-unary-requires t c κs =
     let c-token-at = c .before .before .before .before .before .before .before .token-at in
     let c-p = c .before .before .before .before .before .p in
     let c-pre = c .before .before .before .before .before .before .before .before .before .before .before .before .before .pre in
-    let h = c-step-over .ensures in rw h (omega (arith, token-live _ _ _ (sym (c-token-at .ensures) ∙ c-p .given .1), c-pre))
+    let h = c-step-over .ensures in rw h (omega (arith, live _ _ _ (sym (c-token-at .ensures) ∙ c-p .given .1), c-pre))
 
 parse-prefix-parse-unary-requires-2 : (t : ℕ) → parse-prefix-lts.Need-parse-unary-requires-2 (parse-prefix-claims t) (parse-prefix-at t) parse-prefix.Post
 parse-prefix-parse-unary-requires-2 t c κs =
@@ -635,7 +635,7 @@ parse-prefix-parse-unary-requires-2 t c κs =
     let c-token-at = c .before .before .before .before .before .before .before .token-at in
     let c-p = c .before .before .before .before .before .p in
     let c-pre = c .before .before .before .before .before .before .before .before .before .before .before .before .before .pre in
-    let h = c-step-over .ensures in rw h (omega (arith, token-live _ _ _ (sym (c-token-at .ensures) ∙ c-p .given .1), c-pre))
+    let h = c-step-over .ensures in rw h (omega (arith, live _ _ _ (sym (c-token-at .ensures) ∙ c-p .given .1), c-pre))
 
 parse-prefix-parse-plus-requires : (t : ℕ) → parse-prefix-lts.Need-parse-plus-requires (parse-prefix-claims t) (parse-prefix-at t) parse-prefix.Post
 parse-prefix-parse-plus-requires t c κs =
@@ -643,7 +643,7 @@ parse-prefix-parse-plus-requires t c κs =
     let c-token-at = c .before .before .before .before .before .before .before .token-at in
     let c-p = c .before .before .before .before .before .p in
     let c-pre = c .before .before .before .before .before .before .before .before .before .before .before .before .before .pre in
-    let h = c-step-over .ensures in rw h (omega (arith, token-live _ _ _ (sym (c-token-at .ensures) ∙ c-p .given .1), c-pre))
+    let h = c-step-over .ensures in rw h (omega (arith, live _ _ _ (sym (c-token-at .ensures) ∙ c-p .given .1), c-pre))
 
 parse-prefix-parse-group-requires : (t : ℕ) → parse-prefix-lts.Need-parse-group-requires (parse-prefix-claims t) (parse-prefix-at t) parse-prefix.Post
 parse-prefix-parse-group-requires t c κs =
@@ -651,14 +651,14 @@ parse-prefix-parse-group-requires t c κs =
     let c-token-at = c .before .before .before .before .before .before .before .token-at in
     let c-p = c .before .before .before .before .before .p in
     let c-pre = c .before .before .before .before .before .before .before .before .before .before .before .before .before .pre in
-    let h = c-step-over .ensures in rw h (omega (arith, token-live _ _ _ (sym (c-token-at .ensures) ∙ c-p .given .1), c-pre))
+    let h = c-step-over .ensures in rw h (omega (arith, live _ _ _ (sym (c-token-at .ensures) ∙ c-p .given .1), c-pre))
 
 parse-prefix-parse-leaf-requires : (t : ℕ) → parse-prefix-lts.Need-parse-leaf-requires (parse-prefix-claims t) (parse-prefix-at t) parse-prefix.Post
 parse-prefix-parse-leaf-requires t c κs =
     let c-token-at = c .before .before .before .before .before .before .before .token-at in
     let c-p = c .before .before .before .before .before .p in
     let c-pre = c .before .before .before .before .before .before .before .before .before .before .before .before .before .pre in
-    omega (arith, token-live _ _ _ (sym (c-token-at .ensures) ∙ c-p .given .1), c-pre)
+    omega (arith, live _ _ _ (sym (c-token-at .ensures) ∙ c-p .given .1), c-pre)
 
 parse-prefix-returns-2 : (t : ℕ) → parse-prefix-lts.Need-returns-2 (parse-prefix-claims t) (parse-prefix-at t) parse-prefix.Post
 parse-prefix-returns-2 t c =

@@ -1,7 +1,7 @@
 -- `expressions::terms::expected_after` meets its contract.
 -- Assumes nothing.
 use mathlib.Core.Path.{_∙_, ap}
-use Rattle.expressions.specs.Diagnostics.{plain}
+use Rattle.records.specs.Diagnostics.{plain}
 use borrow.Author.Needs.{needs}
 use Rattle.expressions.proofs.terms.expected_after.Statement.{statement}
 use Rattle.expressions.proofs.terms.expected_after.Tie as tie

@@ -1,8 +1,8 @@
 -- `expressions::terms::unclosed` meets its contract.
 -- Assumes nothing.
 use mathlib.Core.Path.{_∙_, ap}
-use Rattle.expressions.specs.Trees.{noSpan}
-use Rattle.expressions.specs.Diagnostics.{plain}
+use Rattle.records.specs.Spans.{noSpan}
+use Rattle.records.specs.Diagnostics.{plain}
 use borrow.Author.Needs.{needs}
 use Rattle.expressions.proofs.terms.unclosed.Statement.{statement}
 use Rattle.expressions.proofs.terms.unclosed.Tie as tie

@@ -6,7 +6,7 @@ use native.Mathlib.Omega.{arith}
 use borrow.Author.Tests.{not-true, not-false, eq-eqb, ne-eqb, lt-ltb, le-ltb}
 use lib.ListN.{length}
 use Rattle.names.specs.Tokens.{count}
-use Rattle.expressions.specs.Stores.{nodeBytes}
+use Rattle.records.specs.Stores.{nodeBytes}
 use Rattle.operand.specs.Entry.{firstOf}
 use Rattle.operand.proofs.Checks.{numbered}
 use borrow.Author.Needs.{needs}

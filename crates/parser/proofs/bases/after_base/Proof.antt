@@ -6,7 +6,8 @@ use borrow.Author.Tests.{eq-eqb, ne-eqb}
 use Rattle.names.specs.Kinds
 use Rattle.operand.specs.Operand.{afterBase}
 use Rattle.operand.specs.Forms.{operandRead}
-use Rattle.parser.proofs.Paths.{live, hit, miss, done, failed-unclosed}
+use Rattle.names.specs.Places.{live}
+use Rattle.parser.proofs.Paths.{hit, miss, done, failed-unclosed}
 use Rattle.parser.proofs.Rooms.{room-step}
 use Rattle.parser.proofs.Tails.{kept-from, unclosed-shape, index-plain, no-operand-held}
 use borrow.Author.Needs.{needs}

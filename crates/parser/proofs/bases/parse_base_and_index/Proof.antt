@@ -5,7 +5,8 @@ use native.Mathlib.Omega.{arith}
 use Rattle.operand.specs.Operand.{parseBaseAndIndex, afterBase}
 use Rattle.operand.specs.Forms.{operandRead}
 use Rattle.parser.proofs.Names.{address-hit, address-miss}
-use Rattle.parser.proofs.Paths.{live, renamed, hit, miss, done, failed-unclosed, failed-register}
+use Rattle.names.specs.Places.{live}
+use Rattle.parser.proofs.Paths.{renamed, hit, miss, done, failed-unclosed, failed-register}
 use Rattle.parser.proofs.Rooms.{room-step}
 use Rattle.parser.proofs.Tails.{kept-from, unclosed-shape, register-shape, register-at-base, no-operand-held, no-operand-behind}
 use borrow.Author.Needs.{needs}

@@ -6,7 +6,8 @@ use borrow.Author.Tests.{eq-eqb, ne-eqb}
 use Rattle.names.specs.Kinds
 use Rattle.operand.specs.Operand.{expectClose}
 use Rattle.operand.specs.Forms.{closeRead}
-use Rattle.parser.proofs.Paths.{live, answered, hit, miss, done, failed-unclosed, raised-same}
+use Rattle.names.specs.Places.{live}
+use Rattle.parser.proofs.Paths.{answered, hit, miss, done, failed-unclosed, raised-same}
 use borrow.Author.Needs.{needs}
 use Rattle.parser.proofs.indexes.expect_close.Statement.{statement}
 use Rattle.parser.proofs.indexes.expect_close.Tie as tie

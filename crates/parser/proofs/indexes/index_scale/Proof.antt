@@ -6,7 +6,8 @@ use borrow.Author.Tests.{eq-eqb, ne-eqb}
 use Rattle.names.specs.Kinds
 use Rattle.operand.specs.Operand.{indexScale}
 use Rattle.operand.specs.Forms.{indexRead}
-use Rattle.parser.proofs.Paths.{live, answered, hit, hit-same, miss, done, failed-over, over-same}
+use Rattle.names.specs.Places.{live}
+use Rattle.parser.proofs.Paths.{answered, hit, hit-same, miss, done, failed-over, over-same}
 use Rattle.parser.proofs.Rooms.{room-step}
 use borrow.Author.Needs.{needs}
 use Rattle.parser.proofs.indexes.index_scale.Statement.{statement}

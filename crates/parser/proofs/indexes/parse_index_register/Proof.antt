@@ -6,7 +6,8 @@ use native.Mathlib.Omega.{arith}
 use Rattle.operand.specs.Operand.{parseIndexRegister, indexRegister, isSuppressedRegister}
 use Rattle.operand.specs.Forms.{indexRead}
 use Rattle.parser.proofs.Names.{reg-is, reg-not, unmarked-is, register-as, suppressed-as}
-use Rattle.parser.proofs.Paths.{live, renamed, hereby, hit-same, miss, done, failed-over, over-same}
+use Rattle.names.specs.Places.{live}
+use Rattle.parser.proofs.Paths.{renamed, hereby, hit-same, miss, done, failed-over, over-same}
 use Rattle.parser.proofs.Rooms.{room-step}
 use borrow.Author.Needs.{needs}
 use Rattle.parser.proofs.indexes.parse_index_register.Statement.{statement}

@@ -6,7 +6,8 @@ use borrow.Author.Tests.{eq-eqb, ne-eqb}
 use Rattle.names.specs.Kinds
 use Rattle.expressions.specs.Expressions.{takeSizeSuffix}
 use Rattle.operand.specs.Forms.{suffixRead}
-use Rattle.parser.proofs.Paths.{live, answered, hit-same, miss, done}
+use Rattle.names.specs.Places.{live}
+use Rattle.parser.proofs.Paths.{answered, hit-same, miss, done}
 use borrow.Author.Needs.{needs}
 use Rattle.parser.proofs.indexes.take_size_suffix.Statement.{statement}
 use Rattle.parser.proofs.indexes.take_size_suffix.Tie as tie

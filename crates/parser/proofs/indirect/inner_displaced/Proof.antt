@@ -5,7 +5,8 @@ use native.Mathlib.Omega.{arith}
 use borrow.Author.Tests.{eq-eqb, ne-eqb}
 use Rattle.names.specs.Kinds
 use Rattle.operand.specs.Operand.{innerDisplaced}
-use Rattle.parser.proofs.Paths.{live, hit, miss, done}
+use Rattle.names.specs.Places.{live}
+use Rattle.parser.proofs.Paths.{hit, miss, done}
 use Rattle.parser.proofs.Rooms.{room-step}
 use Rattle.parser.proofs.Inners.{stored-on, inner-answered}
 use borrow.Author.Needs.{needs}

@@ -7,7 +7,8 @@ use Rattle.names.specs.Kinds
 use Rattle.operand.specs.Operands.{undisplaced}
 use Rattle.operand.specs.Operand.{parseOuter}
 use Rattle.operand.specs.Forms.{sizedOf}
-use Rattle.parser.proofs.Paths.{live, miss, done}
+use Rattle.names.specs.Places.{live}
+use Rattle.parser.proofs.Paths.{miss, done}
 use Rattle.parser.proofs.Inners.{node-step, stored-none, outer-answered, outer-hit, outer-index-here, outer-no-index}
 use borrow.Author.Needs.{needs}
 use Rattle.parser.proofs.indirect.parse_outer.Statement.{statement}

@@ -1,8 +1,8 @@
 -- `parser::lists::list_item` meets its contract.
 -- Assumes nothing.
+use Rattle.names.specs.Places.{live}
 use mathlib.Core.Path.{sym, _∙_, ap}
 use native.Mathlib.Omega.{arith}
-use Rattle.parser.proofs.Paths.{live}
 use Rattle.parser.proofs.Ranges.{room-behind, found-at, single-end, single-other, range-none, range-some}
 use borrow.Author.Needs.{needs}
 use Rattle.parser.proofs.lists.list_item.Statement.{statement}

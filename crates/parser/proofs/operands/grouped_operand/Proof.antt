@@ -6,7 +6,8 @@ use borrow.Author.Tests.{eq-eqb, ne-eqb}
 use Rattle.names.specs.Kinds
 use Rattle.operand.specs.Operands.{displaced}
 use Rattle.operand.specs.Operand.{displacementTail}
-use Rattle.parser.proofs.Paths.{live, hit, miss, done}
+use Rattle.names.specs.Places.{live}
+use Rattle.parser.proofs.Paths.{hit, miss, done}
 use Rattle.parser.proofs.Rooms.{room-step}
 use Rattle.parser.proofs.Tails.{kept-from}
 use Rattle.parser.proofs.Holdings.{left-some, tree-stored, stands-size, tree-is, no-size}

@@ -5,7 +5,8 @@ use native.Mathlib.Omega.{arith}
 use borrow.Author.Tests.{eq-eqb, ne-eqb}
 use Rattle.names.specs.Kinds
 use Rattle.operand.specs.Operand.{minusOperand}
-use Rattle.parser.proofs.Paths.{live, seen, other, beyond}
+use Rattle.names.specs.Places.{live}
+use Rattle.parser.proofs.Paths.{seen, other, beyond}
 use Rattle.parser.proofs.Names.{reg-is, reg-not}
 use Rattle.parser.proofs.Rooms.{room-step}
 use Rattle.parser.proofs.Operations.{token-from, predecrement-told}

@@ -6,7 +6,8 @@ use borrow.Author.Tests.{eq-eqb, ne-eqb}
 use Rattle.names.specs.Kinds
 use Rattle.operand.specs.Operands.{displaced}
 use Rattle.operand.specs.Operand.{sizedBase, over}
-use Rattle.parser.proofs.Paths.{live, hit, seen, other, beyond}
+use Rattle.names.specs.Places.{live}
+use Rattle.parser.proofs.Paths.{hit, seen, other, beyond}
 use Rattle.parser.proofs.Rooms.{suffix-room, room-step}
 use Rattle.parser.proofs.Holdings.{tree-is, kept-sized}
 use Rattle.parser.proofs.Operations.{behind-bare, behind-size, size-passed, token-from}

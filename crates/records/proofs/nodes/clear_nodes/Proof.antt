@@ -1,0 +1,63 @@
+-- `records::nodes::clear_nodes` meets its contract. The loop's invariant: the bytes from the n-th record up to i are 0, and the others stand.
+-- Assumes nothing.
+use mathlib.Core.Path.{_≡_, ap, _∙_}
+use Prim.Native.Nat.{_≤_, _-_, _*_}
+use native.Mathlib.Omega.{arith}
+use lib.ListN.{length, set, length-set}
+use Rattle.records.specs.Stores.{cleared}
+use Rattle.records.specs.Written.{cleared-none, cleared-more, cleared-all}
+use borrow.Author.Needs.{needs}
+use Rattle.records.proofs.nodes.clear_nodes.Statement.{statement}
+use Rattle.records.proofs.nodes.clear_nodes.Tie as tie
+
+abbrev Inv-loop : tie.InvT-loop
+Inv-loop nodes₀ n i₀ nodes i = (nodes ≡ cleared nodes₀ (14 * n) i) × (14 * n ≤ i) × (i ≤ 3570) × (length nodes ≡ length nodes₀) × (3570 ≤ length nodes₀)
+
+abbrev μ-loop : tie.MeasureT-loop
+μ-loop nodes₀ n i₀ nodes i = 3570 - i
+
+mul-i : tie.Need-mul-i Inv-loop μ-loop
+mul-i c = search needs
+
+loop-holds : tie.Need-loop-holds Inv-loop μ-loop
+loop-holds c =
+    let c-pre = c .pre in
+    (cleared-none _ _, omega arith, omega (arith, c-pre), omega arith, omega (arith, c-pre))
+
+slice-write-nodes : tie.Need-slice-write-nodes Inv-loop μ-loop
+slice-write-nodes c = omega arith
+
+add-i : tie.Need-add-i Inv-loop μ-loop
+add-i c = search needs
+
+loop-less : tie.Need-loop-less Inv-loop μ-loop
+loop-less c = search needs
+
+loop-again : tie.Need-loop-again Inv-loop μ-loop
+loop-again c =
+    let c-loop = c .before .loop in
+    let c-args = c .before .before .args in
+    (ap (λ x. set x (c-loop .i) 0) (c-loop .inv .0) ∙ cleared-more (c-args .nodes .now) (14 * c-args .n) (c-loop .i) (omega arith) (omega arith), omega arith, omega arith, simp length-set (omega arith), omega arith)
+
+same-length : tie.Need-same-length Inv-loop μ-loop
+same-length c = omega arith
+
+returns : tie.Need-returns Inv-loop μ-loop
+returns c =
+    let c-loop = c .before .loop in
+    cleared-all _ _ _ _ (c-loop .inv .0) (omega arith)
+
+pub clear-nodes-spec : {M : Type 1} → statement M
+clear-nodes-spec =
+    tie.close
+    (tie.spec
+    Inv-loop
+    μ-loop
+    mul-i
+    loop-holds
+    slice-write-nodes
+    add-i
+    loop-less
+    loop-again
+    same-length
+    returns)

@@ -1,0 +1,72 @@
+-- Diagnostics: document 01's ten bytes, and a name for each kind that `parse_operand` raises.
+-- Assumes nothing.
+use mathlib.Core.List.{List, [], _∷_}
+use Prim.Native.Nat.{ℕ, _+_}
+use Rattle.records.specs.Spans.{span, empty, noSpan}
+use Rattle.records.specs.declared.spans.Span.{Span}
+use Rattle.records.specs.declared.diagnostics.Diagnostic.{Diagnostic}
+
+-- its fields are the code's. text: what the message quotes, or two registers. related: a span that it points at, if `has_related` is 1
+abbrev pub diagnostic : ℕ → ℕ → ℕ → Span → Span → Diagnostic
+diagnostic kind shape problem span text =
+    record { kind = kind; shape = shape; problem = problem; span = span; text = text; related = noSpan; «has_related» = 0 }
+
+-- a kind with no shape and no problem
+abbrev pub plain : ℕ → Span → Span → Diagnostic
+plain kind span text = diagnostic kind 0 0 span text
+
+-- they quote their token
+abbrev pub numberTooLarge : Span → Diagnostic
+numberTooLarge s = plain 1 s s
+
+-- the suffix, and its run behind the first byte
+abbrev pub unknownSizeSuffix : Span → Diagnostic
+unknownSizeSuffix s = plain 2 s (span (s .start + 1) (s .end))
+
+-- the suffix, and the name with it, from where that begins
+abbrev pub dotInName : Span → ℕ → Diagnostic
+dotInName s from = plain 3 s (span from (s .end))
+
+abbrev pub operandExpected : Span → Diagnostic
+operandExpected s = plain 4 s noSpan
+
+abbrev pub unclosedParenthesis : Span → Diagnostic
+unclosedParenthesis s = plain 5 s noSpan
+
+abbrev pub nestingTooDeep : Span → Diagnostic
+nestingTooDeep s = plain 6 s noSpan
+
+-- by the shape and the problem's number; the text is the token that problem 2 quotes
+abbrev pub malformedOperand : ℕ → ℕ → Span → Span → Diagnostic
+malformedOperand shape problem s text = diagnostic 7 shape problem s text
+
+-- the same, with the parenthesis that is never closed
+abbrev pub malformedOpen : ℕ → ℕ → Span → Span → Diagnostic
+malformedOpen shape problem s paren = record { kind = 7; shape = shape; problem = problem; span = s; text = noSpan; related = paren; «has_related» = 1 }
+
+abbrev pub unexpectedTokenInOperand : Span → Diagnostic
+unexpectedTokenInOperand s = plain 8 s s
+
+-- the sign that the register would follow, by its ASCII code
+abbrev pub registerExpectedInRegisterList : ℕ → Span → Diagnostic
+registerExpectedInRegisterList after s = diagnostic 9 0 after s noSpan
+
+-- the two registers, by their mask indices
+abbrev pub registerRangeOutOfOrder : ℕ → ℕ → Span → Diagnostic
+registerRangeOutOfOrder from to s = plain 10 s (span from to)
+
+abbrev pub registerInExpression : Span → Diagnostic
+registerInExpression s = plain 11 s s
+
+-- the token that the expression would follow; its own span is empty, at that token's end
+abbrev pub expressionExpected : Span → Diagnostic
+expressionExpected after = plain 12 (empty (after .end)) after
+
+-- the plus, and the term that was read, no span where that failed
+abbrev pub plusIsNotAUnaryOperator : Span → Span → Diagnostic
+plusIsNotAUnaryOperator s term = plain 13 s term
+
+-- document 01's ten bytes
+unfoldable pub diagnosticRecord : Diagnostic → List ℕ
+diagnosticRecord d =
+    d .kind ∷ d .shape ∷ d .problem ∷ d .span .start ∷ d .span .end ∷ d .text .start ∷ d .text .end ∷ d .related .start ∷ d .related .end ∷ d .«has_related» ∷ []
