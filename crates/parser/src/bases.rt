@@ -127,34 +127,23 @@ fn closed_base(
         start: o,
         end: close.end,
     };
+    let base = BaseRegister::Address(register);
     if let SizedDisplacement::Is(_) = d {
-        return an_operand(
-            plain_operand(8, span, d, BaseRegister::Address(register)),
-            c,
-        );
+        return an_operand(plain_operand(8, span, d, base), c);
     }
     let at = c.at;
     let p = names::token_at(tokens, at);
     match p {
-        Peeked::End => an_operand(
-            plain_operand(5, span, d, BaseRegister::Address(register)),
-            c,
-        ),
+        Peeked::End => an_operand(plain_operand(5, span, d, base), c),
         Peeked::Is(t) => {
             if t.kind != kinds::PLUS {
-                return an_operand(
-                    plain_operand(5, span, d, BaseRegister::Address(register)),
-                    c,
-                );
+                return an_operand(plain_operand(5, span, d, base), c);
             }
             let whole = Span {
                 start: o,
                 end: t.end,
             };
-            an_operand(
-                plain_operand(6, whole, d, BaseRegister::Address(register)),
-                step_over(c, t),
-            )
+            an_operand(plain_operand(6, whole, d, base), step_over(c, t))
         }
     }
 }

@@ -1,5 +1,6 @@
 // Sizes, scales and index registers, and the end of a parenthesis.
 use crate::places::register_at;
+use crate::places::register_of;
 use crate::places::suppressed_register_at;
 use crate::reports::malformed;
 use crate::reports::raise;
@@ -33,6 +34,7 @@ ghost use Prim.Native.Nat.{ℕ, _+_, _*_, _≤_, _<_};
 ghost use lib.ListN.{length};
 ghost use Rattle.names.specs.Places.{textOf};
 ghost use Rattle.names.specs.Sizes.{runOf};
+ghost use Rattle.records.specs.Spans.{span};
 ghost use Rattle.expressions.specs.Expressions.{suffixRun, takeSizeSuffix};
 ghost use Rattle.operand.specs.Operand.{expectClose, scaleOf, scaled, scaleValue, indexScale, indexRegister, parseIndexRegister};
 ghost use Rattle.operand.specs.Forms.{suffixRead, closeRead, indexRead};
@@ -279,6 +281,23 @@ fn index_scale(
     index_scale_value(line, diagnostics, step_over(e, t), o, shape, x, t)
 }
 
+// An index with no scale yet, which ends at `end`.
+fn unscaled(register: Register, size: u8, suppressed: bool, end: u8) -> IndexRegister
+    ensures { λ r. ⌜ r ≡ record { register = register; size = size; scale = 0; suppressed = suppressed; span = span (register .span .start) end } ⌝ }
+{
+    let own = register.span;
+    IndexRegister {
+        register: register,
+        size: size,
+        scale: 0,
+        suppressed: suppressed,
+        span: Span {
+            start: own.start,
+            end: end,
+        },
+    }
+}
+
 // Behind the register of an index.
 fn index_register(
     line: &[u8],
@@ -300,26 +319,11 @@ fn index_register(
     let suffix = s.suffix;
     match suffix {
         SuffixRead::Not => {
-            let x = IndexRegister {
-                register: register,
-                size: 0,
-                scale: 0,
-                suppressed: suppressed,
-                span: own,
-            };
+            let x = unscaled(register, 0, suppressed, own.end);
             index_scale(line, tokens, diagnostics, e, o, shape, x)
         }
         SuffixRead::Is(size) => {
-            let x = IndexRegister {
-                register: register,
-                size: size.size,
-                scale: 0,
-                suppressed: suppressed,
-                span: Span {
-                    start: start,
-                    end: size.span.end,
-                },
-            };
+            let x = unscaled(register, size.size, suppressed, size.span.end);
             index_scale(line, tokens, diagnostics, e, o, shape, x)
         }
     }
@@ -342,23 +346,16 @@ pub(crate) fn parse_index_register(
     let Peeked::Is(t) = p else {
         return no_index(stepped_over(tokens, diagnostics, c, o, shape, 6));
     };
-    let span = span_of(t);
     let r = register_at(line, t);
     if let Reg::Is(index) = r {
-        let register = Register {
-            index: index,
-            span: span,
-        };
+        let register = register_of(index, t);
         let e = step_over(c, t);
         return index_register(line, tokens, diagnostics, e, o, shape, register, false);
     }
     let z = suppressed_register_at(line, t, at, s);
     match z {
         Suppressed::Register(index) => {
-            let register = Register {
-                index: index,
-                span: span,
-            };
+            let register = register_of(index, t);
             let e = step_over(c, t);
             index_register(line, tokens, diagnostics, e, o, shape, register, true)
         }

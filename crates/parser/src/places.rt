@@ -16,6 +16,7 @@ ghost use lib.Dec.{eqb};
 ghost use Rattle.names.specs.Choice.{pick, both, either};
 ghost use Rattle.names.specs.Kinds;
 ghost use Rattle.names.specs.Places.{textOf, place};
+ghost use Rattle.records.specs.Spans.{spanOf};
 ghost use Rattle.names.specs.declared.registers.Suppressed.{Suppressed};
 ghost use Rattle.expressions.specs.Laws.{holds};
 ghost use Rattle.expressions.specs.Reader.{any};
@@ -30,6 +31,16 @@ pub(crate) fn register_at(line: &[u8], token: Token) -> Reg
         return Reg::Not;
     }
     Reg::parse(names::text_of(line, token))
+}
+
+// A register with the span of its token.
+pub(crate) fn register_of(index: u8, token: Token) -> Register
+    ensures { λ r. ⌜ r ≡ record { index = index; span = spanOf token } ⌝ }
+{
+    Register {
+        index: index,
+        span: span_of(token),
+    }
 }
 
 pub(crate) fn address_register_at(line: &[u8], token: Token) -> Reg

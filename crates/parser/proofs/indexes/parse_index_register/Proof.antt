@@ -42,14 +42,14 @@ returns c =
     let c-no-index = c .no-index in
     hereby (done (sym (c-token-at .ensures) ∙ c-enum-told .given .1) (done (sym (c-token-at .ensures) ∙ c-enum-told .given .1) (failed-over _ _ 6 (c-stepped-over .ensures) (c-no-index .ensures .0) (c-no-index .ensures .1) (over-same (c-stepped-over .ensures)))))
 
-span-of-requires : tie.Need-span-of-requires
-span-of-requires c κs = search needs
-
 register-at-requires : tie.Need-register-at-requires
 register-at-requires c κs = search needs
 
 enum-known-r : tie.Need-enum-known-r
 enum-known-r c = search needs
+
+register-of-requires : tie.Need-register-of-requires
+register-of-requires c κs = search needs
 
 step-over-requires : tie.Need-step-over-requires
 step-over-requires c κs =
@@ -74,13 +74,13 @@ unfolding parseIndexRegister indexRead isSuppressedRegister
 returns-2 c =
     let c-token-at = c .before .before .before .before .before .before .before .before .before .before .before .before .before .token-at in
     let c-p = c .before .before .before .before .before .before .before .before .before .before .before .p in
-    let c-register-at = c .before .before .before .before .before .before .before .before .register-at in
-    let c-r = c .before .before .before .before .before .before .r in
+    let c-register-at = c .before .before .before .before .before .before .before .before .before .register-at in
+    let c-r = c .before .before .before .before .before .before .before .r in
     let c-step-over = c .before .before .before .before .step-over in
     let c-args = c .before .before .before .before .before .before .before .before .before .before .before .before .before .before .before .before .before .args in
-    let c-span-of = c .before .before .before .before .before .before .before .before .before .span-of in
+    let c-register-of = c .before .before .before .before .before .register-of in
     let c-index-register = c .before .before .index-register in
-    hereby (hit-same (sym (c-token-at .ensures) ∙ c-p .given .1) (reg-is _ _ _ (sym (c-register-at .ensures) ∙ c-r .given .1)) (c-step-over .ensures) (renamed (ap (λ z. indexRegister (c-args .o) (c-args .shape) z false) (register-as _ _ (sym (c-register-at .ensures) ∙ c-r .given .1) (c-span-of .ensures))) (c-index-register .ensures)))
+    hereby (hit-same (sym (c-token-at .ensures) ∙ c-p .given .1) (reg-is _ _ _ (sym (c-register-at .ensures) ∙ c-r .given .1)) (c-step-over .ensures) (renamed (ap (λ z. indexRegister (c-args .o) (c-args .shape) z false) (c-register-of .ensures ∙ register-as _ _ (sym (c-register-at .ensures) ∙ c-r .given .1) refl)) (c-index-register .ensures)))
 
 enum-told-2 : tie.Need-enum-told-2
 enum-told-2 c = search needs
@@ -90,6 +90,9 @@ suppressed-register-at-requires c κs = search needs
 
 enum-known-z : tie.Need-enum-known-z
 enum-known-z c = search needs
+
+register-of-requires-2 : tie.Need-register-of-requires-2
+register-of-requires-2 c κs = search needs
 
 step-over-requires-2 : tie.Need-step-over-requires-2
 step-over-requires-2 c κs =
@@ -111,7 +114,7 @@ enum-told-3 c = search needs
 
 stepped-over-requires-2 : tie.Need-stepped-over-requires-2
 stepped-over-requires-2 c κs =
-    let c-pre = c .before .before .before .before .before .before .before .before .before .before .before .before .before .before .before .pre in
+    let c-pre = c .before .before .before .before .before .before .before .before .before .before .before .before .before .before .pre in
     c-pre
 
 no-index-requires-2 : tie.Need-no-index-requires-2
@@ -122,7 +125,7 @@ enum-told-4 c = search needs
 
 stepped-over-requires-3 : tie.Need-stepped-over-requires-3
 stepped-over-requires-3 c κs =
-    let c-pre = c .before .before .before .before .before .before .before .before .before .before .before .before .before .before .before .pre in
+    let c-pre = c .before .before .before .before .before .before .before .before .before .before .before .before .before .before .pre in
     c-pre
 
 no-index-requires-3 : tie.Need-no-index-requires-3
@@ -136,15 +139,15 @@ unfolding parseIndexRegister indexRead isSuppressedRegister
 returns-3 c =
     let c-token-at = c .before .before .before .before .before .before .before .before .before .before .before .before .before .before .before .before .token-at in
     let c-p = c .before .before .before .before .before .before .before .before .before .before .before .before .before .before .p in
-    let c-register-at = c .before .before .before .before .before .before .before .before .before .before .before .register-at in
-    let c-enum-told2 = c .before .before .before .before .before .before .before .before .before .enum-told2 in
-    let c-suppressed-register-at = c .before .before .before .before .before .before .before .before .suppressed-register-at in
-    let c-z = c .before .before .before .before .before .before .z in
+    let c-register-at = c .before .before .before .before .before .before .before .before .before .before .before .before .register-at in
+    let c-enum-told2 = c .before .before .before .before .before .before .before .before .before .before .enum-told2 in
+    let c-suppressed-register-at = c .before .before .before .before .before .before .before .before .before .suppressed-register-at in
+    let c-z = c .before .before .before .before .before .before .before .z in
     let c-step-over2 = c .before .before .before .before .step-over2 in
     let c-args = c .before .before .before .before .before .before .before .before .before .before .before .before .before .before .before .before .before .before .before .before .args in
-    let c-span-of = c .before .before .before .before .before .before .before .before .before .before .before .before .span-of in
+    let c-register-of2 = c .before .before .before .before .before .register-of2 in
     let c-index-register2 = c .before .before .index-register2 in
-    hereby (miss (sym (c-token-at .ensures) ∙ c-p .given .1) (reg-not _ _ (sym (c-register-at .ensures) ∙ c-enum-told2 .given .1)) (hit-same (sym (c-token-at .ensures) ∙ c-p .given .1) (unmarked-is _ _ isSuppressedRegister _ _ refl ∙ ap isSuppressedRegister (sym (c-suppressed-register-at .ensures) ∙ c-z .given .1)) (c-step-over2 .ensures) (renamed (ap (λ z. indexRegister (c-args .o) (c-args .shape) z true) (suppressed-as _ _ _ _ (sym (c-suppressed-register-at .ensures) ∙ c-z .given .1) (c-span-of .ensures))) (c-index-register2 .ensures))))
+    hereby (miss (sym (c-token-at .ensures) ∙ c-p .given .1) (reg-not _ _ (sym (c-register-at .ensures) ∙ c-enum-told2 .given .1)) (hit-same (sym (c-token-at .ensures) ∙ c-p .given .1) (unmarked-is _ _ isSuppressedRegister _ _ refl ∙ ap isSuppressedRegister (sym (c-suppressed-register-at .ensures) ∙ c-z .given .1)) (c-step-over2 .ensures) (renamed (ap (λ z. indexRegister (c-args .o) (c-args .shape) z true) (c-register-of2 .ensures ∙ suppressed-as _ _ _ _ (sym (c-suppressed-register-at .ensures) ∙ c-z .given .1) refl)) (c-index-register2 .ensures))))
 
 same-length-4 : tie.Need-same-length-4
 same-length-4 c = search needs
@@ -152,8 +155,8 @@ same-length-4 c = search needs
 returns-4 : tie.Need-returns-4
 unfolding parseIndexRegister indexRead isSuppressedRegister
 returns-4 c =
-    let c-token-at = c .before .before .before .before .before .before .before .before .before .before .before .before .before .before .before .token-at in
-    let c-p = c .before .before .before .before .before .before .before .before .before .before .before .before .before .p in
+    let c-token-at = c .before .before .before .before .before .before .before .before .before .before .before .before .before .before .token-at in
+    let c-p = c .before .before .before .before .before .before .before .before .before .before .before .before .p in
     let c-register-at = c .before .before .before .before .before .before .before .before .before .before .register-at in
     let c-enum-told2 = c .before .before .before .before .before .before .before .before .enum-told2 in
     let c-suppressed-register-at = c .before .before .before .before .before .before .before .suppressed-register-at in
@@ -168,8 +171,8 @@ same-length-5 c = search needs
 returns-5 : tie.Need-returns-5
 unfolding parseIndexRegister indexRead isSuppressedRegister
 returns-5 c =
-    let c-token-at = c .before .before .before .before .before .before .before .before .before .before .before .before .before .before .before .token-at in
-    let c-p = c .before .before .before .before .before .before .before .before .before .before .before .before .before .p in
+    let c-token-at = c .before .before .before .before .before .before .before .before .before .before .before .before .before .before .token-at in
+    let c-p = c .before .before .before .before .before .before .before .before .before .before .before .before .p in
     let c-register-at = c .before .before .before .before .before .before .before .before .before .before .register-at in
     let c-enum-told2 = c .before .before .before .before .before .before .before .before .enum-told2 in
     let c-suppressed-register-at = c .before .before .before .before .before .before .before .suppressed-register-at in
@@ -189,9 +192,9 @@ parse-index-register-spec =
     no-index-requires
     same-length
     returns
-    span-of-requires
     register-at-requires
     enum-known-r
+    register-of-requires
     step-over-requires
     index-register-requires
     same-length-2
@@ -199,6 +202,7 @@ parse-index-register-spec =
     enum-told-2
     suppressed-register-at-requires
     enum-known-z
+    register-of-requires-2
     step-over-requires-2
     index-register-requires-2
     enum-told-3

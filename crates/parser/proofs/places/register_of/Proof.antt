@@ -1,0 +1,18 @@
+-- `parser::places::register_of` meets its contract.
+-- Assumes nothing.
+use mathlib.Core.Path.{ap}
+use borrow.Author.Needs.{needs}
+use Rattle.parser.proofs.places.register_of.Statement.{statement}
+use Rattle.parser.proofs.places.register_of.Tie as tie
+
+span-of-requires : tie.Need-span-of-requires
+span-of-requires c κs = search needs
+
+returns : tie.Need-returns
+returns c =
+    let c-args = c .before .args in
+    let c-span-of = c .span-of in
+    ap (λ z. record { index = c-args .index; span = z }) (c-span-of .ensures)
+
+pub register-of-spec : {M : Type 1} → statement M
+register-of-spec = tie.close (tie.spec span-of-requires returns)
