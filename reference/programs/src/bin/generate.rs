@@ -4,11 +4,13 @@ use frames::command_line::{self, complain, number, usage, Stop, FAULT};
 use frames::coverage::Coverage;
 use frames::generate::input_line;
 use frames::reference::Reference;
+use std::fs;
 use std::io::{self, BufWriter, Write};
 use std::process::ExitCode;
 
 const HELP: &str = "usage: generate SEED COUNT > frames
        generate --coverage SEED COUNT
+       generate --coverage --file FILE
 
 Writes COUNT lines: frames, and now and then a line that is none. The same seed
 gives the same lines everywhere.
@@ -16,6 +18,7 @@ gives the same lines everywhere.
                form, kind, shape and problem, refusal and extreme occurs; the
                exit status is 1 if one that can occur does not, or one that
                cannot does
+  --file       count the lines of FILE instead of generated ones
 ";
 
 fn main() -> ExitCode {
@@ -30,9 +33,14 @@ fn program(arguments: &[String]) -> Result<ExitCode, Stop> {
     let [seed, count] = rest else {
         return usage("SEED and COUNT are wanted");
     };
+    if coverage && seed == "--file" {
+        let input = fs::read(count)?;
+        let text = input.strip_suffix(b"\n").unwrap_or(&input);
+        return print_coverage(text.split(|byte| *byte == b'\n').map(<[u8]>::to_vec));
+    }
     let (seed, count) = (number("SEED", seed)?, number("COUNT", count)?);
     if coverage {
-        return print_coverage(seed, count);
+        return print_coverage((0..count).map(|number| input_line(seed, number)));
     }
     let mut output = BufWriter::with_capacity(1 << 16, io::stdout().lock());
     for number in 0..count {
@@ -43,12 +51,11 @@ fn program(arguments: &[String]) -> Result<ExitCode, Stop> {
     Ok(ExitCode::SUCCESS)
 }
 
-fn print_coverage(seed: u64, count: u64) -> Result<ExitCode, Stop> {
+fn print_coverage(lines: impl Iterator<Item = Vec<u8>>) -> Result<ExitCode, Stop> {
     let mut coverage = Coverage::new();
     let mut reference = Reference::default();
     let mut answer = Vec::new();
-    for number in 0..count {
-        let line = input_line(seed, number);
+    for line in lines {
         answer.clear();
         reference.answer(&line, &mut answer);
         coverage.count(&line, &answer);
