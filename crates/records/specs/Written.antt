@@ -42,6 +42,14 @@ written-past N at b m h g =
     let g₂ : at + length b + j ≡ m = omega arith in
     ap (λ k. drop k (p ++ drop (at + length b) N)) f ∙ drop-append-add p (drop (at + length b) N) j ∙ drop-drop j (at + length b) N ∙ ap (λ k. drop k N) g₂
 
+-- more bytes behind them
+pub written-more : (N : List ℕ) (at : ℕ) (b c : List ℕ) → at + length b + length c ≤ length N → written (written N at b) (at + length b) c ≡ written N at (b ++ c)
+unfolding written
+written-more N at b c h =
+    let e : at + length b + length c ≡ at + length (b ++ c) = simp length-append (omega arith) in
+    ap₂ (λ l r. (l ++ c) ++ r) (written-take N at b (omega arith)) (written-past N at b (at + length b + length c) (omega arith) (omega arith))
+    ∙ ap₂ (λ l k. l ++ drop k N) (append-assoc (take at N) b c) e
+
 -- ---- a record
 
 pub put-told : (N N′ : List ℕ) (n left right : ℕ) (b : List ℕ) → PutAsks N n left right → length b ≡ 14 → N′ ≡ written N (14 * n) b → PutTold N N′ n b (n + 1)
