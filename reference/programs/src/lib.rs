@@ -9,6 +9,7 @@
 //! | `names`, `words` | the records in words |
 //! | `lexer` | a text's tokens, for people |
 //! | `random`, `generate`, `coverage` | frames by seed, and what they reach |
+//! | `grammar` | document 01's table of spellings as a recogniser |
 //! | `compare` | two programs on the same frames |
 
 pub mod answer;
@@ -17,6 +18,7 @@ pub mod compare;
 pub mod coverage;
 pub mod frame;
 pub mod generate;
+pub mod grammar;
 pub mod hex;
 pub mod lexer;
 pub mod lines;

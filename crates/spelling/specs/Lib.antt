@@ -1,0 +1,25 @@
+-- How operands are spelled, in reading order.
+-- the grammar
+pub mod Signs
+pub mod Expressions
+pub mod Spelling
+-- what is shown of it
+pub mod Conditions
+pub mod Answers
+pub mod Manual
+-- from a spelling to its reading
+pub mod Reads
+pub mod Climbs
+pub mod Names
+pub mod Looks
+pub mod Parts
+pub mod Inner
+pub mod Openings
+pub mod Spelled
+-- from a reading to its spelling
+pub mod Silence
+pub mod Sound
+pub mod Found
+pub mod Enclosed
+pub mod Answered
+pub mod Wider
