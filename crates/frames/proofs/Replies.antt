@@ -1,0 +1,190 @@
+-- What the entry answers, as bytes.
+-- Assumes nothing.
+use mathlib.Core.Path.{_≡_, refl, sym, _∙_, ap}
+use mathlib.Core.List.{List, [], _∷_, _++_}
+use Prim.Native.Nat.{ℕ, zero, suc, _+_, _-_, _*_, _/_, _%_, _≤_}
+use native.Mathlib.Omega.{arith}
+use borrow.Author.Tests.{eq-eqb, ne-eqb}
+use lib.ListN.{length, take, drop, getD}
+use Rattle.expressions.specs.Reader.{Reading}
+use Rattle.records.specs.Nodes.{lowFirst}
+use Rattle.operand.specs.Operands.{Operand, Maybe, some, none}
+use Rattle.operand.specs.Records.{sizeM, nodesM, diagnosticRecords}
+use Rattle.operand.specs.Records as Records
+use Rattle.operand.specs.Forms.{recordOf, bytesOf, bytes-record}
+use Rattle.operand.specs.Entry.{Input, refusal, readingAt}
+use Rattle.operand.specs.Promise.{nesting, resultOf, resultAt, EntryPromise}
+use Rattle.operand.specs.Conditions.{Valid, valid-bounds}
+use Rattle.operand.specs.Answers as Answers
+use Rattle.operand.specs.Answers.{Total}
+use Rattle.operand.specs.declared.entry.Answer.{Answer}
+use Rattle.operand.specs.declared.entry.Found.{Found}
+use Rattle.operand.specs.declared.entry.Missed.{Missed}
+use Rattle.frames.specs.Frame.{isFrame, lineLength, tokenCount, inputOf}
+use Rattle.frames.specs.Reply.{refused, bytesAt, inputBytes, frameBytes, ended}
+use Rattle.frames.specs.Lent.{lent, lent-same}
+use Rattle.frames.specs.Bases.{BaseFits, base-fits}
+use Rattle.frames.specs.Inner.{Put, foundBytes, FoundAsks, missedBytes, MissedAsks}
+
+-- ---- of a call that keeps the entry's promise
+
+operand-valid : {a : Input} {N D : List ℕ} {x : Found} → Total a N D (Answer.Operand x) → Valid a
+operand-valid (Answers.Total.operand x v) = v
+
+missed-valid : {a : Input} {N D : List ℕ} {x : Missed} → Total a N D (Answer.NoOperand x) → Valid a
+missed-valid (Answers.Total.noOperand x v) = v
+
+refused-by : {a : Input} {N D : List ℕ} {k : ℕ} → Total a N D (Answer.Refused k) → (k ≡ refusal a) × (1 ≤ k)
+refused-by (Answers.Total.refused n e low high f g) = (e, low)
+
+-- the two bytes of a count
+low-first : (n : ℕ) → n ≤ 511 → n % 256 ∷ n / 256 ∷ [] ≡ lowFirst 2 n
+unfolding lowFirst
+low-first n h = let e : n / 256 ≡ n / 256 % 256 = omega arith in ap (λ k. n % 256 ∷ k ∷ []) e
+
+joined : (b : ℕ) {c c′ n n′ : ℕ} {l l′ o o′ u u′ d d′ : List ℕ} → c ≡ c′ → n ≡ n′ → l ≡ l′ → o ≡ o′ → u ≡ u′ → d ≡ d′
+    → b ∷ c ∷ n ∷ (l ++ (o ++ (u ++ d))) ≡ b ∷ c′ ∷ n′ ∷ (l′ ++ (o′ ++ (u′ ++ d′)))
+joined b e₁ e₂ e₃ e₄ e₅ e₆ = cc
+
+-- the code's answer for a reading
+abbrev foundOf : Reading (Maybe Operand) → Operand → Found
+foundOf r y = record { operand = recordOf y; cursor = r .cursor; nodes = sizeM (some y); diagnostics = length (r .raised) }
+
+abbrev missedOf : Reading (Maybe Operand) → Missed
+missedOf r = record { cursor = r .cursor; diagnostics = length (r .raised) }
+
+module _ (a : Input) (none-used : a .used ≡ 0) (N D : List ℕ) where
+  abbrev s : Reading (Maybe Operand)
+  s = readingAt nesting a
+
+  -- the added diagnostics are the first ones
+  first-added : (r : Answer) → EntryPromise a N D r → Valid a → take (10 * Answers.diagnosticsAdded r) D ≡ diagnosticRecords (s .raised)
+  first-added r p v = ap (λ k. take (10 * Answers.diagnosticsAdded r) (drop (10 * k) D)) (sym none-used) ∙ Answers.added-records a N D r p v
+
+  module _ (x : Found) (p : EntryPromise a N D (Answer.Operand x)) where
+    v : Valid a
+    v = operand-valid (Answers.total a N D (Answer.Operand x) p)
+
+    found-is : Answer.Operand x ≡ resultOf s (s .value)
+    unfolding resultAt
+    found-is = p .value ∙ ap (resultAt nesting a) v
+
+    pub found-bytes : foundBytes x N D ≡ inputBytes a
+    unfolding foundBytes inputBytes bytesAt resultOf Records.answerLine sizeM nodesM
+    found-bytes = go (s .value) refl found-is ∙ ap (bytesAt a) (sym v)
+      where
+        go : (w : Maybe Operand) → s .value ≡ w → Answer.Operand x ≡ resultOf s w → foundBytes x N D ≡ Records.answerLine s w
+        go (some y) e h =
+            let q : x ≡ foundOf s y = cc in
+            let len : x .diagnostics ≡ length (s .raised) = ap (λ (z : Found). z .diagnostics) q in
+            joined 0 (ap (λ (z : Found). z .cursor) q) (ap (λ (z : Found). z .nodes) q)
+            (low-first (x .diagnostics) (Answers.records-enough a N D (Answer.Operand x) p v) ∙ ap (lowFirst 2) len)
+            (ap (λ (z : Found). bytesOf (z .operand)) q ∙ bytes-record y)
+            (Answers.used-records a N D (Answer.Operand x) p v ∙ ap nodesM e)
+            (first-added (Answer.Operand x) p v)
+        go none e h = let z : _≡_ {A = ℕ} 0 1 = cc in absurd (omega arith)
+
+    found-fits : (w : Maybe Operand) → s .value ≡ w → Answer.Operand x ≡ resultOf s w → BaseFits (x .operand .base)
+    unfolding resultOf
+    found-fits (some y) e h = let q : x ≡ foundOf s y = cc in rw q (base-fits nesting a y e)
+    found-fits none e h = let z : _≡_ {A = ℕ} 0 1 = cc in absurd (omega arith)
+
+    pub found-asks : (O : List ℕ) (at : ℕ) → at + 17411 ≤ length O → length N ≡ 3570 → length D ≡ 5110 → FoundAsks O at x N D
+    found-asks O at room n d = record {
+      room = room;
+      base = found-fits (s .value) refl found-is;
+      cursor-small = omega (arith, Answers.cursor-bounds a N D (Answer.Operand x) p v .1, valid-bounds a v .0);
+      nodes-few = Answers.nodes-enough a N D (Answer.Operand x) p v;
+      nodes-long = n;
+      diagnostics-few = Answers.records-enough a N D (Answer.Operand x) p v;
+      diagnostics-long = d;
+    }
+
+  module _ (x : Missed) (p : EntryPromise a N D (Answer.NoOperand x)) where
+    w : Valid a
+    w = missed-valid (Answers.total a N D (Answer.NoOperand x) p)
+
+    missed-is : Answer.NoOperand x ≡ resultOf s (s .value)
+    unfolding resultAt
+    missed-is = p .value ∙ ap (resultAt nesting a) w
+
+    pub missed-bytes : missedBytes x D ≡ inputBytes a
+    unfolding missedBytes inputBytes bytesAt resultOf Records.answerLine
+    missed-bytes = go (s .value) refl missed-is ∙ ap (bytesAt a) (sym w)
+      where
+        go : (m : Maybe Operand) → s .value ≡ m → Answer.NoOperand x ≡ resultOf s m → missedBytes x D ≡ Records.answerLine s m
+        go (some y) e h = let z : _≡_ {A = ℕ} 0 1 = cc in absurd (omega arith)
+        go none e h =
+            let q : x ≡ missedOf s = cc in
+            let len : x .diagnostics ≡ length (s .raised) = ap (λ (z : Missed). z .diagnostics) q in
+            joined 1 {o = []} {u = []} (ap (λ (z : Missed). z .cursor) q) refl
+            (low-first (x .diagnostics) (Answers.records-enough a N D (Answer.NoOperand x) p w) ∙ ap (lowFirst 2) len) refl refl
+            (first-added (Answer.NoOperand x) p w)
+
+    pub missed-asks : (O : List ℕ) (at : ℕ) → at + 17411 ≤ length O → length D ≡ 5110 → MissedAsks O at x D
+    missed-asks O at room d = record {
+      room = room;
+      cursor-small = omega (arith, Answers.cursor-bounds a N D (Answer.NoOperand x) p w .1, valid-bounds a w .0);
+      diagnostics-few = Answers.records-enough a N D (Answer.NoOperand x) p w;
+      diagnostics-long = d;
+    }
+
+  pub refused-bytes : (k : ℕ) → EntryPromise a N D (Answer.Refused k) → refused k ≡ inputBytes a
+  unfolding inputBytes bytesAt
+  refused-bytes k p = go k (refused-by (Answers.total a N D (Answer.Refused k) p))
+    where
+      go : (k : ℕ) → (k ≡ refusal a) × (1 ≤ k) → refused k ≡ bytesAt a (refusal a)
+      go zero h = absurd (omega arith)
+      go (suc k) h = ap (bytesAt a) (h .0)
+
+-- ---- a frame
+
+pub is-frame : (B : List ℕ) → length B ≡ lineLength B + 4 * tokenCount B + 4 → frameBytes B ≡ inputBytes (inputOf B)
+unfolding frameBytes isFrame
+is-frame B h = rw (eq-eqb (length B) (lineLength B + 4 * tokenCount B + 4) h)
+
+pub not-frame : (B : List ℕ) → (length B ≡ lineLength B + 4 * tokenCount B + 4 → ⊥) → frameBytes B ≡ refused 8
+unfolding frameBytes isFrame
+not-frame B h = rw (ne-eqb (length B) (lineLength B + 4 * tokenCount B + 4) h)
+
+-- the parts as the code takes them
+abbrev pub parts : List ℕ → ℕ → List ℕ → List ℕ → Input
+parts B line N D = record {
+  line = take (line + 1 - 1) (drop 1 B);
+  tokens = take (length B - 2 - (line + 2)) (drop (line + 2) B);
+  start = getD B (length B - 2) 0;
+  mark = getD B (length B - 1) 0;
+  nodes = N;
+  diagnostics = D;
+  used = 0;
+}
+
+module _ (B : List ℕ) (line : ℕ) (N D N′ D′ : List ℕ) (first : line ≡ lineLength B) (h : length B ≡ lineLength B + 4 * tokenCount B + 4) (n : length N ≡ 3570) (d : length D ≡ 5110) where
+  parts-lent : parts B line N D ≡ lent B N D
+  parts-lent =
+      let e₁ : line + 1 - 1 ≡ lineLength B = omega arith in
+      let e₂ : length B - 2 - (line + 2) ≡ 4 * tokenCount B = omega arith in
+      let e₃ : line + 2 ≡ lineLength B + 2 = omega arith in
+      let e₄ : length B - 2 ≡ lineLength B + 4 * tokenCount B + 2 = omega arith in
+      let e₅ : length B - 1 ≡ lineLength B + 4 * tokenCount B + 3 = omega arith in
+      part e₁ e₂ e₃ e₄ e₅
+    where
+      part : {i j m k l : ℕ} → i ≡ lineLength B → j ≡ 4 * tokenCount B → m ≡ lineLength B + 2 → k ≡ lineLength B + 4 * tokenCount B + 2 → l ≡ lineLength B + 4 * tokenCount B + 3
+          → _≡_ {A = Input} (record { line = take i (drop 1 B); tokens = take j (drop m B); start = getD B k 0; mark = getD B l 0; nodes = N; diagnostics = D; used = 0 }) (lent B N D)
+      part f₁ f₂ f₃ f₄ f₅ = rw (f₁, f₂, f₃, f₄, f₅)
+
+  same-bytes : inputBytes (parts B line N D) ≡ frameBytes B
+  same-bytes = ap inputBytes parts-lent ∙ lent-same B N D n d ∙ sym (is-frame B h)
+
+  pub frame-found : (x : Found) → EntryPromise (parts B line N D) N′ D′ (Answer.Operand x) → foundBytes x N′ D′ ≡ frameBytes B
+  frame-found x p = found-bytes (parts B line N D) refl N′ D′ x p ∙ same-bytes
+
+  pub frame-missed : (x : Missed) → EntryPromise (parts B line N D) N′ D′ (Answer.NoOperand x) → missedBytes x D′ ≡ frameBytes B
+  frame-missed x p = missed-bytes (parts B line N D) refl N′ D′ x p ∙ same-bytes
+
+  pub frame-refused : (k : ℕ) → EntryPromise (parts B line N D) N′ D′ (Answer.Refused k) → refused k ≡ frameBytes B
+  frame-refused k p = refused-bytes (parts B line N D) refl N′ D′ k p ∙ same-bytes
+
+-- an answer's line, under its other name
+pub line-of : {O P : List ℕ} {at r : ℕ} (b c : List ℕ) → b ≡ c → Put O P at (ended b) r → Put O P at (ended c) r
+line-of b c e p = rw (sym e) p

@@ -1,0 +1,23 @@
+-- `frames::answer::end_line` meets its contract.
+-- Assumes nothing.
+use Rattle.frames.proofs.Putting.{put-one}
+use borrow.Author.Needs.{needs}
+use Rattle.frames.proofs.answer.end_line.Statement.{statement}
+use Rattle.frames.proofs.answer.end_line.Tie as tie
+
+slice-write-out : tie.Need-slice-write-out
+slice-write-out c = search needs
+
+add-result : tie.Need-add-result
+add-result c = search needs
+
+same-length : tie.Need-same-length
+same-length c = search needs
+
+returns : tie.Need-returns
+returns c =
+    let c-pre = c .pre in
+    put-one _ _ 10 (c-pre)
+
+pub end-line-spec : {M : Type 1} → statement M
+end-line-spec = tie.close (tie.spec slice-write-out add-result same-length returns)

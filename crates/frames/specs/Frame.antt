@@ -1,0 +1,38 @@
+-- A frame: line length, line, token count, tokens, start, mark.
+-- Assumes nothing.
+use mathlib.Core.Bool.{Bool}
+use mathlib.Core.List.{List}
+use Prim.Native.Nat.{ℕ, _+_, _*_}
+use lib.Dec.{eqb}
+use lib.ListN.{length, take, drop, getD, replicate}
+use Rattle.records.specs.Stores.{nodeBytes}
+use Rattle.operand.specs.Entry.{Input}
+
+-- the bytes of 511 diagnostic records. Shut, as `nodeBytes` is
+unfoldable pub diagnosticBytes : ℕ
+diagnosticBytes = 5110
+
+abbrev pub lineLength : List ℕ → ℕ
+lineLength B = getD B 0 0
+
+abbrev pub tokenCount : List ℕ → ℕ
+tokenCount B = getD B (lineLength B + 1) 0
+
+-- the bytes have the length that their counts give. A count that is not there is 0 here, and gives more bytes than there are
+unfoldable pub isFrame : List ℕ → Bool
+isFrame B = eqb (length B) (lineLength B + 4 * tokenCount B + 4)
+
+-- what the call is lent and given: the parts of the frame, a node store of 255 records, a diagnostic list of 511 with none used
+unfoldable pub inputOf : List ℕ → Input
+inputOf B =
+    let n = lineLength B in
+    let c = tokenCount B in
+    record {
+      line = take n (drop 1 B);
+      tokens = take (4 * c) (drop (n + 2) B);
+      start = getD B (n + 4 * c + 2) 0;
+      mark = getD B (n + 4 * c + 3) 0;
+      nodes = replicate nodeBytes 0;
+      diagnostics = replicate diagnosticBytes 0;
+      used = 0;
+    }

@@ -1,0 +1,137 @@
+-- How long answers are, and that no line longer than the longest frame is one.
+-- Assumes nothing.
+use mathlib.Core.Path.{_≡_, refl, sym}
+use mathlib.Core.Bool.{Bool, true, false}
+use mathlib.Core.List.{List, [], _∷_, _++_}
+use Prim.Native.Nat.{ℕ, zero, suc, _+_, _*_, _≤_, _<_}
+use native.Mathlib.Omega.{arith}
+use borrow.Author.Tests.{ltb-true, eqb-true}
+use lib.ListN.{length, getD, length-append}
+use Rattle.names.specs.Choice.{pick, both}
+use Rattle.expressions.specs.Reader.{Reading}
+use Rattle.records.specs.Nodes.{lowFirst}
+use Rattle.expressions.specs.Costs.{true-false}
+use Rattle.operand.specs.Operands.{Displacement, displaced, undisplaced, Operand, Maybe, some, none}
+use Rattle.operand.specs.Operands as O
+use Rattle.operand.specs.declared.forms.BaseRegister.{BaseRegister}
+use Rattle.operand.specs.declared.forms.Index.{Index}
+use Rattle.operand.specs.Records.{displacementPart, basePart, indexPart, operandRecord, sizeM, nodesM}
+use Rattle.operand.specs.Records as Records
+use Rattle.operand.specs.Entry.{Input, refusal}
+use Rattle.operand.specs.Promise.{nesting, nesting-some}
+use Rattle.operand.specs.Conditions as Conditions
+use Rattle.operand.specs.Lengths.{length-nodes, length-diagnostics}
+use Rattle.frames.specs.Hex.{digits, value, isDigit, spells, spelled}
+use Rattle.frames.specs.Frame.{isFrame, inputOf, lineLength}
+use Rattle.frames.specs.Reply.{refused, bytesAt, inputBytes, frameBytes, lineBytes, ended, answerLine}
+use Rattle.frames.specs.Machine.{longest}
+
+-- ---- digits
+
+pub length-digits : (bs : List ℕ) → length (digits bs) ≡ 2 * length bs
+unfolding digits
+length-digits [] = refl
+length-digits (b ∷ bs) = omega (arith, length-digits bs)
+
+pub digits-append : (a b : List ℕ) → digits (a ++ b) ≡ digits a ++ digits b
+unfolding digits
+digits-append [] b = refl
+digits-append (x ∷ a) b = rw (digits-append a b)
+
+-- ---- an operand's record
+
+length-displacement : (b : ℕ) (d : Displacement) → length (displacementPart b d) ≡ 2
+unfolding displacementPart
+length-displacement b (displaced e n) = refl
+length-displacement b undisplaced = refl
+
+pub length-base : (b : BaseRegister) → length (basePart b) ≡ 3
+unfolding basePart
+length-base (BaseRegister.Address r) = refl
+length-base BaseRegister.ProgramCounter = refl
+length-base (BaseRegister.SuppressedAddress n) = refl
+length-base BaseRegister.SuppressedProgramCounter = refl
+length-base BaseRegister.Omitted = refl
+
+pub length-index : (x : Index) → length (indexPart x) ≡ 8
+unfolding indexPart
+length-index (Index.Indexed x) = refl
+length-index Index.Unindexed = refl
+
+pub length-record : (x : Operand) → length (operandRecord x) ≡ 20
+unfolding operandRecord displacementPart basePart indexPart
+length-record (O.immediate e l s) = refl
+length-record (O.dataRegisterDirect r s) = refl
+length-record (O.addressRegisterDirect r s) = refl
+length-record (O.specialRegister n s) = refl
+length-record (O.indirect r s) = refl
+length-record (O.postincrement r s) = refl
+length-record (O.predecrement r s) = refl
+length-record (O.displacement e r s) = refl
+length-record (O.index d r x s) = simp length-append (omega (arith, length-displacement 0 d))
+length-record (O.pcDisplacement e s) = refl
+length-record (O.pcIndex d x s) = simp length-append (omega (arith, length-displacement 0 d))
+length-record (O.fullIndex d b x n e s) = simp length-append (omega (arith, length-displacement 0 d, length-base b, length-index x, length-displacement (Records.sizeD d) e))
+length-record (O.absolute e n s) = refl
+length-record (O.registerList items s) = refl
+
+-- ---- an answer
+
+answer-short : (r : Reading (Maybe Operand)) (v : Maybe Operand) → 14 * sizeM v ≤ 3570 → length (r .raised) ≤ 511 → length (Records.answerLine r v) ≤ 8705
+unfolding Records.answerLine sizeM nodesM lowFirst
+answer-short r (some x) n d = simp length-append (omega (arith, length-record x, length-nodes (some x), length-diagnostics (r .raised)))
+answer-short r none n d = omega (arith, length-diagnostics (r .raised))
+
+input-short : (a : Input) → length (inputBytes a) ≤ 8705
+unfolding inputBytes bytesAt
+input-short a = go (refusal a) refl
+  where
+    go : (k : ℕ) → refusal a ≡ k → length (bytesAt a k) ≤ 8705
+    go zero v = answer-short _ _ (Conditions.nodes-enough nesting nesting-some a v) (Conditions.records-enough nesting nesting-some a v)
+    go (suc k) v = omega arith
+
+-- 2 * (5 + 20 + 3570 + 5110), and the line feed
+pub answer-bound : (x : List ℕ) → length (answerLine x) ≤ 17411
+unfolding answerLine ended lineBytes frameBytes
+answer-bound x = go (spells x) (isFrame (spelled x))
+  where
+    line : (b : List ℕ) → length b ≤ 8705 → length (digits b ++ (10 ∷ [])) ≤ 17411
+    line b h = simp length-append (omega (arith, length-digits b))
+
+    go : (b c : Bool) → length (digits (pick b (pick c (inputBytes (inputOf (spelled x))) (refused 8)) (refused 8)) ++ (10 ∷ [])) ≤ 17411
+    go true true = line _ (input-short (inputOf (spelled x)))
+    go true false = line (refused 8) (omega arith)
+    go false c = line (refused 8) (omega arith)
+
+-- ---- a line longer than the longest frame
+
+both-true : (b c : Bool) → both b c ≡ true → (b ≡ true) × (c ≡ true)
+both-true true c h = (refl, h)
+both-true false c h = absurd (true-false (sym h))
+
+-- two digits a byte
+pub length-spelled : (x : List ℕ) → spells x ≡ true → length x ≡ 2 * length (spelled x)
+unfolding spells spelled
+length-spelled [] h = refl
+length-spelled (c ∷ []) h = absurd (true-false (sym h))
+length-spelled (c ∷ d ∷ cs) h = omega (arith, length-spelled cs (both-true (both (isDigit c) (isDigit d)) _ h .1))
+
+spelled-small : (x : List ℕ) (i : ℕ) → spells x ≡ true → getD (spelled x) i 0 < 256
+unfolding spells spelled
+spelled-small [] i h = omega arith
+spelled-small (c ∷ []) i h = omega arith
+spelled-small (c ∷ d ∷ cs) zero h =
+    let p = both-true (both (isDigit c) (isDigit d)) _ h .0 in
+    omega (arith, ltb-true (value c) 16 (both-true (isDigit c) (isDigit d) p .0), ltb-true (value d) 16 (both-true (isDigit c) (isDigit d) p .1))
+spelled-small (c ∷ d ∷ cs) (suc i) h = spelled-small cs i (both-true (both (isDigit c) (isDigit d)) _ h .1)
+
+-- it is refused whatever it holds
+pub long-refused : (x : List ℕ) → longest < length x → answerLine x ≡ ended (refused 8)
+unfolding answerLine lineBytes frameBytes longest isFrame
+long-refused x h = go (spells x) refl (isFrame (spelled x)) refl
+  where
+    go : (b : Bool) → spells x ≡ b → (c : Bool) → isFrame (spelled x) ≡ c → ended (pick b (pick c (inputBytes (inputOf (spelled x))) (refused 8)) (refused 8)) ≡ ended (refused 8)
+    go true e true f =
+        absurd (omega (arith, eqb-true (length (spelled x)) _ f, length-spelled x e, spelled-small x 0 e, spelled-small x (lineLength (spelled x) + 1) e))
+    go true e false f = refl
+    go false e c f = refl

@@ -1,0 +1,45 @@
+-- What stands in the stores before a call does not matter to the answer.
+-- Assumes nothing.
+use mathlib.Core.Path.{_≡_, refl, sym, _∙_, ap}
+use mathlib.Core.List.{List}
+use Prim.Native.Nat.{ℕ, zero, suc, _+_, _*_}
+use lib.ListN.{length, take, drop, getD, replicate, length-replicate}
+use Rattle.records.specs.Stores.{nodeBytes}
+use Rattle.operand.specs.Entry.{Input, conditions, refusal}
+use Rattle.frames.specs.Frame.{diagnosticBytes, lineLength, tokenCount, inputOf}
+use Rattle.frames.specs.Reply.{bytesAt, inputBytes}
+
+-- a frame's input, with these stores
+abbrev pub lent : List ℕ → List ℕ → List ℕ → Input
+lent B N D =
+    let n = lineLength B in
+    let c = tokenCount B in
+    record {
+      line = take n (drop 1 B);
+      tokens = take (4 * c) (drop (n + 2) B);
+      start = getD B (n + 4 * c + 2) 0;
+      mark = getD B (n + 4 * c + 3) 0;
+      nodes = N;
+      diagnostics = D;
+      used = 0;
+    }
+
+node-zeros : length {A = ℕ} (replicate nodeBytes 0) ≡ 3570
+unfolding nodeBytes
+node-zeros = length-replicate {A = ℕ} 3570 0
+
+diagnostic-zeros : length {A = ℕ} (replicate diagnosticBytes 0) ≡ 5110
+unfolding diagnosticBytes
+diagnostic-zeros = length-replicate {A = ℕ} 5110 0
+
+refusal-lent : (B N D : List ℕ) → length N ≡ 3570 → length D ≡ 5110 → refusal (lent B N D) ≡ refusal (inputOf B)
+unfolding refusal conditions inputOf
+refusal-lent B N D n d = rw (n ∙ sym node-zeros, d ∙ sym diagnostic-zeros)
+
+pub lent-same : (B N D : List ℕ) → length N ≡ 3570 → length D ≡ 5110 → inputBytes (lent B N D) ≡ inputBytes (inputOf B)
+unfolding inputBytes bytesAt inputOf
+lent-same B N D n d = ap (bytesAt (lent B N D)) (refusal-lent B N D n d) ∙ at (refusal (inputOf B))
+  where
+    at : (k : ℕ) → bytesAt (lent B N D) k ≡ bytesAt (inputOf B) k
+    at zero = refl
+    at (suc k) = refl

@@ -1,0 +1,47 @@
+-- The answer's bytes are those that the call's outcome gives: its answer, and the records at the beginning of both stores.
+-- Assumes nothing.
+use mathlib.Core.Path.{_≡_, refl, _∙_, ap, ap₂}
+use mathlib.Core.List.{List, _∷_, _++_}
+use Prim.Native.Nat.{ℕ, zero, suc, _*_}
+use lib.ListN.{length, take}
+use lib.Seq.{take-at}
+use Rattle.expressions.specs.Reader.{Reading}
+use Rattle.records.specs.Nodes.{lowFirst}
+use Rattle.operand.specs.Operands.{Operand, Maybe, some, none}
+use Rattle.operand.specs.Records.{sizeM, nodesM, diagnosticRecords}
+use Rattle.operand.specs.Records as Records
+use Rattle.operand.specs.Entry.{Input, refusal, readingAt, answerOf, nodesAfter, diagnosticsAfter, outcomeOf, outcome}
+use Rattle.operand.specs.Entry as Entry
+use Rattle.operand.specs.Promise.{nesting}
+use Rattle.operand.specs.Lengths.{length-nodes, length-diagnostics}
+use Rattle.frames.specs.Reply.{refused, bytesAt, inputBytes}
+
+unfoldable pub outcomeBytes : Entry.Answer → List ℕ → List ℕ → List ℕ
+outcomeBytes (Entry.operand x cursor n d mask) N D = 0 ∷ cursor ∷ n ∷ (lowFirst 2 d ++ (x ++ (take (14 * n) N ++ take (10 * d) D)))
+outcomeBytes (Entry.noOperand cursor d) N D = 1 ∷ cursor ∷ 0 ∷ (lowFirst 2 d ++ take (10 * d) D)
+outcomeBytes (Entry.refused k) N D = refused k
+
+first-nodes : (v : Maybe Operand) (N : List ℕ) → take (14 * sizeM v) (nodesAfter v N) ≡ nodesM v
+unfolding nodesAfter
+first-nodes v N = take-at (nodesM v) _ (14 * sizeM v) (length-nodes v)
+
+first-diagnostics : (r : Reading (Maybe Operand)) (D : List ℕ) → take (10 * length (r .raised)) (diagnosticsAfter r 0 D) ≡ diagnosticRecords (r .raised)
+unfolding diagnosticsAfter
+first-diagnostics r D = take-at (diagnosticRecords (r .raised)) _ (10 * length (r .raised)) (length-diagnostics (r .raised))
+
+read-bytes : (r : Reading (Maybe Operand)) (v : Maybe Operand) (N D : List ℕ) → outcomeBytes (answerOf r v) (nodesAfter v N) (diagnosticsAfter r 0 D) ≡ Records.answerLine r v
+unfolding outcomeBytes answerOf Records.answerLine sizeM nodesM
+read-bytes r (some x) N D =
+    ap₂ (λ n d. 0 ∷ r .cursor ∷ Records.sizeO x ∷ (lowFirst 2 (length (r .raised)) ++ (Records.operandRecord x ++ (n ++ d)))) (first-nodes (some x) N) (first-diagnostics r D)
+read-bytes r none N D = ap (λ d. 1 ∷ r .cursor ∷ 0 ∷ (lowFirst 2 (length (r .raised)) ++ d)) (first-diagnostics r D)
+
+pub from-outcome : (a : Input) → a .used ≡ 0 → outcomeBytes (outcome nesting a .answer) (outcome nesting a .nodes) (outcome nesting a .diagnostics) ≡ inputBytes a
+unfolding outcome outcomeOf inputBytes bytesAt outcomeBytes
+from-outcome a none-used = go (refusal a)
+  where
+    go : (k : ℕ) → outcomeBytes (outcomeOf nesting a k .answer) (outcomeOf nesting a k .nodes) (outcomeOf nesting a k .diagnostics) ≡ bytesAt a k
+    go zero =
+        let r = readingAt nesting a in
+        ap (λ k. outcomeBytes (answerOf r (r .value)) (nodesAfter (r .value) (a .nodes)) (diagnosticsAfter r k (a .diagnostics))) none-used
+        ∙ read-bytes r (r .value) (a .nodes) (a .diagnostics)
+    go (suc k) = refl

@@ -1,0 +1,2 @@
+-- What the program's functions tell each other.
+pub mod Passing

@@ -1,0 +1,92 @@
+// Frames on standard input, answers on standard output, a line for each line.
+use frames::batch;
+use frames::finish;
+use libc::STDIN_FILENO;
+use libc::STDOUT_FILENO;
+ghost use Prim.Native.Nat.{_≤_};
+ghost use lib.ListN.{length};
+ghost use Rattle.operands.specs.Passing.{PartTold, ReadTold};
+
+// How much of the unfinished line is held, and whether to go on.
+struct Passed {
+    held: usize,
+    more: bool,
+}
+
+// Writes the first n bytes of the output, and answers whether that went well.
+fn write(out: &[u8], n: usize) -> bool
+    requires { ⌜ n ≤ length (now out) ⌝ }
+{
+    io::write_all(STDOUT_FILENO, &out[..n])
+}
+
+// Answers a part of the input, in as many calls as the room for the output asks. A write that fails ends it.
+fn answer_part(input: &[u8], held: usize, carry: &mut [u8; 2558], out: &mut [u8; 65536]) -> Passed
+    ensures { λ r. ⌜ PartTold (now (input .entry)) held (now (carry .entry)) (now (out .entry)) (now (carry .exit)) (now (out .exit)) r ⌝ }
+{
+    let mut at = 0;
+    let mut h = held;
+    while at < input.len() {
+        let r = batch(&input[at..], h, carry, out);
+        let n = r.written;
+        if write(out, n) {
+            at += r.consumed;
+            h = r.held;
+        } else {
+            return Passed {
+                held: 0,
+                more: false,
+            };
+        }
+    }
+    Passed {
+        held: h,
+        more: true,
+    }
+}
+
+// Answers the last line, if it lacks its line feed.
+fn answer_last(held: usize, carry: &[u8; 2558], out: &mut [u8; 65536]) {
+    let n = finish(held, carry, out);
+    write(out, n);
+}
+
+// Reads once, and answers what came. A read that fails ends it.
+fn read_part(held: usize, input: &mut [u8], carry: &mut [u8; 2558], out: &mut [u8; 65536]) -> Passed
+    ensures { λ r. ⌜ ReadTold (now (input .exit)) held (now (carry .entry)) (now (out .entry)) (now (carry .exit)) (now (out .exit)) r ⌝ }
+{
+    let got = libc::read(STDIN_FILENO, input);
+    if got < 0 {
+        return Passed {
+            held: 0,
+            more: false,
+        };
+    }
+    let n = io::count(got, input);
+    if n == 0 {
+        answer_last(held, carry, out);
+        return Passed {
+            held: 0,
+            more: false,
+        };
+    }
+    answer_part(&input[..n], held, carry, out)
+}
+
+// A proved loop has to end, and nothing says that the input does. So it counts its turns down, from a number that no run uses up.
+fn main() {
+    let mut input = io::large_buffer();
+    let mut out = io::large_buffer();
+    let mut carry = [0u8; 2558];
+    let mut held = 0;
+    let mut turns = u64::MAX;
+    while turns > 0 {
+        let p = read_part(held, &mut input, &mut carry, &mut out);
+        if p.more {
+            held = p.held;
+            turns -= 1;
+        } else {
+            return;
+        }
+    }
+}
