@@ -1,5 +1,4 @@
 // The operand's record as its twenty bytes.
-use records::Span;
 use operand::BaseRegister;
 use operand::Index;
 use operand::IndexRegister;
@@ -7,6 +6,7 @@ use operand::OperandRecord;
 use operand::Register;
 use operand::Sized;
 use operand::SizedDisplacement;
+use records::Span;
 ghost use mathlib.Core.Path.{_≡_};
 ghost use mathlib.Core.List.{[], _∷_};
 ghost use Rattle.operand.specs.Forms.{sizedPart, bytesOf};
