@@ -37,8 +37,9 @@ def source_key(crate, module):
     total = hashlib.sha256()
     folder, _, name = module.rpartition("/")
     for fn in name.strip("+").split("+"):
-        file = Path(f"crates/{crate}/src/{folder}.rt")
-        text = file.read_text() if file.exists() else Path(f"crates/{crate}/src/{folder.rpartition('/')[0]}.rt").read_text()
+        above = folder.rpartition("/")[0]
+        files = [Path(f"crates/{crate}/src/{stem}.rt") for stem in (folder, above, "lib", "main")]
+        text = next(file for file in files if file.exists()).read_text()
         total.update(re.search(rf"(?ms)^( *)(?:pub(?:\(crate\))? )?fn {fn}\(.*?^\1\}}$", text).group(0).encode())
     return total.hexdigest()[:16]
 
@@ -142,7 +143,7 @@ def answer_lines(path):
 def answered(crate, module, heads, proof, need, text):
     """The proof with one need's answer put in."""
     if need.startswith(("Inv-", "μ-")):
-        proof, hits = re.subn(rf"(\n{re.escape(need)} [^=\n]*=) \?\n", lambda m: f"{m.group(1)} {text}\n", proof)
+        proof, hits = re.subn(rf"(\n{re.escape(need)} [^=\n]*=)\s+\?\n", lambda m: f"{m.group(1)} {text}\n", proof)
     else:
         used = dict.fromkeys(re.findall(r"\{([a-z0-9-]+)\}", text))
         at = crate.things(module, *heads[need]) if used else {}
