@@ -1,0 +1,55 @@
+-- `reader::text_at` meets its contract: what `token_at` gives says which case of `textAt` holds.
+-- Assumes nothing.
+use mathlib.Core.Path.{sym, _∙_}
+use Rattle.reader.specs.Cursor.{text-there, text-nowhere}
+use borrow.Author.Needs.{needs}
+use Rattle.reader.proofs.text_at.Statement.{statement}
+use Rattle.reader.proofs.text_at.Tie as tie
+
+token-at-requires : tie.Need-token-at-requires
+token-at-requires c κs = search needs
+
+enum-known-token : tie.Need-enum-known-token
+enum-known-token c = search needs
+
+text-of-requires : tie.Need-text-of-requires
+text-of-requires c κs = search needs
+
+enum-told : tie.Need-enum-told
+enum-told c = search needs
+
+sub-result : tie.Need-sub-result
+sub-result c = search needs
+
+part-result-start : tie.Need-part-result-start
+part-result-start c = search needs
+
+part-result-end : tie.Need-part-result-end
+part-result-end c = search needs
+
+returns : tie.Need-returns
+returns c =
+    let c-text-of = c .text-of in
+    let c-token-at = c .before .before .before .before .token-at in
+    let c-token = c .before .before .token in
+    c-text-of .ensures ∙ sym (text-there _ _ _ _ (sym (c-token-at .ensures) ∙ c-token .given .1))
+
+returns-2 : tie.Need-returns-2
+returns-2 c =
+    let c-token-at = c .before .before .before .token-at in
+    let c-enum-told = c .before .enum-told in
+    sym (text-nowhere _ _ _ (sym (c-token-at .ensures) ∙ c-enum-told .given .1))
+
+pub text-at-spec : {M : Type 1} → statement M
+text-at-spec =
+    tie.close
+    (tie.spec
+    token-at-requires
+    enum-known-token
+    text-of-requires
+    enum-told
+    sub-result
+    part-result-start
+    part-result-end
+    returns
+    returns-2)

@@ -1,0 +1,2 @@
+-- What the reader gives, in reading order.
+pub mod Cursor
