@@ -40,7 +40,7 @@ def source_key(crate, module):
         above = folder.rpartition("/")[0]
         files = [Path(f"crates/{crate}/src/{stem}.rt") for stem in (folder, above, "lib", "main")]
         text = next(file for file in files if file.exists()).read_text()
-        total.update(re.search(rf"(?ms)^( *)(?:pub(?:\(crate\))? )?fn {fn}(?:<[^>]*>)?\(.*?^\1\}}$", text).group(0).encode())
+        total.update(re.search(rf"(?ms)^( *)(?:pub(?:\(crate\))? )?(?:extern \S+ )?fn {fn}(?:<[^>]*>)?\(.*?^\1\}}$", text).group(0).encode())
     return total.hexdigest()[:16]
 
 

@@ -1,7 +1,6 @@
 -- Laws that the proofs share, in the order of the code.
 pub mod Digits
 pub mod Decoding
-pub mod Parts
 pub mod Putting
 pub mod Replies
 pub mod Turns

@@ -14,7 +14,7 @@ use Rattle.operand.specs.Records as Records
 use Rattle.operand.specs.Forms.{recordOf, bytesOf, bytes-record}
 use Rattle.operand.specs.Entry.{Input, refusal, readingAt}
 use Rattle.operand.specs.Promise.{nesting, resultOf, resultAt, EntryPromise}
-use Rattle.operand.specs.Conditions.{Valid, valid-bounds}
+use Rattle.operand.specs.Conditions.{Valid}
 use Rattle.operand.specs.Answers as Answers
 use Rattle.operand.specs.Answers.{Total}
 use Rattle.operand.specs.declared.entry.Answer.{Answer}
@@ -23,16 +23,10 @@ use Rattle.operand.specs.declared.entry.Missed.{Missed}
 use Rattle.frames.specs.Frame.{isFrame, lineLength, tokenCount, inputOf}
 use Rattle.frames.specs.Reply.{refused, bytesAt, inputBytes, frameBytes, ended}
 use Rattle.frames.specs.Lent.{lent, lent-same}
-use Rattle.frames.specs.Bases.{BaseFits, base-fits}
+use Rattle.layout.specs.Answered.{operand-valid, missed-valid, found-fits, cursor-small}
 use Rattle.frames.specs.Inner.{Put, foundBytes, FoundAsks, missedBytes, MissedAsks}
 
 -- ---- of a call that keeps the entry's promise
-
-operand-valid : {a : Input} {N D : List ℕ} {x : Found} → Total a N D (Answer.Operand x) → Valid a
-operand-valid (Answers.Total.operand x v) = v
-
-missed-valid : {a : Input} {N D : List ℕ} {x : Missed} → Total a N D (Answer.NoOperand x) → Valid a
-missed-valid (Answers.Total.noOperand x v) = v
 
 refused-by : {a : Input} {N D : List ℕ} {k : ℕ} → Total a N D (Answer.Refused k) → (k ≡ refusal a) × (1 ≤ k)
 refused-by (Answers.Total.refused n e low high f g) = (e, low)
@@ -84,16 +78,11 @@ module _ (a : Input) (none-used : a .used ≡ 0) (N D : List ℕ) where
             (first-added (Answer.Operand x) p v)
         go none e h = let z : _≡_ {A = ℕ} 0 1 = cc in absurd (omega arith)
 
-    found-fits : (w : Maybe Operand) → s .value ≡ w → Answer.Operand x ≡ resultOf s w → BaseFits (x .operand .base)
-    unfolding resultOf
-    found-fits (some y) e h = let q : x ≡ foundOf s y = cc in rw q (base-fits nesting a y e)
-    found-fits none e h = let z : _≡_ {A = ℕ} 0 1 = cc in absurd (omega arith)
-
     pub found-asks : (O : List ℕ) (at : ℕ) → at + 17411 ≤ length O → length N ≡ 3570 → length D ≡ 5110 → FoundAsks O at x N D
     found-asks O at room n d = record {
       room = room;
-      base = found-fits (s .value) refl found-is;
-      cursor-small = omega (arith, Answers.cursor-bounds a N D (Answer.Operand x) p v .1, valid-bounds a v .0);
+      base = found-fits a N D x p;
+      cursor-small = cursor-small a N D (Answer.Operand x) p v;
       nodes-few = Answers.nodes-enough a N D (Answer.Operand x) p v;
       nodes-long = n;
       diagnostics-few = Answers.records-enough a N D (Answer.Operand x) p v;
@@ -124,7 +113,7 @@ module _ (a : Input) (none-used : a .used ≡ 0) (N D : List ℕ) where
     pub missed-asks : (O : List ℕ) (at : ℕ) → at + 17411 ≤ length O → length D ≡ 5110 → MissedAsks O at x D
     missed-asks O at room d = record {
       room = room;
-      cursor-small = omega (arith, Answers.cursor-bounds a N D (Answer.NoOperand x) p w .1, valid-bounds a w .0);
+      cursor-small = cursor-small a N D (Answer.NoOperand x) p w;
       diagnostics-few = Answers.records-enough a N D (Answer.NoOperand x) p w;
       diagnostics-long = d;
     }

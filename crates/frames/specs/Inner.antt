@@ -11,7 +11,7 @@ use Rattle.operand.specs.declared.entry.Found.{Found}
 use Rattle.operand.specs.declared.entry.Missed.{Missed}
 use Rattle.frames.specs.Hex.{spells, spelled}
 use Rattle.frames.specs.Frame.{lineLength, tokenCount}
-use Rattle.frames.specs.Bases.{BaseFits}
+use Rattle.layout.specs.Bases.{BaseFits}
 use Rattle.frames.specs.Machine.{State, heldOn, carryOn, step}
 use Rattle.frames.specs.declared.hex.Decoded.{Decoded}
 use Rattle.frames.specs.declared.batches.Turned.{Turned}

@@ -11,16 +11,14 @@ use Rattle.names.specs.Choice.{pick, both}
 use Rattle.expressions.specs.Reader.{Reading}
 use Rattle.records.specs.Nodes.{lowFirst}
 use Rattle.expressions.specs.Costs.{true-false}
-use Rattle.operand.specs.Operands.{Displacement, displaced, undisplaced, Operand, Maybe, some, none}
-use Rattle.operand.specs.Operands as O
-use Rattle.operand.specs.declared.forms.BaseRegister.{BaseRegister}
-use Rattle.operand.specs.declared.forms.Index.{Index}
-use Rattle.operand.specs.Records.{displacementPart, basePart, indexPart, operandRecord, sizeM, nodesM}
+use Rattle.operand.specs.Operands.{Operand, Maybe, some, none}
+use Rattle.operand.specs.Records.{sizeM, nodesM}
 use Rattle.operand.specs.Records as Records
 use Rattle.operand.specs.Entry.{Input, refusal}
 use Rattle.operand.specs.Promise.{nesting, nesting-some}
 use Rattle.operand.specs.Conditions as Conditions
 use Rattle.operand.specs.Lengths.{length-nodes, length-diagnostics}
+use Rattle.layout.specs.Lengths.{length-record}
 use Rattle.frames.specs.Hex.{digits, value, isDigit, spells, spelled}
 use Rattle.frames.specs.Frame.{isFrame, inputOf, lineLength}
 use Rattle.frames.specs.Reply.{refused, bytesAt, inputBytes, frameBytes, lineBytes, ended, answerLine}
@@ -37,43 +35,6 @@ pub digits-append : (a b : List ℕ) → digits (a ++ b) ≡ digits a ++ digits 
 unfolding digits
 digits-append [] b = refl
 digits-append (x ∷ a) b = rw (digits-append a b)
-
--- ---- an operand's record
-
-length-displacement : (b : ℕ) (d : Displacement) → length (displacementPart b d) ≡ 2
-unfolding displacementPart
-length-displacement b (displaced e n) = refl
-length-displacement b undisplaced = refl
-
-pub length-base : (b : BaseRegister) → length (basePart b) ≡ 3
-unfolding basePart
-length-base (BaseRegister.Address r) = refl
-length-base BaseRegister.ProgramCounter = refl
-length-base (BaseRegister.SuppressedAddress n) = refl
-length-base BaseRegister.SuppressedProgramCounter = refl
-length-base BaseRegister.Omitted = refl
-
-pub length-index : (x : Index) → length (indexPart x) ≡ 8
-unfolding indexPart
-length-index (Index.Indexed x) = refl
-length-index Index.Unindexed = refl
-
-pub length-record : (x : Operand) → length (operandRecord x) ≡ 20
-unfolding operandRecord displacementPart basePart indexPart
-length-record (O.immediate e l s) = refl
-length-record (O.dataRegisterDirect r s) = refl
-length-record (O.addressRegisterDirect r s) = refl
-length-record (O.specialRegister n s) = refl
-length-record (O.indirect r s) = refl
-length-record (O.postincrement r s) = refl
-length-record (O.predecrement r s) = refl
-length-record (O.displacement e r s) = refl
-length-record (O.index d r x s) = simp length-append (omega (arith, length-displacement 0 d))
-length-record (O.pcDisplacement e s) = refl
-length-record (O.pcIndex d x s) = simp length-append (omega (arith, length-displacement 0 d))
-length-record (O.fullIndex d b x n e s) = simp length-append (omega (arith, length-displacement 0 d, length-base b, length-index x, length-displacement (Records.sizeD d) e))
-length-record (O.absolute e n s) = refl
-length-record (O.registerList items s) = refl
 
 -- ---- an answer
 

@@ -6,8 +6,6 @@ pub mod Lines
 pub mod Machine
 pub mod Promise
 pub mod Program
-pub mod Only
-pub mod Bases
 pub mod Inner
 pub mod Lent
 pub mod Outcome

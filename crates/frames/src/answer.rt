@@ -2,8 +2,8 @@
 use crate::hex::Decoded;
 use crate::hex::decode;
 use crate::hex::put;
-use crate::record::operand_bytes;
 use entry::parse_operand;
+use layout::operand_bytes;
 use operand::Answer;
 use operand::Found;
 use operand::Missed;

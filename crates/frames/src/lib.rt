@@ -2,7 +2,6 @@
 mod answer;
 mod batches;
 mod hex;
-mod record;
 
 pub use batches::Batched;
 pub use batches::batch;

@@ -16,3 +16,4 @@ pub use reports::diagnostic;
 pub use reports::push_diagnostic;
 pub use spans::Span;
 pub use spans::span_of;
+pub use store::write;

@@ -5,7 +5,7 @@ ghost use lib.ListN.{length};
 ghost use Rattle.records.specs.Stores.{written};
 
 // Writes the bytes from a place of the store on.
-pub(crate) fn write(store: &mut [u8], at: usize, bytes: &[u8])
+pub fn write(store: &mut [u8], at: usize, bytes: &[u8])
     requires { ⌜ at + length (now bytes) ≤ length (now store) ⌝ }
     ensures { λ _. ⌜ now (store .exit) ≡ written (now (store .entry)) at (now (bytes .entry)) ⌝ }
 {

@@ -45,3 +45,35 @@ pub fn read_operand(
         tokens: parser.tokens,
     }
 }
+
+/// A parser that reads the same tokens again and again, for measuring `parse_operand` alone.
+pub struct Prepared<'a> {
+    parser: Parser<'a>,
+    start: usize,
+}
+
+impl<'a> Prepared<'a> {
+    /// Filled in as for [`read_operand`].
+    pub fn new(
+        text: &'a str,
+        tokens: Vec<Token>,
+        start: usize,
+        symbol_at: Option<usize>,
+    ) -> Self {
+        let mut parser = Parser::new(text, "", 0);
+        parser.tokens = tokens;
+        parser.symbol_at = symbol_at;
+        Self { parser, start }
+    }
+
+    /// One call of `parse_operand`.
+    pub fn read(&mut self) -> Option<Operand> {
+        self.parser.index = self.start;
+        self.parser.parse_operand()
+    }
+
+    /// Drops what the calls so far have raised.
+    pub fn forget_diagnostics(&mut self) {
+        self.parser.diagnostics.clear();
+    }
+}

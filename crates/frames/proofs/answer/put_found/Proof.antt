@@ -4,7 +4,7 @@ use mathlib.Core.Path.{sym}
 use native.Mathlib.Omega.{arith}
 use Prim.Native.Nat.{_*_}
 use lib.Seq.{length-take-le}
-use Rattle.frames.proofs.Parts.{length-twenty}
+use Rattle.layout.specs.Lengths.{length-twenty}
 use Rattle.frames.proofs.Putting.{next-digits, found-put}
 use borrow.Author.Needs.{needs}
 use Rattle.frames.proofs.answer.put_found.Statement.{statement}

@@ -1,0 +1,106 @@
+//! An operand with all that both readers are lent, made before the clock runs.
+
+use frames::frame::{Frame, TokenBytes};
+use frames::lexer::tokens_of;
+use frames::records::Records;
+use frames::recover::Source;
+use frames::reference::answer_line;
+use frames::refusal::refusal;
+use frames::tokens::rust_token;
+use s68k::assembler::parser::driver::read_operand;
+use s68k::assembler::token::Token;
+use sagdrif::{Answer, Refusal, DIAGNOSTIC, DIAGNOSTICS_FREE, NODE, NODES_BYTES};
+
+/// A text and its tokens, for each reader in its own form. No token is marked.
+pub struct Case {
+    pub text: String,
+    pub tokens: Vec<TokenBytes>,
+}
+
+impl Case {
+    pub fn new(text: &str) -> Self {
+        let tokens = tokens_of(text.as_bytes(), false).expect("a text of an operand");
+        Case {
+            text: text.to_string(),
+            tokens,
+        }
+    }
+
+    pub fn rust_tokens(&self) -> Vec<Token> {
+        self.tokens.iter().map(|token| rust_token(*token)).collect()
+    }
+
+    /// The Rust's reading with all that the proved call does.
+    pub fn read_whole(&self, tokens: &mut Vec<Token>, records: &mut Records) {
+        assert!(refusal(self.text.as_bytes(), self.tokens.as_flattened(), 0).is_none());
+        let reading = read_operand(&self.text, std::mem::take(tokens), 0, None);
+        *tokens = reading.tokens;
+        let source = Source {
+            line: &self.text,
+            tokens,
+            start: 0,
+        };
+        records.fill(reading.operand.as_ref(), &reading.diagnostics, source);
+    }
+}
+
+/// The stores that the proved reader is lent, the same for every reading.
+pub struct Stores {
+    pub nodes: Vec<u8>,
+    pub diagnostics: Vec<u8>,
+}
+
+impl Stores {
+    pub fn new() -> Self {
+        Stores {
+            nodes: vec![0; NODES_BYTES],
+            diagnostics: vec![0; DIAGNOSTIC * DIAGNOSTICS_FREE],
+        }
+    }
+
+    /// A reading from `start` on.
+    #[inline]
+    pub fn read(&mut self, case: &Case, start: usize) -> Result<Answer, Refusal> {
+        let (line, tokens) = (case.text.as_bytes(), case.tokens.as_flattened());
+        sagdrif::parse_operand(
+            line,
+            tokens,
+            start,
+            255,
+            &mut self.nodes,
+            &mut self.diagnostics,
+            0,
+        )
+    }
+
+    /// The same call with a list that has no room: all checks, and nothing else.
+    #[inline]
+    pub fn check(&mut self, case: &Case) -> Result<Answer, Refusal> {
+        let (line, tokens) = (case.text.as_bytes(), case.tokens.as_flattened());
+        sagdrif::parse_operand(line, tokens, 0, 255, &mut self.nodes, &mut [], 0)
+    }
+}
+
+/// Whether both readers answer alike, to the last byte.
+pub fn same_answer(case: &Case, stores: &mut Stores) -> bool {
+    let answer = stores.read(case, 0).expect("no refusal");
+    let count = (answer.diagnostics as u16).to_le_bytes();
+    let kind = u8::from(answer.operand.is_none());
+    let mut bytes = vec![
+        kind,
+        answer.cursor as u8,
+        answer.nodes as u8,
+        count[0],
+        count[1],
+    ];
+    bytes.extend(answer.operand.iter().flat_map(|operand| operand.record));
+    bytes.extend(&stores.nodes[..NODE * answer.nodes]);
+    bytes.extend(&stores.diagnostics[..DIAGNOSTIC * answer.diagnostics]);
+    let frame = Frame {
+        line: case.text.as_bytes(),
+        tokens: &case.tokens,
+        start: 0,
+        mark: 255,
+    };
+    frames::hex::encode(&bytes) == answer_line(&frame.to_line())
+}

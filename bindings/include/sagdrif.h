@@ -1,0 +1,71 @@
+/* Reads one 68020 operand from lent bytes (document 01). Link libterminal.a, which `rt staticlib terminal` writes; of others it needs `memset` alone. */
+#ifndef SAGDRIF_H
+#define SAGDRIF_H
+
+#include <stddef.h>
+#include <stdint.h>
+
+#ifdef __cplusplus
+extern "C" {
+#endif
+
+/* Sizes in bytes, and counts. */
+#define SAGDRIF_LINE_MOST 255          /* bytes of a line */
+#define SAGDRIF_TOKEN 4                /* kind, detail, start, end */
+#define SAGDRIF_TOKENS_MOST 255        /* tokens of a list */
+#define SAGDRIF_NODE 14                /* a node record */
+#define SAGDRIF_NODES_BYTES 3570       /* the least node store: 255 records */
+#define SAGDRIF_DIAGNOSTIC 10          /* a diagnostic record */
+#define SAGDRIF_DIAGNOSTICS_FREE 511   /* records that must be free behind the used ones */
+#define SAGDRIF_ANSWER_BYTES 27        /* the least answer store */
+
+/* What is returned: 0, and the answer is written; or the number of a refusal, and no byte is written. */
+enum sagdrif_number {
+    SAGDRIF_READ = 0,
+    SAGDRIF_LONG_LINE = 1,             /* over 255 bytes */
+    SAGDRIF_FOREIGN_BYTE = 2,          /* a byte of the line outside 20 to 7E hexadecimal */
+    SAGDRIF_BAD_LIST = 3,              /* length not a multiple of 4, or over 255 tokens */
+    SAGDRIF_BAD_TOKEN = 4,             /* see document 01 */
+    SAGDRIF_BAD_START = 5,             /* start past the token count */
+    SAGDRIF_SHORT_NODES = 6,           /* node store under 3,570 bytes */
+    SAGDRIF_SHORT_DIAGNOSTICS = 7,     /* fewer than 511 whole records free after the used ones */
+    SAGDRIF_SHORT_ANSWER = 9           /* answer store under 27 bytes; checked before the others. 8 is the program's alone */
+};
+
+/* The answer's bytes, by place. */
+enum sagdrif_answer {
+    SAGDRIF_KIND = 0,                  /* 0 operand, 1 none */
+    SAGDRIF_CURSOR = 1,                /* the first token that was not consumed */
+    SAGDRIF_NODES_USED = 2,            /* node records, from the store's beginning */
+    SAGDRIF_DIAGNOSTICS_ADDED = 3,     /* 2 bytes, low first: diagnostic records, behind the used ones */
+    SAGDRIF_OPERAND = 5,               /* 20 bytes: the operand's record; 0 without an operand */
+    SAGDRIF_MASK = 25                  /* 2 bytes, low first: a register list's mask, bit 0 for D0 up to bit 15 for A7; else 0 */
+};
+
+/* Each pointer goes with the length behind it, in bytes. No pointer may be null, not even with the length 0. From each on, so many bytes
+ * must be readable; those of the three stores writable too. No store may overlap the line, the tokens or another store. Nothing is kept
+ * after the return, nothing else is read or written, and no memory is allocated. Any length, any byte and any number has its result.
+ *
+ *   line, line_length                  the line, read only
+ *   tokens, tokens_length              the tokens, SAGDRIF_TOKEN bytes each, read only
+ *   start                              the token that the operand begins at
+ *   mark                               the token that is read as a symbol; one at or past the token count means none
+ *   nodes, nodes_length                the node store. With an answer its first 3,570 bytes are the used records and zeros; the others stay
+ *   diagnostics, diagnostics_length    the diagnostic list. With an answer the added records stand behind the used ones; all other bytes stay
+ *   used                               how many records of the list are used
+ *   answer, answer_length              the answer store. With an answer its first 27 bytes are written; the others stay
+ */
+uint8_t sagdrif_parse_operand(
+    const uint8_t *line, size_t line_length,
+    const uint8_t *tokens, size_t tokens_length,
+    size_t start, size_t mark,
+    uint8_t *nodes, size_t nodes_length,
+    uint8_t *diagnostics, size_t diagnostics_length,
+    size_t used,
+    uint8_t *answer, size_t answer_length);
+
+#ifdef __cplusplus
+}
+#endif
+
+#endif

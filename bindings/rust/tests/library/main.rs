@@ -1,0 +1,6 @@
+//! The library against what the Rust answers, and against document 01's table.
+
+mod arbitrary;
+mod common;
+mod recorded;
+mod refusals;

@@ -1,0 +1,41 @@
+-- `layout::record::operand_bytes` meets its contract.
+-- Assumes nothing.
+use Rattle.layout.proofs.Parts.{twenty}
+use borrow.Author.Needs.{needs}
+use Rattle.layout.proofs.record.operand_bytes.Statement.{statement}
+use Rattle.layout.proofs.record.operand_bytes.Tie as tie
+
+sized-part-requires : tie.Need-sized-part-requires
+sized-part-requires c κs = search needs
+
+base-part-requires : tie.Need-base-part-requires
+base-part-requires c κs = search needs
+
+index-part-requires : tie.Need-index-part-requires
+index-part-requires c κs = search needs
+
+sized-part-requires-2 : tie.Need-sized-part-requires-2
+sized-part-requires-2 c κs = search needs
+
+flag-requires : tie.Need-flag-requires
+flag-requires c κs = search needs
+
+returns : tie.Need-returns
+returns c =
+    let c-sized-part = c .before .before .before .before .sized-part in
+    let c-base-part = c .before .before .before .base-part in
+    let c-index-part = c .before .before .index-part in
+    let c-sized-part2 = c .before .sized-part2 in
+    let c-flag = c .flag in
+    twenty _ _ _ _ _ _ (c-sized-part .ensures) (c-base-part .ensures) (c-index-part .ensures) (c-sized-part2 .ensures) (c-flag .ensures)
+
+pub operand-bytes-spec : {M : Type 1} → statement M
+operand-bytes-spec =
+    tie.close
+    (tie.spec
+    sized-part-requires
+    base-part-requires
+    index-part-requires
+    sized-part-requires-2
+    flag-requires
+    returns)

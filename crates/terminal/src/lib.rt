@@ -1,0 +1,4 @@
+// The library that a terminal's firmware links.
+mod call;
+
+pub use call::sagdrif_parse_operand;
