@@ -48,6 +48,7 @@ impl Case {
 pub struct Stores {
     pub nodes: Vec<u8>,
     pub diagnostics: Vec<u8>,
+    pub answer: Answer,
 }
 
 impl Stores {
@@ -55,12 +56,13 @@ impl Stores {
         Stores {
             nodes: vec![0; NODES_BYTES],
             diagnostics: vec![0; DIAGNOSTIC * DIAGNOSTICS_FREE],
+            answer: Answer::new(),
         }
     }
 
     /// A reading from `start` on.
     #[inline]
-    pub fn read(&mut self, case: &Case, start: usize) -> Result<Answer, Refusal> {
+    pub fn read(&mut self, case: &Case, start: usize) -> Result<(), Refusal> {
         let (line, tokens) = (case.text.as_bytes(), case.tokens.as_flattened());
         sagdrif::parse_operand(
             line,
@@ -70,32 +72,34 @@ impl Stores {
             &mut self.nodes,
             &mut self.diagnostics,
             0,
+            &mut self.answer,
         )
     }
 
     /// The same call with a list that has no room: all checks, and nothing else.
     #[inline]
-    pub fn check(&mut self, case: &Case) -> Result<Answer, Refusal> {
+    pub fn check(&mut self, case: &Case) -> Result<(), Refusal> {
         let (line, tokens) = (case.text.as_bytes(), case.tokens.as_flattened());
-        sagdrif::parse_operand(line, tokens, 0, 255, &mut self.nodes, &mut [], 0)
+        sagdrif::parse_operand(
+            line,
+            tokens,
+            0,
+            255,
+            &mut self.nodes,
+            &mut [],
+            0,
+            &mut self.answer,
+        )
     }
 }
 
 /// Whether both readers answer alike, to the last byte.
 pub fn same_answer(case: &Case, stores: &mut Stores) -> bool {
-    let answer = stores.read(case, 0).expect("no refusal");
-    let count = (answer.diagnostics as u16).to_le_bytes();
-    let kind = u8::from(answer.operand.is_none());
-    let mut bytes = vec![
-        kind,
-        answer.cursor as u8,
-        answer.nodes as u8,
-        count[0],
-        count[1],
-    ];
-    bytes.extend(answer.operand.iter().flat_map(|operand| operand.record));
-    bytes.extend(&stores.nodes[..NODE * answer.nodes]);
-    bytes.extend(&stores.diagnostics[..DIAGNOSTIC * answer.diagnostics]);
+    stores.read(case, 0).expect("no refusal");
+    let answer = &stores.answer;
+    let mut bytes = answer.line_head().to_vec();
+    bytes.extend(&stores.nodes[..NODE * answer.nodes()]);
+    bytes.extend(&stores.diagnostics[..DIAGNOSTIC * answer.diagnostics()]);
     let frame = Frame {
         line: case.text.as_bytes(),
         tokens: &case.tokens,

@@ -35,17 +35,52 @@ extern "C" {
     ) -> u8;
 }
 
-/// What a reading gives.
+/// What a reading gives. The library writes its own layout, which is taken apart only where it is asked for.
 #[derive(Debug, Clone, Copy, PartialEq, Eq)]
 pub struct Answer {
+    bytes: [u8; ANSWER_BYTES],
+}
+
+impl Answer {
+    /// A store for an answer: no operand, at the first token.
+    pub const fn new() -> Self {
+        let mut bytes = [0; ANSWER_BYTES];
+        bytes[0] = 1;
+        Answer { bytes }
+    }
+
     /// The operand, if one was read.
-    pub operand: Option<Operand>,
+    pub fn operand(&self) -> Option<Operand> {
+        let record = self.bytes[5..25].try_into().expect("20 bytes");
+        let mask = u16::from_le_bytes([self.bytes[25], self.bytes[26]]);
+        (self.bytes[0] == 0).then_some(Operand { record, mask })
+    }
+
     /// The place of the first token that was not consumed.
-    pub cursor: usize,
+    pub fn cursor(&self) -> usize {
+        self.bytes[1] as usize
+    }
+
     /// The node records used, from the store's beginning.
-    pub nodes: usize,
+    pub fn nodes(&self) -> usize {
+        self.bytes[2] as usize
+    }
+
     /// The diagnostic records added behind the used ones.
-    pub diagnostics: usize,
+    pub fn diagnostics(&self) -> usize {
+        u16::from_le_bytes([self.bytes[3], self.bytes[4]]) as usize
+    }
+
+    /// The beginning of the program's answer line: its five first bytes, and the operand's record if there is one.
+    pub fn line_head(&self) -> &[u8] {
+        &self.bytes[..if self.bytes[0] == 0 { 25 } else { 5 }]
+    }
+}
+
+impl Default for Answer {
+    fn default() -> Self {
+        Self::new()
+    }
 }
 
 /// An operand's record, and the mask of a register list.
@@ -91,7 +126,9 @@ impl Refusal {
     }
 }
 
-/// Reads the operand that begins at the token `start`. A `mark` at or past the token count means none.
+/// Reads the operand that begins at the token `start`, and writes the answer. A `mark` at or past the token count means none.
+#[allow(clippy::too_many_arguments)] // what document 01 lends and gives
+#[inline]
 pub fn parse_operand(
     line: &[u8],
     tokens: &[u8],
@@ -100,8 +137,8 @@ pub fn parse_operand(
     nodes: &mut [u8],
     diagnostics: &mut [u8],
     used: usize,
-) -> Result<Answer, Refusal> {
-    let mut answer = [0; ANSWER_BYTES];
+    answer: &mut Answer,
+) -> Result<(), Refusal> {
     // SAFETY: each pointer and length are those of one slice, so none is null and the bytes are
     // there; the stores are borrowed `&mut`, so none overlaps another. The call keeps no pointer.
     let number = unsafe {
@@ -117,19 +154,13 @@ pub fn parse_operand(
             diagnostics.as_mut_ptr(),
             diagnostics.len(),
             used,
-            answer.as_mut_ptr(),
-            answer.len(),
+            answer.bytes.as_mut_ptr(),
+            answer.bytes.len(),
         )
     };
-    if number != 0 {
-        return Err(Refusal::of(number));
+    if number == 0 {
+        Ok(())
+    } else {
+        Err(Refusal::of(number))
     }
-    let record = answer[5..25].try_into().expect("20 bytes");
-    let mask = u16::from_le_bytes([answer[25], answer[26]]);
-    Ok(Answer {
-        operand: (answer[0] == 0).then_some(Operand { record, mask }),
-        cursor: answer[1] as usize,
-        nodes: answer[2] as usize,
-        diagnostics: u16::from_le_bytes([answer[3], answer[4]]) as usize,
-    })
 }

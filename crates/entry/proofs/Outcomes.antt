@@ -8,8 +8,7 @@ use native.Mathlib.Nat.{add-zero}
 use native.Mathlib.Omega.{arith}
 use borrow.Author.Tests.{eqb-false, lt-leb, not-true}
 use lib.Dec.{eqb, leb}
-use lib.ListN.{length, take, drop, replicate, length-append, length-take, length-drop, take-append-drop}
-use lib.Seq.{take-at, drop-append-add, drop-drop}
+use lib.ListN.{length, take, drop, length-take, length-drop, take-append-drop}
 use Rattle.names.specs.Choice.{both}
 use Rattle.names.specs.Kinds
 use Rattle.names.specs.Tokens.{count, detailDefined, tokenFrom, tokenAt}
@@ -22,16 +21,17 @@ use Rattle.records.specs.declared.counters.Counters.{Counters}
 use Rattle.records.specs.Diagnostics.{diagnosticRecord}
 use Rattle.expressions.specs.Reader.{Reading, reading, run}
 use Rattle.records.specs.Stores.{written, nodeBytes, cleared, added}
+use Rattle.operand.specs.Clearing.{nodes-after}
 use Rattle.records.specs.Written.{length-written, written-take, written-past}
 use Rattle.operand.specs.Operands.{Operand, Maybe, some, none}
 use Rattle.operand.specs.Operand.{operandFrom}
-use Rattle.operand.specs.Records.{sizeO, nodesO, sizeM, nodesM, diagnosticRecords}
+use Rattle.operand.specs.Records.{sizeM, nodesM, diagnosticRecords}
 use Rattle.operand.specs.Entry.{Input, placeOf, setting, readingAt, refusal, wellSpelled, goodToken, goodTokens, nodesAfter, diagnosticsAfter, outcome, outcomeOf}
 use Rattle.operand.specs.Forms.{recordOf, operandRead}
-use Rattle.parser.specs.Steps.{NodeRoom, HeldBy, OperandTold}
+use Rattle.parser.specs.Steps.{NodeRoom, OperandPromise}
 use Rattle.operand.specs.Promise.{nesting, nesting-some, given, resultOf, resultAt, given-result, EntryPromise}
 use Rattle.operand.specs.Readings.{ended, started}
-use Rattle.operand.specs.Conditions.{Valid, valid-bounds, valid-tokens, valid-stores, records-enough, nodes-enough}
+use Rattle.operand.specs.Conditions.{Valid, valid-bounds, valid-tokens, valid-stores, records-enough}
 use Rattle.operand.specs.Lengths.{length-diagnostic}
 use Rattle.operand.specs.declared.forms.OperandRecord.{OperandRecord}
 use Rattle.operand.specs.declared.forms.OperandRead.{OperandRead}
@@ -142,18 +142,6 @@ added-is (x ∷ ds) D d h =
     ∙ append-assoc (take (10 * d) D) b (diagnosticRecords ds ++ k)
     ∙ ap (λ q. take (10 * d) D ++ q) (sym (append-assoc b (diagnosticRecords ds) k))
 
--- ---- the nodes
-
--- a store whose first n records are those of v, cleared behind them
-pub nodes-after : (v : Maybe Operand) (N N₁ N₂ : List ℕ) (n : ℕ) → take (14 * n) N₁ ≡ nodesM v → n ≡ sizeM v → drop nodeBytes N₁ ≡ drop nodeBytes N
-    → N₂ ≡ cleared N₁ (14 * n) nodeBytes → N₂ ≡ nodesAfter v N
-unfolding cleared nodesAfter
-nodes-after v N N₁ N₂ n b e p k =
-    k
-    ∙ append-assoc (take (14 * n) N₁) (replicate (nodeBytes - 14 * n) 0) (drop nodeBytes N₁)
-    ∙ ap₂ (λ x y. x ++ (replicate (nodeBytes - 14 * n) 0 ++ y)) b p
-    ∙ ap (λ m. nodesM v ++ (replicate (nodeBytes - 14 * m) 0 ++ drop nodeBytes N)) e
-
 -- ---- the returns
 
 pub refused : (a : Input) {n : ℕ} → n ≡ refusal a → (n ≡ 0 → ⊥) → EntryPromise a (a .nodes) (a .diagnostics) (Answer.Refused n)
@@ -182,13 +170,9 @@ read-so a N′ D′ r v h n d =
       value = h ∙ ap (resultAt nesting a) (sym v);
     }
 
--- without an operand no node is used
-abbrev pub Cleared : List ℕ → List ℕ → ℕ → ℕ → Answer → Type 0
-Cleared N N₁ cursor diagnostics r = (r ≡ Answer.NoOperand (record { cursor = cursor; diagnostics = diagnostics })) × (N₁ ≡ cleared N (14 * 0) nodeBytes)
-
 -- no token stands at the start
-pub no-token : (a : Input) {N₁ : List ℕ} {r : Answer} → Valid a → tokenAt (a .tokens) (a .start) ≡ peeked.End → Cleared (a .nodes) N₁ (a .start) 0 r
-    → EntryPromise a N₁ (a .diagnostics) r
+pub no-token : (a : Input) {N₁ : List ℕ} {r : Answer} → Valid a → tokenAt (a .tokens) (a .start) ≡ peeked.End
+    → (r ≡ Answer.NoOperand (record { cursor = a .start; diagnostics = 0 })) × (N₁ ≡ cleared (a .nodes) (14 * 0) (14 * 255)) → EntryPromise a N₁ (a .diagnostics) r
 unfolding resultOf nodesM sizeM diagnosticsAfter diagnosticRecords
 no-token a {N₁} v t (q, k) =
     let s = readingAt nesting a in
@@ -199,7 +183,7 @@ no-token a {N₁} v t (q, k) =
     (rw add-zero (sym (take-append-drop (10 * a .used) (a .diagnostics))) ∙ ap (λ (t : Reading (Maybe Operand)). diagnosticsAfter t (a .used) (a .diagnostics)) e)
 
 module _ (a : Input) {t : Token} {N₁ D₁ : List ℕ} {r : OperandStep} (v : Valid a) (here : tokenAt (a .tokens) (a .start) ≡ peeked.Is t)
-    (told : OperandTold (operandFrom (record { limit = 64; mark = a .mark }) (t .start)) (a .line) (a .tokens) (a .nodes) (a .diagnostics) N₁ D₁ (first a) r) where
+    (told : OperandPromise (run (operandFrom (record { limit = 64; mark = a .mark }) (t .start)) (placeOf a) (a .start) 0) (a .nodes) (a .diagnostics) N₁ D₁ (a .used) r) where
   abbrev s : Reading (Maybe Operand)
   s = readingAt nesting a
 
@@ -208,75 +192,50 @@ module _ (a : Input) {t : Token} {N₁ D₁ : List ℕ} {r : OperandStep} (v : V
   same = sym (started (setting nesting a) (placeOf a) (a .start) t _ (there (a .line) (a .tokens) (a .start) t here))
 
   what : r .operand ≡ operandRead (s .value)
-  what = told .told .what ∙ ap (λ (z : Reading (Maybe Operand)). operandRead (z .value)) same
+  what = told .operand ∙ ap (λ (z : Reading (Maybe Operand)). operandRead (z .value)) same
 
-  at : r .counters .at ≡ s .cursor
-  at = told .told .at ∙ ap (λ (z : Reading (Maybe Operand)). z .cursor) same
+  counters : r .counters ≡ record { at = s .cursor; end = s .end; nodes = sizeM (s .value); diagnostics = a .used + length (s .raised) }
+  counters =
+      told .counters
+      ∙ ap (λ (z : Reading (Maybe Operand)). record { at = z .cursor; end = z .end; nodes = sizeM (z .value); diagnostics = a .used + length (z .raised) }) same
 
-  seen : r .counters .diagnostics ≡ a .used + length (s .raised)
-  seen = told .told .seen ∙ ap (λ (z : Reading (Maybe Operand)). a .used + length (z .raised)) same
+  nodes : N₁ ≡ nodesAfter (s .value) (a .nodes)
+  nodes = told .nodes ∙ ap (λ (z : Reading (Maybe Operand)). nodesAfter (z .value) (a .nodes)) same
 
   more : D₁ ≡ diagnosticsAfter s (a .used) (a .diagnostics)
   unfolding diagnosticsAfter
   more =
-      told .told .more
+      told .diagnostics
       ∙ ap (λ (z : Reading (Maybe Operand)). added (a .diagnostics) (a .used) (z .raised)) same
       ∙ added-is (s .raised) (a .diagnostics) (a .used) (omega (arith, records-enough nesting nesting-some a v, valid-stores a v .1))
 
-  held : HeldBy (take (14 * r .counters .nodes) N₁) (r .counters .nodes) (s .value)
-  held = subst (λ (z : Reading (Maybe Operand)). HeldBy (take (14 * r .counters .nodes) N₁) (r .counters .nodes) (z .value)) same (told .told .held)
-
   -- no diagnostic is taken back
   pub counted : a .used ≤ r .counters .diagnostics
-  counted = omega (arith, seen)
+  counted = omega (arith, ap (λ z. z .diagnostics) counters)
 
   count-is : r .counters .diagnostics - a .used ≡ length (s .raised)
-  count-is = omega (arith, seen)
+  count-is = omega (arith, ap (λ z. z .diagnostics) counters)
 
-  pub no-operand : {N₂ : List ℕ} {b : Answer} → r .operand ≡ OperandRead.Not → Cleared N₁ N₂ (r .counters .at) (r .counters .diagnostics - a .used) b → EntryPromise a N₂ D₁ b
-  unfolding operandRead resultOf nodesM sizeM
-  no-operand {N₂} {b} e (h, k) = go (s .value) refl
+  pub no-operand : r .operand ≡ OperandRead.Not → EntryPromise a N₁ D₁ (Answer.NoOperand (record { cursor = r .counters .at; diagnostics = r .counters .diagnostics - a .used }))
+  unfolding operandRead resultOf
+  no-operand e = read-so a N₁ D₁ _ v (ap₂ (λ i n. Answer.NoOperand (record { cursor = i; diagnostics = n })) (ap (λ z. z .at) counters) count-is ∙ go (s .value) refl) nodes more
     where
-      go : (z : Maybe Operand) → s .value ≡ z → EntryPromise a N₂ D₁ b
+      go : (z : Maybe Operand) → s .value ≡ z → Answer.NoOperand (record { cursor = s .cursor; diagnostics = length (s .raised) }) ≡ resultOf s (s .value)
       go (some x) q = let w = ap operandRead q in let z : _≡_ {A = ℕ} 0 1 = cc (what, w, e) in absurd (omega arith)
-      go none q =
-          read-so a N₂ D₁ _ v
-          (h ∙ ap₂ (λ i n. Answer.NoOperand (record { cursor = i; diagnostics = n })) at count-is ∙ ap (resultOf s) (sym q))
-          (nodes-after none (a .nodes) N₁ N₂ 0 refl refl (told .past) k ∙ ap (λ z. nodesAfter z (a .nodes)) (sym q))
-          more
+      go none q = ap (resultOf s) (sym q)
 
-  module _ (x : OperandRecord) (e : r .operand ≡ OperandRead.Is x) where
-    -- the operand that is read
-    record Read : Type 0 where
-      read : Operand
-      value : s .value ≡ some read
-      same-record : x ≡ recordOf read
-      bytes : nodesO read ≡ take (14 * r .counters .nodes) N₁
-      size : sizeO read ≡ r .counters .nodes
-
-    is-read : Read
-    unfolding operandRead HeldBy
-    is-read = go (s .value) refl
-      where
-        go : (z : Maybe Operand) → s .value ≡ z → Read
-        go (some y) q =
-            let w = ap operandRead q in
-            let h = subst (λ z. HeldBy (take (14 * r .counters .nodes) N₁) (r .counters .nodes) z) q held in
-            record { read = y; value = q; same-record = cc (what, w, e); bytes = h .0; size = h .1 }
-        go none q = let w = ap operandRead q in let z : _≡_ {A = ℕ} 0 1 = cc (what, w, e) in absurd (omega arith)
-
-    pub nodes-fit : r .counters .nodes ≤ 255
-    unfolding sizeM
-    nodes-fit = let n = nodes-enough nesting nesting-some a v in omega (arith, rw (is-read .value) at n, is-read .size)
-
-    pub an-operand : {N₂ : List ℕ} → N₂ ≡ cleared N₁ (14 * r .counters .nodes) nodeBytes
-        → EntryPromise a N₂ D₁ (Answer.Operand (record { operand = x; cursor = r .counters .at; nodes = r .counters .nodes; diagnostics = r .counters .diagnostics - a .used }))
-    unfolding resultOf nodesM sizeM
-    an-operand {N₂} k =
-        let g = is-read in
-        read-so a N₂ D₁ _ v
-        (ap₂ (λ o i. Answer.Operand (record { operand = o; cursor = i; nodes = r .counters .nodes; diagnostics = r .counters .diagnostics - a .used })) (g .same-record) at
-        ∙ ap₂ (λ n d. Answer.Operand (record { operand = recordOf (g .read); cursor = s .cursor; nodes = n; diagnostics = d })) (sym (g .size)) count-is
-        ∙ ap (resultOf s) (sym (g .value)))
-        (nodes-after (some (g .read)) (a .nodes) N₁ N₂ (r .counters .nodes) (sym (g .bytes)) (sym (g .size)) (told .past) k ∙ ap (λ z. nodesAfter z (a .nodes)) (sym (g .value)))
-        more
+  pub an-operand : (x : OperandRecord) → r .operand ≡ OperandRead.Is x
+      → EntryPromise a N₁ D₁ (Answer.Operand (record { operand = x; cursor = r .counters .at; nodes = r .counters .nodes; diagnostics = r .counters .diagnostics - a .used }))
+  unfolding operandRead resultOf
+  an-operand x e =
+      read-so a N₁ D₁ _ v
+      (ap₂ (λ i n. Answer.Operand (record { operand = x; cursor = i; nodes = n; diagnostics = r .counters .diagnostics - a .used })) (ap (λ z. z .at) counters) (ap (λ z. z .nodes) counters)
+      ∙ ap (λ d. Answer.Operand (record { operand = x; cursor = s .cursor; nodes = sizeM (s .value); diagnostics = d })) count-is
+      ∙ go (s .value) refl) nodes more
+    where
+      go : (z : Maybe Operand) → s .value ≡ z → Answer.Operand (record { operand = x; cursor = s .cursor; nodes = sizeM (s .value); diagnostics = length (s .raised) }) ≡ resultOf s (s .value)
+      go (some y) q =
+          let w = ap operandRead q in
+          let k : x ≡ recordOf y = cc (what, w, e) in
+          ap₂ (λ o m. Answer.Operand (record { operand = o; cursor = s .cursor; nodes = sizeM m; diagnostics = length (s .raised) })) k q ∙ ap (resultOf s) (sym q)
+      go none q = let w = ap operandRead q in let z : _≡_ {A = ℕ} 0 1 = cc (what, w, e) in absurd (omega arith)

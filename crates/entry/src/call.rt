@@ -7,7 +7,7 @@ use operand::Found;
 use operand::Missed;
 use operand::OperandRead;
 use operand::refusal;
-use parser::operand_from;
+use parser::operand_at;
 use records::Counters;
 use records::clear_nodes;
 ghost use mathlib.Core.Path.{_≡_};
@@ -15,7 +15,7 @@ ghost use Prim.Native.Nat.{_*_, _≤_};
 ghost use lib.ListN.{length};
 ghost use Rattle.names.specs.Tokens.{tokenAt};
 ghost use Rattle.names.specs.declared.tokens.Peeked.the-variants as peeked;
-ghost use Rattle.records.specs.Stores.{cleared, nodeBytes};
+ghost use Rattle.records.specs.Stores.{cleared};
 ghost use Rattle.operand.specs.declared.entry.Answer.the-variants as answer;
 ghost use Rattle.operand.specs.Entry.{call};
 ghost use Rattle.operand.specs.Conditions.{Valid};
@@ -43,7 +43,7 @@ pub fn parse_operand(
     let p = names::token_at(tokens, start);
     match p {
         Peeked::Is(t) => read_operand(line, tokens, start, mark, nodes, diagnostics, used, t),
-        Peeked::End => no_operand(nodes, start, 0),
+        Peeked::End => no_operand(nodes, start),
     }
 }
 
@@ -71,31 +71,32 @@ fn read_operand(
         limit: NESTING,
         mark: mark,
     };
-    let r = operand_from(line, tokens, nodes, diagnostics, c, s, token);
+    let r = operand_at(line, tokens, nodes, diagnostics, c, s, token);
     let e = r.counters;
+    let added = e.diagnostics - used;
     let read = r.operand;
     match read {
-        OperandRead::Is(x) => {
-            clear_nodes(nodes, e.nodes);
-            Answer::Operand(Found {
-                operand: x,
-                cursor: e.at,
-                nodes: e.nodes,
-                diagnostics: e.diagnostics - used,
-            })
-        }
-        OperandRead::Not => no_operand(nodes, e.at, e.diagnostics - used),
+        OperandRead::Is(x) => Answer::Operand(Found {
+            operand: x,
+            cursor: e.at,
+            nodes: e.nodes as usize,
+            diagnostics: added,
+        }),
+        OperandRead::Not => Answer::NoOperand(Missed {
+            cursor: e.at,
+            diagnostics: added,
+        }),
     }
 }
 
-// Without an operand no node is used.
-fn no_operand(nodes: &mut [u8], cursor: usize, diagnostics: usize) -> Answer
+// At the list's end there is no operand, and no node is used.
+fn no_operand(nodes: &mut [u8], cursor: usize) -> Answer
     requires { ⌜ 3570 ≤ length (now nodes) ⌝ }
-    ensures { λ r. ⌜ (r ≡ answer.NoOperand (record { cursor = cursor; diagnostics = diagnostics })) × (now (nodes .exit) ≡ cleared (now (nodes .entry)) (14 * 0) nodeBytes) ⌝ }
+    ensures { λ r. ⌜ (r ≡ answer.NoOperand (record { cursor = cursor; diagnostics = 0 })) × (now (nodes .exit) ≡ cleared (now (nodes .entry)) (14 * 0) (14 * 255)) ⌝ }
 {
-    clear_nodes(nodes, 0);
+    clear_nodes(nodes, 0, 255);
     Answer::NoOperand(Missed {
         cursor: cursor,
-        diagnostics: diagnostics,
+        diagnostics: 0,
     })
 }

@@ -20,14 +20,14 @@ use Rattle.expressions.specs.declared.terms.Step.{Step}
 use Rattle.expressions.specs.declared.terms.Chain.{Chain}
 use Rattle.records.specs.Diagnostics.{expressionExpected}
 use Rattle.expressions.specs.Reader.{Reading, reading, run}
-use Rattle.expressions.specs.Expressions.{Term, read, reported, absent, precedence, binaryOperator, parsePrefix, parseExpressionFrom, fuel}
+use Rattle.expressions.specs.Expressions.{Term, reported, absent, precedence, binaryOperator, parsePrefix, parseExpressionFrom, fuel}
 use Rattle.records.specs.Nodes.{record14, lowFirst}
 use Rattle.expressions.specs.Records.{nodes}
 use Rattle.records.specs.Counting.{stepped}
-use Rattle.expressions.specs.Terms.{NodeTold, sizeT, nodesT, Told, DeepTold, TermTold, PrefixTold, Says, ClimbTold}
+use Rattle.expressions.specs.Terms.{NodeTold, sizeT, nodesT, DeepTold, PrefixTold, Says, ClimbTold}
 use Rattle.expressions.proofs.Branches as branch
 use Rattle.expressions.proofs.Leaves.{added-nil, added-more, added-one}
-use Rattle.expressions.proofs.Returns.{what-read, what-reported, what-absent, size-pos, kept, absent-quiet}
+use Rattle.expressions.proofs.Returns.{what-read, what-reported, what-absent, kept, absent-quiet}
 
 -- the records of a binary node's tree, from its parts'
 stored-binary : (P : List ℕ) (b n m o : ℕ) (l r : Expr) (s : Span) → n ≡ b + size l → m ≡ n + size r
@@ -42,7 +42,7 @@ climb-stops : (L T N D : List ℕ) (c : Counters) (left : Span) (min room : ℕ)
 climb-stops L T N D c left min room h some on = record {
   told = λ g hg P b e st cnt sp.
       rw (h e g) (record { span = sp; at = refl; end = refl; total = cnt; seen = sym (add-zero _); bytes = st; more = added-nil D _ });
-  past = refl;
+  past = λ j b. refl;
   some = some;
   on = omega arith;
   within = on;
@@ -155,7 +155,7 @@ module _ (L T N D N₁ D₁ : List ℕ) (c : Counters) (left : Span) (min room :
       let same : r .counters .nodes ≡ c .nodes = omega (arith, h .told .total ∙ ap (λ x. c .nodes + sizeT x) v) in
       record {
         told = λ g hg P b e st cnt sp. turned P b e st cnt sp g _ N₁ D₁ hg λ f hf. at-reported P b e st cnt sp f v;
-        past = h .told .past;
+        past = λ j b. h .past j (omega (arith, b));
         some = omega (arith, same, some);
         on = omega (arith, h .on);
         within = h .within;
@@ -172,7 +172,7 @@ module _ (L T N D N₁ D₁ : List ℕ) (c : Counters) (left : Span) (min room :
       let pz = rw z at p in
       record {
         told = λ g hg P b e st cnt sp. turned P b e st cnt sp g _ N₁ D₂ hg λ f hf. at-absent P b e st cnt sp f v pz;
-        past = h .told .past;
+        past = λ j b. h .past j (omega (arith, b, p .at));
         some = omega (arith, same, some, p .same);
         on = omega (arith, h .on, p .at);
         within = omega (arith, h .within, p .at);
@@ -189,7 +189,11 @@ module _ (L T N D N₁ D₁ : List ℕ) (c : Counters) (left : Span) (min room :
       record {
         told = λ g hg P b e st cnt sp.
             turned P b e st cnt sp g w N₄ D₄ hg λ f hf. at-read P b e st cnt sp f x N₂ D₂ N₃ N₄ D₄ q w n wh hf (rw hl at hq) (rw ho at hp) hw;
-        past = hw .past ∙ hp .put .past ∙ hq .past ∙ h .told .past;
+        past = λ j b.
+            hw .past j (omega (arith, b, hp .at, hp .put .next, hq .few, h .few))
+            ∙ hp .put .past j (omega (arith, b, hp .at, hw .on, hq .few, h .few))
+            ∙ hq .past j (omega (arith, b, hp .at, hw .on, h .few))
+            ∙ h .past j (omega (arith, b, hp .at, hw .on, hq .on));
         some = hw .some;
         on = omega (arith, hw .on, hq .on, h .on, hp .at);
         within = hw .within;

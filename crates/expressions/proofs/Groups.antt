@@ -9,22 +9,19 @@ use borrow.Author.Tests.{ne-eqb}
 use lib.ListN.{length, take, drop, length-append, length-take}
 use lib.Seq.{take-at, drop-at, take-take, take-add, take-append-add, length-take-le}
 use Rattle.names.specs.Kinds
-use Rattle.names.specs.Tokens.{count, tokenAt}
-use Rattle.names.specs.Places.{stands, textOf, placed, place, below}
+use Rattle.names.specs.Tokens.{tokenAt}
+use Rattle.names.specs.Places.{stands, placed, place}
 use Rattle.names.specs.declared.tokens.Token.{Token}
 use Rattle.names.specs.declared.tokens.Peeked.{Peeked}
 use Rattle.names.specs.declared.tokens.Peeked.the-variants as peeked
 use Rattle.records.specs.declared.spans.Span.{Span}
-use Rattle.records.specs.declared.counters.Counters.{Counters}
 use Rattle.expressions.specs.declared.terms.Parsed.the-variants as parsed
-use Rattle.expressions.specs.declared.terms.Step.{Step}
 use Rattle.expressions.specs.Trees.{Expr, number, characterLiteral, symbol, currentAddress, unary, binary, spanE, withSpan, size}
 use Rattle.expressions.specs.Reader.{is}
 use Rattle.expressions.specs.Laws.{holds}
 use Rattle.records.specs.Nodes.{lowFirst, own, zeros}
 use Rattle.expressions.specs.Records.{nodes, length-nodes}
-use Rattle.records.specs.Stores.{written, nodeBytes}
-use Rattle.records.specs.Counting.{stepped}
+use Rattle.records.specs.Stores.{written}
 use Rattle.records.specs.Written.{written-past}
 
 pub another-kind : {p : Peeked} {t : Token} → p ≡ peeked.Is t → (t .kind ≡ Kinds.rightParen → ⊥) → (u : Token) → p ≡ peeked.Is u → u .kind ≡ Kinds.rightParen → ⊥
@@ -112,8 +109,8 @@ length-front b e = omega (arith, simp length-append at (ap length (root-split b 
 -- the records of a tree, with another span written into its root
 pub widened : (P N : List ℕ) (n m : ℕ) (e : Expr) (t : Span) → take (14 * m) N ≡ P ++ nodes n e → m ≡ n + size e → length P ≡ 14 * n → 3570 ≤ length N → m ≤ 255 → 0 < m
     → (take (14 * m) (written N (14 * (m - 1) + 4) (t .start ∷ t .end ∷ [])) ≡ P ++ nodes n (withSpan e t))
-    × (drop nodeBytes (written N (14 * (m - 1) + 4) (t .start ∷ t .end ∷ [])) ≡ drop nodeBytes N)
-unfolding written nodeBytes
+    × ((j : ℕ) → m ≤ j → drop (14 * j) (written N (14 * (m - 1) + 4) (t .start ∷ t .end ∷ [])) ≡ drop (14 * j) N)
+unfolding written
 widened P N n m e t b cnt lp long top some =
     let at : ℕ = 14 * (m - 1) + 4 in
     let X : List ℕ = P ++ front n e in
@@ -134,5 +131,5 @@ widened P N n m e t b cnt lp long top some =
           ∙ take-append-add p (drop (at + 2) N) 8
           ∙ ap₂ (λ x y. (x ++ (t .start ∷ t .end ∷ [])) ++ y) e₃ e₂
           ∙ rw (root-split n (withSpan e t), front-with n e t, back-with e t, spanE-withSpan e t) (simp append-assoc),
-      written-past N at (t .start ∷ t .end ∷ []) 3570 (omega arith) (omega arith),
+      λ j h. written-past N at (t .start ∷ t .end ∷ []) (14 * j) (omega arith) (omega (arith, h)),
     )

@@ -1,16 +1,16 @@
 -- What the terms of one token tell.
 -- Assumes nothing.
-use mathlib.Core.Path.{_≡_, refl, sym, _∙_, ap, ap₂}
+use mathlib.Core.Path.{_≡_, refl, sym, _∙_, ap}
 use mathlib.Core.Bool.{Bool, true, false}
 use mathlib.Core.List.{List, [], _∷_, _++_, append-nil}
-use Prim.Native.Nat.{ℕ, _+_, _*_, _/_, _%_, _<_, _≤_}
+use Prim.Native.Nat.{ℕ, _+_, _*_, _/_, _%_, _<_}
 use native.Mathlib.Nat.{add-zero, div-eq-of-lt, add-mul-div-left, div-add-mod}
 use native.Mathlib.Omega.{arith}
-use lib.ListN.{length, take}
+use lib.ListN.{length}
 use Rattle.names.specs.Kinds
 use Rattle.names.specs.Registers.{reserved}
 use Rattle.names.specs.Tokens.{tokenAt}
-use Rattle.names.specs.Places.{Place, stands, textOf, placed, place}
+use Rattle.names.specs.Places.{Place, textOf, placed, place}
 use Rattle.names.specs.declared.tokens.Peeked.the-variants as peeked
 use Rattle.names.specs.Numbers.{numberOf}
 use Rattle.names.specs.declared.tokens.Token.{Token}
@@ -22,15 +22,15 @@ use Rattle.records.specs.declared.diagnostics.Diagnostic.{Diagnostic}
 use Rattle.records.specs.declared.counters.Counters.{Counters}
 use Rattle.expressions.specs.declared.terms.Step.{Step}
 use Rattle.expressions.specs.declared.terms.Parsed.the-variants as parsed
-use Rattle.records.specs.Diagnostics.{plain, nestingTooDeep, numberTooLarge, registerInExpression, diagnosticRecord}
-use Rattle.expressions.specs.Reader.{Reading, reading, run, answer, _>>=_}
-use Rattle.expressions.specs.Expressions.{Term, read, reported, absent, valued, numberTerm, named, leafTerm, tooDeep}
+use Rattle.records.specs.Diagnostics.{plain, nestingTooDeep, numberTooLarge, registerInExpression}
+use Rattle.expressions.specs.Reader.{Reader, reading, run, answer, _>>=_}
+use Rattle.expressions.specs.Expressions.{Term, read, reported, absent, valued, numberTerm, named, leafTerm}
 use Rattle.records.specs.Nodes.{record14, lowFirst, own}
 use Rattle.expressions.specs.Records.{nodes}
-use Rattle.records.specs.Stores.{written, added, PushTold}
+use Rattle.records.specs.Stores.{added, PushTold}
 use Rattle.records.specs.Written.{added-append}
 use Rattle.records.specs.Counting.{stepped}
-use Rattle.expressions.specs.Terms.{parsedOf, sizeT, nodesT, Told, LeafTold, DeepTold, ReaderTold, TokenTold, DepthTold}
+use Rattle.expressions.specs.Terms.{parsedOf, sizeT, nodesT, Told, LeafTold, DeepTold, ReaderTold, TokenTold, DepthTold, Spared}
 use Rattle.expressions.proofs.Branches.{leaf-star, leaf-number, leaf-string, leaf-name, leaf-local, leaf-error, leaf-other, deep-there, deep-end}
 
 -- ---- diagnostics added in two runs
@@ -74,7 +74,6 @@ module _ (N N′ D D′ : List ℕ) (c : Counters) (r : Step) where
     total = rw one (h .put .next);
     seen = h .seen ∙ m;
     bytes = rw b (h .put .bytes);
-    past = h .put .past;
     more = a;
   }
 
@@ -89,7 +88,6 @@ report-told N D D′ c x r h = record {
   total = omega (arith, h .same);
   seen = omega (arith, h .push .next);
   bytes = rw (h .same) (sym (append-nil _));
-  past = refl;
   more = added-one D D′ (c .diagnostics) x (r .counters .diagnostics) (h .push);
 }
 
@@ -108,6 +106,8 @@ module _ (N D : List ℕ) (c : Counters) (k : Token) (x : List ℕ) where
     told = λ at.
         rw (number-run (Number.Value v) e at)
         (leaf-told N N′ D D c r (number (k .detail) v (spanOf k)) 1 (k .detail) v (c .diagnostics) (spanOf k) [] (rw (f, g) at h) refl refl refl (added-nil D _) (sym (add-zero _)));
+    stays = h .at;
+    past = h .put .past;
   }
 
   pub number-invalid : {N′ : List ℕ} {r : Step} {detail : ℕ} {s : Span} → numberOf (k .detail) x ≡ Number.Invalid → detail ≡ k .detail → s ≡ spanOf k
@@ -117,6 +117,8 @@ module _ (N D : List ℕ) (c : Counters) (k : Token) (x : List ℕ) where
     told = λ at.
         rw (number-run Number.Invalid e at)
         (leaf-told N N′ D D c r (number (k .detail) 0 (spanOf k)) 1 (k .detail) 0 (c .diagnostics) (spanOf k) [] (rw (f, g) at h) refl refl refl (added-nil D _) (sym (add-zero _)));
+    stays = h .at;
+    past = h .put .past;
   }
 
   pub number-large : {N′ D′ : List ℕ} {r : Step} {detail m : ℕ} {s : Span} {y : Diagnostic} → numberOf (k .detail) x ≡ Number.TooLarge → detail ≡ k .detail → s ≡ spanOf k
@@ -129,6 +131,8 @@ module _ (N D : List ℕ) (c : Counters) (k : Token) (x : List ℕ) where
         rw (number-run Number.TooLarge e at)
         (leaf-told N N′ D D′ (record { at = c .at; end = c .end; nodes = c .nodes; diagnostics = m }) r (number (k .detail) 0 (spanOf k)) 1 (k .detail) 0 (c .diagnostics) (spanOf k)
         (numberTooLarge (spanOf k) ∷ []) (rw (f, g) at h) refl refl refl (added-one D D′ (c .diagnostics) _ m (rw z at p)) (p .next));
+    stays = h .at;
+    past = h .put .past;
   }
 
   pub name-reserved : {D′ : List ℕ} {r : Step} {s : Span} {y : Diagnostic} {b : Bool} → b ≡ true → s ≡ spanOf k → y ≡ plain 11 s s
@@ -138,6 +142,8 @@ module _ (N D : List ℕ) (c : Counters) (k : Token) (x : List ℕ) where
     told = λ at.
         let z : y ≡ registerInExpression (spanOf k) = q ∙ rw g in
         rw e (report-told N D D′ c (registerInExpression (spanOf k)) r (rw z at h));
+    stays = h .at;
+    past = λ j b. refl;
   }
 
   pub name-read : {N′ : List ℕ} {r : Step} {s : Span} {v : ℕ} {b : Bool} → b ≡ false → s ≡ spanOf k → (v ≡ s .start + 256 * s .end) × (s .start < 256) × (s .end < 256)
@@ -149,6 +155,8 @@ module _ (N D : List ℕ) (c : Counters) (k : Token) (x : List ℕ) where
         rw e
         (leaf-told N N′ D D c r (symbol (spanOf k) (spanOf k)) 3 0 v (c .diagnostics) (spanOf k) [] (rw g at h)
         (rw (w .0, own-bytes (spanOf k) (w .1) (w .2))) refl refl (added-nil D _) (sym (add-zero _)));
+    stays = h .at;
+    past = h .put .past;
   }
 
 -- ---- a term of one token, by its kind
@@ -163,18 +171,21 @@ absent-told N D c = record {
   total = sym (add-zero _);
   seen = sym (add-zero _);
   bytes = sym (append-nil _);
-  past = refl;
   more = added-nil D _;
 }
 
 module _ (N D : List ℕ) (c : Counters) (k : Token) (x : List ℕ) where
   module _ {N′ : List ℕ} {r : Step} {s : Span} {q : Counters} (step : q ≡ stepped c k) (sp : s ≡ spanOf k) where
+    spared : {kind detail v : ℕ} → LeafTold N N′ q kind detail s v r → Spared N N′ c (r .counters)
+    spared h j b = h .put .past j (omega (arith, b, h .at, ap (λ z. z .at) step, ap (λ z. z .nodes) step))
+
     pub star-told : k .kind ≡ Kinds.star → LeafTold N N′ q 4 0 s 0 r → TokenTold leafTerm k x N D N′ D c r
     unfolding nodes spanE size lowFirst
     star-told e h = record {
       told = λ at there.
           rw (leaf-star at (c .at) (c .end) k x there e)
           (leaf-told N N′ D D (stepped c k) r (currentAddress (spanOf k)) 4 0 0 (c .diagnostics) (spanOf k) [] (rw (step, sp) at h) refl refl refl (added-nil D _) (sym (add-zero _)));
+      past = spared h;
     }
 
     module _ {v detail : ℕ} (w : (v ≡ s .start + 256 * s .end) × (s .start < 256) × (s .end < 256)) where
@@ -188,32 +199,38 @@ module _ (N D : List ℕ) (c : Counters) (k : Token) (x : List ℕ) where
       unfolding nodes spanE size
       string-told e f h = record {
         told = λ at there. rw (leaf-string at (c .at) (c .end) k x there e) (own-told (characterLiteral (k .detail) (spanOf k) (spanOf k)) 2 h (rw f) refl refl);
+        past = spared h;
       }
 
       pub local-told : k .kind ≡ Kinds.localIdentifier → detail ≡ 0 → LeafTold N N′ q 3 detail s v r → TokenTold leafTerm k x N D N′ D c r
       unfolding nodes spanE size
       local-told e f h = record {
         told = λ at there. rw (leaf-local at (c .at) (c .end) k x there e) (own-told (symbol (spanOf k) (spanOf k)) 3 h (rw f) refl refl);
+        past = spared h;
       }
 
   module _ {N′ D′ : List ℕ} {r : Step} {q : Counters} (step : q ≡ stepped c k) where
+    token-spared : {p : Reader Term} → ReaderTold p N D N′ D′ q r → Spared N N′ c (r .counters)
+    token-spared h j b = h .past j (omega (arith, b, h .stays, ap (λ z. z .at) step, ap (λ z. z .nodes) step))
+
     pub number-told : k .kind ≡ Kinds.number → ReaderTold (numberTerm k x) N D N′ D′ q r → TokenTold leafTerm k x N D N′ D′ c r
-    number-told e h = record { told = λ at there. rw (leaf-number at (c .at) (c .end) k x there e) ((rw step at h) .told at) }
+    number-told e h = record { told = λ at there. rw (leaf-number at (c .at) (c .end) k x there e) ((rw step at h) .told at); past = token-spared h }
 
     pub name-told : k .kind ≡ Kinds.identifier → ReaderTold (named k (reserved x)) N D N′ D′ q r → TokenTold leafTerm k x N D N′ D′ c r
-    name-told e h = record { told = λ at there. rw (leaf-name at (c .at) (c .end) k x there e) ((rw step at h) .told at) }
+    name-told e h = record { told = λ at there. rw (leaf-name at (c .at) (c .end) k x there e) ((rw step at h) .told at); past = token-spared h }
 
   pub error-told : {q : Counters} → q ≡ stepped c k → k .kind ≡ Kinds.error → TokenTold leafTerm k x N D N D c (record { parsed = parsed.Reported; counters = q })
   unfolding parsedOf sizeT nodesT
   error-told step e = record {
     told = λ at there.
         rw (leaf-error at (c .at) (c .end) k x there e, step)
-        (record { what = refl; at = refl; end = refl; total = sym (add-zero _); seen = sym (add-zero _); bytes = sym (append-nil _); past = refl; more = added-nil D _ });
+        (record { what = refl; at = refl; end = refl; total = sym (add-zero _); seen = sym (add-zero _); bytes = sym (append-nil _); more = added-nil D _ });
+    past = λ j b. refl;
   }
 
   pub other-told : (k .kind ≡ Kinds.star → ⊥) → (k .kind ≡ Kinds.number → ⊥) → (k .kind ≡ Kinds.stringLiteral → ⊥) → (k .kind ≡ Kinds.identifier → ⊥)
       → (k .kind ≡ Kinds.localIdentifier → ⊥) → (k .kind ≡ Kinds.error → ⊥) → TokenTold leafTerm k x N D N D c (record { parsed = parsed.Absent; counters = c })
-  other-told a b e f g h = record { told = λ at there. rw (leaf-other at (c .at) (c .end) k x there a b e f g h) (absent-told N D c) }
+  other-told a b e f g h = record { told = λ at there. rw (leaf-other at (c .at) (c .end) k x there a b e f g h) (absent-told N D c); past = λ j w. refl }
 
 -- ---- the depth
 

@@ -1,36 +1,34 @@
 -- What the returns of the terms and of the expression show: each cites its branch equation.
 -- Assumes nothing.
 use mathlib.Core.Path.{_≡_, refl, sym, _∙_, ap, ap₂, subst}
-use mathlib.Core.Bool.{Bool, true, false}
+use mathlib.Core.Bool.{true, false}
 use mathlib.Core.List.{List, [], _∷_, _++_, append-assoc, append-nil}
 use Prim.Native.Nat.{ℕ, _+_, _-_, _*_, _<_, _≤_}
 use native.Mathlib.Omega.{arith}
-use lib.ListN.{length, take, drop, length-append}
+use lib.ListN.{length, take, length-append}
 use lib.Seq.{take-take, take-at, length-take-le}
 use Rattle.names.specs.Kinds
 use Rattle.names.specs.Tokens.{count, tokenAt}
 use Rattle.names.specs.Places.{Place, nothing, stands, textOf, placed, place, below}
 use Rattle.names.specs.Places as Places
 use Rattle.names.specs.declared.tokens.Token.{Token}
-use Rattle.names.specs.declared.tokens.Peeked.{Peeked}
 use Rattle.names.specs.declared.tokens.Peeked.the-variants as peeked
 use Rattle.records.specs.Spans.{span, spanOf, noSpan}
-use Rattle.expressions.specs.Trees.{Expr, number, characterLiteral, symbol, currentAddress, unary, binary, spanE, withSpan, size}
+use Rattle.expressions.specs.Trees.{Expr, number, characterLiteral, symbol, currentAddress, unary, binary, spanE, size}
 use Rattle.records.specs.declared.spans.Span.{Span}
 use Rattle.records.specs.declared.diagnostics.Diagnostic.{Diagnostic}
 use Rattle.records.specs.declared.counters.Counters.{Counters}
-use Rattle.expressions.specs.declared.terms.Parsed.{Parsed}
 use Rattle.expressions.specs.declared.terms.Parsed.the-variants as parsed
 use Rattle.expressions.specs.declared.terms.Step.{Step}
 use Rattle.expressions.specs.declared.terms.Chain.{Chain}
 use Rattle.records.specs.Diagnostics.{plain, expressionExpected, plusIsNotAUnaryOperator, unclosedParenthesis}
-use Rattle.expressions.specs.Reader.{Reading, reading, Reader, _>>=_, run}
-use Rattle.expressions.specs.Expressions.{Term, read, reported, absent, unaryOperator, isUnary, negated, plussed, grouped, leafTerm, parsePrefix, parseExpression, parseExpressionFrom, fuel}
-use Rattle.records.specs.Nodes.{record14, lowFirst, zeros}
+use Rattle.expressions.specs.Reader.{Reading, reading, Reader, run}
+use Rattle.expressions.specs.Expressions.{Term, read, reported, absent, unaryOperator, isUnary, leafTerm, parsePrefix, parseExpression, parseExpressionFrom, fuel}
+use Rattle.records.specs.Nodes.{record14, lowFirst}
 use Rattle.expressions.specs.Records.{nodes}
-use Rattle.records.specs.Stores.{nodeBytes, written, added, PutTold, PushTold}
+use Rattle.records.specs.Stores.{written}
 use Rattle.records.specs.Counting.{stepped}
-use Rattle.expressions.specs.Terms.{NodeTold, parsedOf, sizeT, nodesT, Told, DeepTold, TokenTold, DepthTold, TermTold, PrefixTold, ExpressionTold, unaryTerm, plusTerm, groupTerm, BehindTold, Says, ClimbTold, withNodes, CloseTold, closed, unclosed}
+use Rattle.expressions.specs.Terms.{NodeTold, parsedOf, sizeT, nodesT, Told, DeepTold, TokenTold, DepthTold, TermTold, PrefixTold, ExpressionTold, unaryTerm, plusTerm, groupTerm, BehindTold, Says, ClimbTold, withNodes, CloseTold, Spared, closed, unclosed}
 use Rattle.expressions.specs.Laws as laws
 use Rattle.expressions.specs.Laws.{law-run}
 use Rattle.expressions.specs.Costs.{Clean, Cost, prefix-cost, expression-cost}
@@ -40,7 +38,7 @@ use Rattle.expressions.specs.Laws.{holds}
 use Rattle.expressions.specs.Costs.{size-withSpan}
 use Rattle.expressions.proofs.Branches as branch
 use Rattle.expressions.proofs.Groups.{not-closed, spanE-withSpan, widened}
-use Rattle.expressions.proofs.Leaves.{added-nil, added-more, added-one, absent-told}
+use Rattle.expressions.proofs.Leaves.{added-more, added-one, absent-told}
 
 -- ---- an answer's term
 
@@ -101,7 +99,6 @@ reports-more {s} {N} {D} {N₁} {D₁} {D₂} {n} {d} {r = r} {c = c} {q = q} x 
   total = omega (arith, g .same);
   seen = simp length-append (omega (arith, g .push .next, h .seen));
   bytes = rw (g .same ∙ e) (kept s N D N₁ D₁ n d r h long ∙ sym (append-nil _));
-  past = h .past;
   more = added-more D d (s .raised) (x ∷ []) (h .more) (f ∙ h .seen) (added-one D₁ D₂ (c .diagnostics) x _ (g .push));
 }
 
@@ -146,10 +143,11 @@ absent-quiet L T N D N₁ D₁ c room r g w =
     let n = absent-nothing L T room (c .at) (c .end) (what-absent _ (sym (g .told .what) ∙ w)) in
     (g .told .at ∙ n .0, omega (arith, g .told .seen, n .1))
 
-bounded : (p : Reader Term) (L T N D N′ D′ : List ℕ) (c : Counters) (r : Step) → Bounds (run p (place L T) (c .at) (c .end)) (count T) (c .at)
+bounded : (p : Reader Term) (L T N D N′ D′ : List ℕ) (c : Counters) (r : Step) → Spared N N′ c (r .counters) → Bounds (run p (place L T) (c .at) (c .end)) (count T) (c .at)
     → Told (run p (place L T) (c .at) (c .end)) N D N′ D′ (c .nodes) (c .diagnostics) r → TermTold (run p (place L T) (c .at) (c .end)) T N D N′ D′ c r
-bounded p L T N D N′ D′ c r b h = record {
+bounded p L T N D N′ D′ c r w b h = record {
   told = h;
+  past = w;
   on = omega (arith, b .on, h .at);
   within = omega (arith, b .within, h .at);
   few = omega (arith, b .few, h .at, h .total);
@@ -160,19 +158,19 @@ bounded p L T N D N′ D′ c r b h = record {
 
 module _ (L T N D : List ℕ) (c : Counters) (room : ℕ) (on : c .at ≤ count T) where
   -- whatever the reading is that the branch comes to
-  prefix-is : (s : Reading Term) → run (parsePrefix fuel room) (place L T) (c .at) (c .end) ≡ s → (N′ D′ : List ℕ) (r : Step) → Told s N D N′ D′ (c .nodes) (c .diagnostics) r
+  prefix-is : (s : Reading Term) → run (parsePrefix fuel room) (place L T) (c .at) (c .end) ≡ s → (N′ D′ : List ℕ) (r : Step) → Spared N N′ c (r .counters) → Told s N D N′ D′ (c .nodes) (c .diagnostics) r
       → PrefixTold L T N D N′ D′ c room r
-  prefix-is s e N′ D′ r h =
-      bounded (parsePrefix fuel room) L T N D N′ D′ c r
+  prefix-is s e N′ D′ r w h =
+      bounded (parsePrefix fuel room) L T N D N′ D′ c r w
       (bounds (parsePrefix fuel room) L T (c .at) (c .end) on (prefix-cost (place L T) 0 (clean (place L T)) fuel room (c .at) (c .end) 0 0)) (rw e h)
 
   pub prefix-full : {D′ : List ℕ} {r : Step} → room ≡ 0 → DepthTold T D D′ c r → PrefixTold L T N D N D′ c room r
-  prefix-full z h = prefix-is _ (branch.prefix-full room (place L T) (c .at) (c .end) z) N _ _ (h .told L N)
+  prefix-full z h = prefix-is _ (branch.prefix-full room (place L T) (c .at) (c .end) z) N _ _ (λ j b. refl) (h .told L N)
 
   module _ (more : room ≡ 0 → ⊥) where
     pub prefix-end : tokenAt T (c .at) ≡ peeked.End → PrefixTold L T N D N D c room (record { parsed = parsed.Absent; counters = c })
     unfolding place placed
-    prefix-end e = prefix-is _ (branch.prefix-end room (place L T) (c .at) (c .end) more (rw e)) N D _ (absent-told N D c)
+    prefix-end e = prefix-is _ (branch.prefix-end room (place L T) (c .at) (c .end) more (rw e)) N D _ (λ j b. refl) (absent-told N D c)
 
     module _ {k : Token} (t : tokenAt T (c .at) ≡ peeked.Is k) where
       abbrev text : List ℕ
@@ -182,8 +180,12 @@ module _ (L T N D : List ℕ) (c : Counters) (room : ℕ) (on : c .at ≤ count 
       there = Places.there L T (c .at) k t
 
       module _ {N′ D′ : List ℕ} {r : Step} {q : Counters} (step : q ≡ stepped c k) where
+        -- its first token has left room for a record
+        behind : {p : Reader Term} → BehindTold p L T N D N′ D′ q r → Spared N N′ c (r .counters)
+        behind h j b = h .past j (omega (arith, b, ap (λ z. z .at) step, ap (λ z. z .nodes) step))
+
         unary-tells : isUnary k text ≡ true → BehindTold (unaryTerm (room - 1) k) L T N D N′ D′ q r → PrefixTold L T N D N′ D′ c room r
-        unary-tells u h = prefix-is _ (branch.prefix-unary room (place L T) (c .at) (c .end) more k text there u) N′ D′ r ((rw step at h) .told)
+        unary-tells u h = prefix-is _ (branch.prefix-unary room (place L T) (c .at) (c .end) more k text there u) N′ D′ r (behind h) ((rw step at h) .told)
 
         pub prefix-minus : k .kind ≡ Kinds.minus → BehindTold (unaryTerm (room - 1) k) L T N D N′ D′ q r → PrefixTold L T N D N′ D′ c room r
         prefix-minus e h = unary-tells (branch.unary-minus k text e) h
@@ -193,16 +195,16 @@ module _ (L T N D : List ℕ) (c : Counters) (room : ℕ) (on : c .at ≤ count 
 
         pub prefix-plus : k .kind ≡ Kinds.plus → BehindTold (plusTerm (room - 1) k) L T N D N′ D′ q r → PrefixTold L T N D N′ D′ c room r
         prefix-plus e h =
-            prefix-is _ (branch.prefix-plus room (place L T) (c .at) (c .end) more k text there (branch.unary-not k text (λ f. omega arith) (λ f. omega arith)) e) N′ D′ r ((rw step at h) .told)
+            prefix-is _ (branch.prefix-plus room (place L T) (c .at) (c .end) more k text there (branch.unary-not k text (λ f. omega arith) (λ f. omega arith)) e) N′ D′ r (behind h) ((rw step at h) .told)
 
         pub prefix-group : k .kind ≡ Kinds.leftParen → BehindTold (groupTerm (room - 1) k) L T N D N′ D′ q r → PrefixTold L T N D N′ D′ c room r
         prefix-group e h =
-            prefix-is _ (branch.prefix-group room (place L T) (c .at) (c .end) more k text there (branch.unary-not k text (λ f. omega arith) (λ f. omega arith)) e) N′ D′ r ((rw step at h) .told)
+            prefix-is _ (branch.prefix-group room (place L T) (c .at) (c .end) more k text there (branch.unary-not k text (λ f. omega arith) (λ f. omega arith)) e) N′ D′ r (behind h) ((rw step at h) .told)
 
       pub prefix-leaf : {N′ D′ : List ℕ} {r : Step} → (k .kind ≡ Kinds.minus → ⊥) → (k .kind ≡ Kinds.tilde → ⊥) → (k .kind ≡ Kinds.plus → ⊥) → (k .kind ≡ Kinds.leftParen → ⊥)
           → TokenTold leafTerm k text N D N′ D′ c r → PrefixTold L T N D N′ D′ c room r
       prefix-leaf a b e f h =
-          prefix-is _ (branch.prefix-leaf room (place L T) (c .at) (c .end) more k text there (branch.unary-not k text a b) e f) _ _ _ (h .told (place L T) there)
+          prefix-is _ (branch.prefix-leaf room (place L T) (c .at) (c .end) more k text there (branch.unary-not k text a b) e f) _ _ _ (h .past) (h .told (place L T) there)
 
 -- ---- behind a minus or a tilde: the term there answers r
 
@@ -222,6 +224,7 @@ module _ (L T N D N₁ D₁ : List ℕ) (c : Counters) (room : ℕ) (r : Step) (
       let back : r .counters .nodes ≡ c .nodes = omega (arith, g .told .total ∙ ap (λ w. c .nodes + sizeT w) e, z) in
       record {
         told = rw eq (reports-more x (g .told) long refl refl back refl h);
+        past = λ j b. g .past j (omega (arith, b, h .at));
         on = omega (arith, g .on, h .at);
         within = omega (arith, g .within, h .at);
         few = omega (arith, g .few, h .at, h .same);
@@ -250,9 +253,9 @@ module _ (L T N D N₁ D₁ : List ℕ) (c : Counters) (room : ℕ) (r : Step) (
                     ∙ ap (λ z. z ++ record14 5 o (r .counters .nodes - 1) 255 (span (k .start) (x .end)) (lowFirst 8 0)) (g .told .bytes ∙ ap (λ v. take (14 * c .nodes) N ++ nodesT (c .nodes) v) (y .1))
                     ∙ stored-unary (take (14 * c .nodes) N) (c .nodes) (r .counters .nodes) o (y .0) (span (k .start) (x .end)) cnt
                     ∙ ap₂ (λ a z. take (14 * c .nodes) N ++ nodes (c .nodes) (unary a (y .0) (span (k .start) (z .end)))) u (y .2);
-                past = p .put .past ∙ g .told .past;
                 more = g .told .more;
               });
+          past = λ j b. p .put .past j (omega (arith, b, p .at, g .few)) ∙ g .past j (omega (arith, b, p .at));
           on = omega (arith, g .on, p .at);
           within = omega (arith, g .within, p .at);
           few = omega (arith, g .few, p .put .next, p .at);
@@ -264,6 +267,7 @@ module _ (L T N D N₁ D₁ : List ℕ) (c : Counters) (room : ℕ) (r : Step) (
         let y = what-reported (first .value) (sym (g .told .what) ∙ w) in
         record {
           told = rw (branch.negated-reported (parsePrefix fuel room) (place L T) (c .at) (c .end) k first refl y) (retold reported y (g .told));
+          past = λ j b. g .past j (omega (arith, b));
           on = g .on;
           within = g .within;
           few = omega (arith, g .few);
@@ -310,9 +314,9 @@ module _ (L T N D N₁ D₁ : List ℕ) (c : Counters) (room : ℕ) (r : Step) (
                 total = h .same ∙ g .told .total ∙ ap (λ v. c .nodes + sizeT v) (y .1);
                 seen = simp length-append (omega (arith, h .push .next, g .told .seen));
                 bytes = rw (h .same) (g .told .bytes ∙ ap (λ v. take (14 * c .nodes) N ++ nodesT (c .nodes) v) (y .1));
-                past = g .told .past;
                 more = added-more D (c .diagnostics) (first .raised) (plusIsNotAUnaryOperator (spanOf k) (spanE (y .0)) ∷ []) (g .told .more) (g .told .seen) (added-one D₁ D₂ (r .counters .diagnostics) _ _ (hz .push));
               });
+          past = λ j b. g .past j (omega (arith, b, h .at));
           on = omega (arith, g .on, h .at);
           within = omega (arith, g .within, h .at);
           few = omega (arith, g .few, h .at, h .same);
@@ -327,12 +331,12 @@ module _ (L T N D N₁ D₁ : List ℕ) (c : Counters) (room : ℕ) (r : Step) (
   pub expression-reports : c .at ≤ count T → r .parsed ≡ parsed.Reported → ExpressionTold L T N D N₁ D₁ c room r
   expression-reports on w =
       let y = what-reported (first .value) (sym (g .told .what) ∙ w) in
-      bounded (parseExpression room) L T N D N₁ D₁ c r (expression-bounds on) (rw (branch.expression-reported room (place L T) (c .at) (c .end) first refl y) (retold reported y (g .told)))
+      bounded (parseExpression room) L T N D N₁ D₁ c r (g .past) (expression-bounds on) (rw (branch.expression-reported room (place L T) (c .at) (c .end) first refl y) (retold reported y (g .told)))
 
   pub expression-absents : c .at ≤ count T → r .parsed ≡ parsed.Absent → ExpressionTold L T N D N₁ D₁ c room r
   expression-absents on w =
       let y = what-absent (first .value) (sym (g .told .what) ∙ w) in
-      bounded (parseExpression room) L T N D N₁ D₁ c r (expression-bounds on) (rw (branch.expression-absent room (place L T) (c .at) (c .end) first refl y) (retold absent y (g .told)))
+      bounded (parseExpression room) L T N D N₁ D₁ c r (g .past) (expression-bounds on) (rw (branch.expression-absent room (place L T) (c .at) (c .end) first refl y) (retold absent y (g .told)))
 
   pub expression-reads : {x : Span} {N₂ D₂ : List ℕ} {q : Chain} → c .at ≤ count T → count T ≤ 255 → r .parsed ≡ parsed.Read x → ClimbTold L T N₁ D₁ N₂ D₂ (r .counters) x 1 room q
       → ExpressionTold L T N D N₂ D₂ c room (record { parsed = parsed.Read (q .span); counters = q .counters })
@@ -342,7 +346,7 @@ module _ (L T N D N₁ D₁ : List ℕ) (c : Counters) (room : ℕ) (r : Step) (
       let Q = run (parseExpressionFrom fuel (parsePrefix fuel room) 1 (y .0)) (place L T) (r .counters .at) (r .counters .end) in
       let sq : Says Q D₁ N₂ D₂ (take (14 * c .nodes) N) (c .nodes) (r .counters .diagnostics) q
       = h .told fuel (omega (arith, fuel-enough)) (take (14 * c .nodes) N) (c .nodes) (y .0) (g .told .bytes ∙ ap (λ v. take (14 * c .nodes) N ++ nodesT (c .nodes) v) (y .1)) (g .told .total ∙ ap (λ v. c .nodes + sizeT v) (y .1)) (y .2) in
-      bounded (parseExpression room) L T N D N₂ D₂ c _ (expression-bounds on)
+      bounded (parseExpression room) L T N D N₂ D₂ c _ (λ j b. h .past j (omega (arith, b, g .few)) ∙ g .past j (omega (arith, b, h .on))) (expression-bounds on)
       (rw (branch.expression-read room (place L T) (c .at) (c .end) first refl (y .0) (y .1) Q (rw (g .told .at, g .told .end)))
       (record {
         what = ap parsed.Read (sq .span);
@@ -351,7 +355,6 @@ module _ (L T N D N₁ D₁ : List ℕ) (c : Counters) (room : ℕ) (r : Step) (
         total = sq .total;
         seen = simp length-append (omega (arith, sq .seen, g .told .seen));
         bytes = sq .bytes;
-        past = h .past ∙ g .told .past;
         more = added-more D (c .diagnostics) (first .raised) (Q .raised) (g .told .more) (g .told .seen) (sq .more);
       }))
 
@@ -367,6 +370,7 @@ module _ (L T N D N₁ D₁ : List ℕ) (c : Counters) (room : ℕ) (k : Token) 
       let y = what-reported (inner .value) (sym (g .told .what) ∙ w) in
       record {
         told = rw (branch.grouped-reported (parseExpression room) (place L T) (c .at) (c .end) k inner refl y) (retold reported y (g .told));
+        past = λ j b. g .past j (omega (arith, b));
         on = g .on;
         within = g .within;
         few = omega (arith, g .few);
@@ -382,6 +386,7 @@ module _ (L T N D N₁ D₁ : List ℕ) (c : Counters) (room : ℕ) (k : Token) 
       let hz = rw f at h in
       record {
         told = rw (branch.grouped-absent (parseExpression room) (place L T) (c .at) (c .end) k inner refl y) (reports-more (expressionExpected (spanOf k)) (g .told) long refl refl back refl hz);
+        past = λ j b. g .past j (omega (arith, b, h .at));
         on = omega (arith, g .on, h .at);
         within = omega (arith, g .within, h .at);
         few = omega (arith, g .few, h .at, h .same);
@@ -397,6 +402,7 @@ module _ (L T N D N₁ D₁ : List ℕ) (c : Counters) (room : ℕ) (k : Token) 
       rw e
       (record {
         told = rw (branch.grouped-open (parseExpression room) (place L T) (c .at) (c .end) k inner refl (y .0) (y .1) z) (reports-more (unclosedParenthesis (spanOf k)) (g .told) long refl refl refl refl h);
+        past = λ j b. g .past j (omega (arith, b, h .at));
         on = omega (arith, g .on, h .at);
         within = omega (arith, g .within, h .at);
         few = omega (arith, g .few, h .at, h .same, g .on);
@@ -426,9 +432,9 @@ module _ (L T N D N₁ D₁ : List ℕ) (c : Counters) (room : ℕ) (k : Token) 
               total = nodes′ ∙ cnt ∙ ap (λ z. c .nodes + z) (sym (size-withSpan (y .0) (span (k .start) (t .end))));
               seen = diags′ ∙ g .told .seen;
               bytes = rw (nodes′, hn) (wide .0);
-              past = rw hn (wide .1) ∙ g .told .past;
               more = hd ∙ g .told .more;
             });
+        past = λ j b. rw hn (wide .1 j (omega (arith, b, at′, g .few))) ∙ g .past j (omega (arith, b, at′));
         on = omega (arith, g .on, at′);
         within = omega (arith, below L T (inner .cursor) t _ th, g .told .at, at′);
         few = omega (arith, g .few, at′, nodes′);

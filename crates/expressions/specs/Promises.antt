@@ -14,12 +14,16 @@ use Rattle.expressions.specs.declared.terms.Chain.{Chain}
 use Rattle.expressions.specs.Reader.{Reading, run}
 use Rattle.expressions.specs.Expressions.{Term, parseExpression, expressionFrom}
 use Rattle.expressions.specs.Records.{nodes}
-use Rattle.records.specs.Stores.{nodeBytes, added}
-use Rattle.expressions.specs.Terms.{parsedOf, sizeT, nodesT, FitClimb}
+use Rattle.records.specs.Stores.{added}
+use Rattle.expressions.specs.Terms.{parsedOf, sizeT, nodesT}
 
--- the node store N with the bytes b of its first n records, zeros to the end of the 255, and the bytes past them as they were
-unfoldable pub filled : List ℕ → ℕ → List ℕ → List ℕ
-filled b n N = (b ++ replicate (nodeBytes - 14 * n) 0) ++ drop nodeBytes N
+-- the node store N with the bytes b of its first n records, zeros up to the m-th, and the bytes past them as they were
+unfoldable pub filled : List ℕ → ℕ → ℕ → List ℕ → List ℕ
+filled b n m N = (b ++ replicate (14 * m - 14 * n) 0) ++ drop (14 * m) N
+
+-- how many records a reading from the counters c to r may have written: one for each consumed token
+abbrev pub spent : Counters → Counters → ℕ
+spent c r = c .nodes + (r .at - c .at)
 
 -- the counters behind a reading, with n nodes in the store and d diagnostics before it
 abbrev pub countersOf : {A : Type 0} → Reading A → ℕ → ℕ → Counters
@@ -32,7 +36,7 @@ stepOf s n d = record { parsed = parsedOf (s .value); counters = countersOf s (n
 
 pub record StepPromise (s : Reading Term) (T N D N′ D′ : List ℕ) (c : Counters) (r : Step) : Type 0 where
   pub answer : r ≡ stepOf s (c .nodes) (c .diagnostics)
-  pub nodes : N′ ≡ filled (take (14 * c .nodes) N ++ nodesT (c .nodes) (s .value)) (c .nodes + sizeT (s .value)) N
+  pub nodes : N′ ≡ filled (take (14 * c .nodes) N ++ nodesT (c .nodes) (s .value)) (c .nodes + sizeT (s .value)) (spent c (r .counters)) N
   pub diagnostics : D′ ≡ added D (c .diagnostics) (s .raised)
   -- which bounds what is left of the stores
   pub on : c .at ≤ r .counters .at
@@ -60,14 +64,14 @@ pub record LeftStands (N : List ℕ) (n : ℕ) : Type 0 where
 abbrev pub chainOf : Reading Expr → ℕ → ℕ → Chain
 chainOf s b d = record { span = spanE (s .value); counters = countersOf s (b + size (s .value)) d }
 
-pub record ChainPromise (s : Reading Expr) (N D N′ D′ P : List ℕ) (b d : ℕ) (r : Chain) : Type 0 where
+pub record ChainPromise (s : Reading Expr) (N D N′ D′ P : List ℕ) (b d m : ℕ) (r : Chain) : Type 0 where
   pub answer : r ≡ chainOf s b d
-  pub nodes : N′ ≡ filled (P ++ nodes b (s .value)) (b + size (s .value)) N
+  pub nodes : N′ ≡ filled (P ++ nodes b (s .value)) (b + size (s .value)) m N
   pub diagnostics : D′ ≡ added D d (s .raised)
 
 pub record FromPromise (L T N D N′ D′ : List ℕ) (c : Counters) (group : Span) (limit : ℕ) (r : Chain) : Type 0 where
   pub told : (P : List ℕ) (b : ℕ) (e : Expr) → Stands N (c .nodes) P b e
-      → ChainPromise (run (expressionFrom limit (withSpan e group)) (place L T) (c .at) (c .end)) N D N′ D′ P b (c .diagnostics) r
+      → ChainPromise (run (expressionFrom limit (withSpan e group)) (place L T) (c .at) (c .end)) N D N′ D′ P b (c .diagnostics) (spent c (r .counters)) r
   pub some : 1 ≤ r .counters .nodes
   pub on : c .at ≤ r .counters .at
   pub within : r .counters .at ≤ count T

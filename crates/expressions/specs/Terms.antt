@@ -24,7 +24,7 @@ use Rattle.expressions.specs.Expressions.{Term, precedence, read, report
 use Rattle.records.specs.Nodes.{record14, lowFirst}
 use Rattle.expressions.specs.Records.{nodes}
 use Rattle.records.specs.Counting.{stepped}
-use Rattle.records.specs.Stores.{nodeBytes, written, added, PutTold, PushTold}
+use Rattle.records.specs.Stores.{written, added, PutTold, PushTold}
 
 -- ---- a term as the answer has it
 
@@ -51,8 +51,11 @@ pub record Told (s : Reading Term) (N D N′ D′ : List ℕ) (n d : ℕ) (r : S
   pub total : r .counters .nodes ≡ n + sizeT (s .value)
   pub seen : r .counters .diagnostics ≡ d + length (s .raised)
   pub bytes : take (14 * r .counters .nodes) N′ ≡ take (14 * n) N ++ nodesT n (s .value)
-  pub past : drop nodeBytes N′ ≡ drop nodeBytes N
   pub more : D′ ≡ added D d (s .raised)
+
+-- From the counters c to r a record is written for each consumed token at the most: the records past these stay
+abbrev pub Spared : List ℕ → List ℕ → Counters → Counters → Type 0
+Spared N N′ c r = (k : ℕ) → c .nodes + r .at ≤ k + c .at → drop (14 * k) N′ ≡ drop (14 * k) N
 
 -- ---- the parts that are no readers of their own
 
@@ -87,10 +90,13 @@ pub record LeafAsks (N D : List ℕ) (c : Counters) : Type 0 where
 -- the reader p, which looks at no place, from the counters c on
 pub record ReaderTold (p : Reader Term) (N D N′ D′ : List ℕ) (c : Counters) (r : Step) : Type 0 where
   pub told : (at : ℕ → Place) → Told (run p at (c .at) (c .end)) N D N′ D′ (c .nodes) (c .diagnostics) r
+  pub stays : r .counters .at ≡ c .at
+  pub past : (k : ℕ) → c .nodes < k → drop (14 * k) N′ ≡ drop (14 * k) N
 
 -- the reader p, where the token k with the text x stands at the cursor
 pub record TokenTold (p : Reader Term) (k : Token) (x : List ℕ) (N D N′ D′ : List ℕ) (c : Counters) (r : Step) : Type 0 where
   pub told : (at : ℕ → Place) → at (c .at) ≡ stands k x → Told (run p at (c .at) (c .end)) N D N′ D′ (c .nodes) (c .diagnostics) r
+  pub past : Spared N N′ c (r .counters)
 
 -- the depth is told, whatever the line
 pub record DepthTold (T D D′ : List ℕ) (c : Counters) (r : Step) : Type 0 where
@@ -131,6 +137,7 @@ pub record OperatedAsks (T : List ℕ) (c : Counters) (min : ℕ) (t : Token) : 
 
 pub record TermTold (s : Reading Term) (T N D N′ D′ : List ℕ) (c : Counters) (r : Step) : Type 0 where
   pub told : Told s N D N′ D′ (c .nodes) (c .diagnostics) r
+  pub past : Spared N N′ c (r .counters)
   pub on : c .at ≤ r .counters .at
   pub within : r .counters .at ≤ count T
   pub few : r .counters .nodes + c .at ≤ c .nodes + r .counters .at
@@ -154,6 +161,7 @@ groupTerm room k = parseExpression room >>= grouped k
 
 pub record BehindTold (p : Reader Term) (L T N D N′ D′ : List ℕ) (c : Counters) (r : Step) : Type 0 where
   pub told : Told (run p (place L T) (c .at) (c .end)) N D N′ D′ (c .nodes) (c .diagnostics) r
+  pub past : (k : ℕ) → c .nodes + r .counters .at + 1 ≤ k + c .at → drop (14 * k) N′ ≡ drop (14 * k) N
   pub on : c .at ≤ r .counters .at
   pub within : r .counters .at ≤ count T
   pub few : r .counters .nodes + c .at ≤ c .nodes + r .counters .at + 1
@@ -173,7 +181,7 @@ pub record Says (s : Reading Expr) (D N′ D′ P : List ℕ) (b d : ℕ) (r : C
 pub record ClimbTold (L T N D N′ D′ : List ℕ) (c : Counters) (left : Span) (min room : ℕ) (r : Chain) : Type 0 where
   pub told : (g : ℕ) → count T ≤ g + c .at → (P : List ℕ) (b : ℕ) (e : Expr) → take (14 * c .nodes) N ≡ P ++ nodes b e → c .nodes ≡ b + size e → left ≡ spanE e
       → Says (run (parseExpressionFrom g (parsePrefix fuel room) min e) (place L T) (c .at) (c .end)) D N′ D′ P b (c .diagnostics) r
-  pub past : drop nodeBytes N′ ≡ drop nodeBytes N
+  pub past : Spared N N′ c (r .counters)
   pub some : 0 < r .counters .nodes
   pub on : c .at ≤ r .counters .at
   pub within : r .counters .at ≤ count T

@@ -16,7 +16,7 @@ pub struct Setting {
     pub mark: usize,
 }
 
-// An expression. The records that failed terms have left behind are cleared.
+// An expression. The records that failed terms have left behind are cleared: they are among as many as there are consumed tokens.
 pub fn expression(
     line: &[u8],
     tokens: &[u8],
@@ -30,7 +30,7 @@ pub fn expression(
 {
     let r = parse_expression(line, tokens, nodes, diagnostics, c, setting.limit);
     let e = r.counters;
-    clear_nodes(nodes, e.nodes);
+    clear_nodes(nodes, e.nodes as usize, c.nodes as usize + (e.at - c.at));
     r
 }
 
@@ -50,6 +50,6 @@ pub fn expression_from(
     widen(nodes, c.nodes - 1, group);
     let r = parse_expression_from(line, tokens, nodes, diagnostics, c, group, 1, setting.limit);
     let e = r.counters;
-    clear_nodes(nodes, e.nodes);
+    clear_nodes(nodes, e.nodes as usize, c.nodes as usize + (e.at - c.at));
     r
 }

@@ -167,8 +167,8 @@ fn put_operator(
     c: Counters,
     kind: u8,
     operator: u8,
-    left: usize,
-    right: usize,
+    left: u32,
+    right: u32,
     span: Span,
 ) -> Counters
     requires { ⌜ PutAsks (now nodes) (c .nodes) left right ⌝ }
@@ -324,7 +324,7 @@ fn expected_after(token: Token) -> Diagnostic
 }
 
 // A group that is never closed: its nodes, from `first` on, are given up.
-fn unclosed(diagnostics: &mut [u8], first: usize, c: Counters, token: Token) -> Step
+fn unclosed(diagnostics: &mut [u8], first: u32, c: Counters, token: Token) -> Step
     requires { ⌜ 10 * c .diagnostics + 10 ≤ length (now diagnostics) ⌝ }
     ensures { λ r. ⌜ DeepTold (now (diagnostics .entry)) (now (diagnostics .exit)) (withNodes c first) (unclosedParenthesis (spanOf token)) r ⌝ }
 {
@@ -346,7 +346,7 @@ fn close_group(
     tokens: &[u8],
     nodes: &mut [u8],
     diagnostics: &mut [u8],
-    first: usize,
+    first: u32,
     c: Counters,
     token: Token,
 ) -> Step

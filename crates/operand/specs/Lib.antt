@@ -12,5 +12,6 @@ pub mod Readings
 pub mod Fuel
 pub mod Conditions
 pub mod Lengths
+pub mod Clearing
 pub mod Answers
 pub mod Trials

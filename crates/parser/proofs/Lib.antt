@@ -10,3 +10,4 @@ pub mod Trees
 pub mod Inners
 pub mod Holdings
 pub mod Operations
+pub mod Cleared

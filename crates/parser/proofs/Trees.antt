@@ -5,7 +5,7 @@ use mathlib.Core.List.{List, _++_, append-assoc}
 use Prim.Native.Nat.{ℕ, _+_, _-_, _*_, _≤_, _<_}
 use native.Mathlib.Omega.{arith}
 use lib.ListN.{length, take, drop, replicate, length-append, length-replicate}
-use lib.Seq.{take-at, drop-at, length-take-le}
+use lib.Seq.{take-at, drop-append-add, drop-drop, length-take-le}
 use Rattle.names.specs.Places.{place}
 use Rattle.records.specs.declared.spans.Span.{Span}
 use Rattle.records.specs.declared.counters.Counters.{Counters}
@@ -17,7 +17,6 @@ use Rattle.expressions.specs.Expressions.{Term, read, reported, absent, parseEx
 use Rattle.expressions.specs.Laws.{law-run}
 use Rattle.expressions.specs.Promises.{filled, ExpressionPromise, Stands, FromPromise}
 use Rattle.expressions.specs.Reader.{run}
-use Rattle.records.specs.Nodes.{lowFirst}
 use Rattle.expressions.specs.Records.{nodes, length-nodes}
 use Rattle.records.specs.Stores.{nodeBytes}
 use Rattle.expressions.specs.Terms.{parsedOf, sizeT, nodesT, Fit, FitClimb}
@@ -76,15 +75,20 @@ node-bytes : nodeBytes ≡ 3570
 unfolding nodeBytes
 node-bytes = refl
 
--- the bytes b of n records, the rest cleared
-pub filled-take : (b : List ℕ) (n : ℕ) (N : List ℕ) → length b ≡ 14 * n → take (14 * n) (filled b n N) ≡ b
+-- the bytes b of n records, those up to the m-th cleared
+pub filled-take : (b : List ℕ) (n m : ℕ) (N : List ℕ) → length b ≡ 14 * n → take (14 * n) (filled b n m N) ≡ b
 unfolding filled
-filled-take b n N e = ap (take (14 * n)) (append-assoc b _ _) ∙ take-at b _ (14 * n) e
+filled-take b n m N e = ap (take (14 * n)) (append-assoc b _ _) ∙ take-at b _ (14 * n) e
 
 -- the bytes past all 255
-pub filled-past : (b : List ℕ) (n : ℕ) (N : List ℕ) → length b ≡ 14 * n → n ≤ 255 → drop nodeBytes (filled b n N) ≡ drop nodeBytes N
+pub filled-past : (b : List ℕ) (n m : ℕ) (N : List ℕ) → length b ≡ 14 * n → n ≤ m → m ≤ 255 → drop nodeBytes (filled b n m N) ≡ drop nodeBytes N
 unfolding filled
-filled-past b n N e l = drop-at (b ++ replicate (nodeBytes - 14 * n) 0) (drop nodeBytes N) nodeBytes (simp (length-append, length-replicate) (omega (arith, node-bytes)))
+filled-past b n m N e l g =
+    let p : List ℕ = b ++ replicate (14 * m - 14 * n) 0 in
+    let k : ℕ = nodeBytes - 14 * m in
+    let f : nodeBytes ≡ length p + k = simp (length-append, length-replicate) (omega (arith, node-bytes)) in
+    let w : 14 * m + k ≡ nodeBytes = omega (arith, node-bytes) in
+    ap (λ j. drop j (p ++ drop (14 * m) N)) f ∙ drop-append-add p (drop (14 * m) N) k ∙ drop-drop k (14 * m) N ∙ ap (λ j. drop j N) w
 
 -- ---- a term
 
@@ -122,7 +126,7 @@ module _ (L : List ℕ) {T N D N′ D′ : List ℕ} {c : Counters} (limit : ℕ
   total = ap (λ z. z .counters .nodes) (p .answer)
 
   bytes : take (14 * r .counters .nodes) N′ ≡ take (14 * c .nodes) N ++ nodesT (c .nodes) term
-  bytes = ap (λ z. take (14 * z) N′) total ∙ ap (take (14 * (c .nodes + sizeT term))) (p .nodes) ∙ filled-take _ _ N bytes-term
+  bytes = ap (λ z. take (14 * z) N′) total ∙ ap (take (14 * (c .nodes + sizeT term))) (p .nodes) ∙ filled-take _ _ _ N bytes-term
 
   stored : (t : Term) → term ≡ t → StoredT N N′ (c .nodes) t (r .counters)
   unfolding nodesT sizeT
@@ -134,7 +138,7 @@ module _ (L : List ℕ) {T N D N′ D′ : List ℕ} {c : Counters} (limit : ℕ
   few-nodes = omega (arith, p .few, p .within, h .nodesFit, h .room .within)
 
   pub term-past : drop nodeBytes N′ ≡ drop nodeBytes N
-  term-past = ap (drop nodeBytes) (p .nodes) ∙ filled-past _ _ N bytes-term (omega (arith, few-nodes, total))
+  term-past = ap (drop nodeBytes) (p .nodes) ∙ filled-past _ _ _ N bytes-term (omega (arith, total, p .few, p .on)) (omega (arith, p .on, p .within, h .nodesFit, h .room .within))
 
   pub term-told : Told parsedOf (StoredT N N′ (c .nodes)) (parseExpression limit) L T D D′ c (r .parsed) (r .counters)
   term-told = record {
@@ -212,7 +216,7 @@ module _ (L : List ℕ) {T N D N′ D′ : List ℕ} {c : Counters} (group : Spa
         simp length-append (omega (arith, length-nodes b on, within-store h, st .total, simp length-append at (ap length (st .bytes)), length-nodes b e))
 
     pub from-past : drop nodeBytes N′ ≡ drop nodeBytes N
-    from-past = ap (drop nodeBytes) (p .told P b e st .nodes) ∙ filled-past _ _ N bytes-from (omega (arith, p .few, p .within, h .nodesFit, h .room .within, from-total))
+    from-past = ap (drop nodeBytes) (p .told P b e st .nodes) ∙ filled-past _ _ _ N bytes-from (omega (arith, p .few, p .on, from-total)) (omega (arith, p .on, p .within, h .nodesFit, h .room .within))
 
     pub from-told : Told spanE (StoredFrom P N′ b) (expressionFrom limit (withSpan e group)) L T D D′ c (r .span) (r .counters)
     from-told =
@@ -223,5 +227,5 @@ module _ (L : List ℕ) {T N D N′ D′ : List ℕ} {c : Counters} (group : Spa
           end = ap (λ z. z .counters .end) (q .answer);
           seen = ap (λ z. z .counters .diagnostics) (q .answer);
           more = q .diagnostics;
-          held = (ap (λ z. take (14 * z) N′) from-total ∙ ap (take (14 * (b + size on))) (q .nodes) ∙ filled-take _ _ N bytes-from, from-total);
+          held = (ap (λ z. take (14 * z) N′) from-total ∙ ap (take (14 * (b + size on))) (q .nodes) ∙ filled-take _ _ _ N bytes-from, from-total);
         }

@@ -20,6 +20,7 @@ use Rattle.expressions.specs.Expressions.{fuel}
 use Rattle.expressions.specs.Laws.{holds}
 use Rattle.expressions.specs.Reader.{is, _>>=_, run}
 use Rattle.records.specs.Stores.{nodeBytes}
+use Rattle.operand.specs.Clearing.{all-records}
 use Rattle.records.specs.Counting.{stepped}
 use Rattle.expressions.specs.Terms.{NodeTold}
 use Rattle.operand.specs.Operands.{RegisterListItem, single, range, Operand, Maybe, some, none}
@@ -187,7 +188,7 @@ module _ {L T N₀ D₀ N D D₁ : List ℕ} {c : Counters} {o : ℕ} {first : R
         bytes = n .put .bytes
             ∙ ap₂ _++_ (ap (λ m. take (14 * m) N) (q .same) ∙ w .bytes) (ap itemBytes (sym (x .same)) ∙ item-bytes (x .item))
             ∙ sym (records-more (w .items) (x .item));
-        past = n .put .past ∙ w .past;
+        past = subst (λ z. drop z N₁ ≡ drop z N) all-records (n .put .past 255 (omega (arith, w .few, w .room .within, w .room .few, q .same))) ∙ w .past;
         few = omega (arith, w .few, n .at);
         room = room-on (w .room) d (omega (arith, n .at)) (omega (arith, n .at, n .seen));
         whole = λ N′ D′ v s t. w .whole N′ D′ v s (looped o (w .items) r (w .room .few) (bound h (x .is-some)

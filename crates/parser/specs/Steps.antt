@@ -12,12 +12,13 @@ use Rattle.names.specs.declared.tokens.Peeked.the-variants as peeked
 use Rattle.records.specs.declared.diagnostics.Diagnostic.{Diagnostic}
 use Rattle.records.specs.declared.counters.Counters.{Counters}
 use Rattle.records.specs.Diagnostics.{diagnosticRecord}
-use Rattle.expressions.specs.Reader.{is, Reader, answer, bump, run, _>>=_}
+use Rattle.expressions.specs.Reader.{is, Reading, Reader, answer, bump, run, _>>=_}
 use Rattle.records.specs.Stores.{written, nodeBytes, added}
 use Rattle.records.specs.Counting.{stepped}
 use Rattle.operand.specs.Operands.{Displacement, displaced, undisplaced, Operand, Maybe, some, none}
 use Rattle.operand.specs.Operand.{registers, expectClose, indexedOperand, closedIndex, indexAlone, parseIndexRegister}
-use Rattle.operand.specs.Records.{sizeD, nodesD, sizeO, nodesO}
+use Rattle.operand.specs.Records.{sizeD, nodesD, sizeO, nodesO, sizeM}
+use Rattle.operand.specs.Entry.{nodesAfter}
 use Rattle.operand.specs.Forms.{sizedOf, formOf, recordOf, operandRead}
 use Rattle.records.specs.declared.spans.Span.{Span}
 use Rattle.expressions.specs.declared.reading.Setting.{Setting}
@@ -124,7 +125,16 @@ commaAndIndex s o shape base = bump (is Kinds.comma) (λ c y. withIndex s o shap
 abbrev pub Stored : List ℕ → Maybe Operand → Counters → Type 0
 Stored N′ x r = HeldBy (take (14 * r .nodes) N′) (r .nodes) x
 
--- a reader of an operand, from no node on
+-- a reader of an operand, from no node on. The records behind those that count are free, and without an operand how many count
 pub record OperandTold (p : Reader (Maybe Operand)) (L T N D N′ D′ : List ℕ) (c : Counters) (r : OperandStep) : Type 0 where
   pub told : Told operandRead (Stored N′) p L T D D′ c (r .operand) (r .counters)
   pub past : drop nodeBytes N′ ≡ drop nodeBytes N
+
+-- ---- what the public function tells
+
+-- the reading s, from no node and d diagnostics on: the answer, the counters and every byte of both stores
+pub record OperandPromise (s : Reading (Maybe Operand)) (N D N′ D′ : List ℕ) (d : ℕ) (r : OperandStep) : Type 0 where
+  pub operand : r .operand ≡ operandRead (s .value)
+  pub counters : r .counters ≡ record { at = s .cursor; end = s .end; nodes = sizeM (s .value); diagnostics = d + length (s .raised) }
+  pub nodes : N′ ≡ nodesAfter (s .value) N
+  pub diagnostics : D′ ≡ added D d (s .raised)

@@ -5,7 +5,8 @@ mod indirect;
 mod lists;
 mod operands;
 mod places;
+mod reading;
 mod reports;
 mod steps;
 
-pub use operands::operand_from;
+pub use reading::operand_at;

@@ -210,8 +210,8 @@ fn put_item(nodes: &mut [u8], c: Counters, item: Item) -> Counters
     let to = item.to.span;
     let ends = (to.start as u64) + 256 * (to.end as u64);
     let value = (from.start as u64) + 256 * (from.end as u64) + 65536 * ends;
-    let left = item.from.index as usize;
-    let right = item.to.index as usize;
+    let left = item.from.index as u32;
+    let right = item.to.index as u32;
     let m = put_node(nodes, c.nodes, item.kind, 0, left, right, item.span, value);
     Counters {
         at: c.at,

@@ -648,7 +648,7 @@ fn minus_operand(
 }
 
 // The operand whose first token stands at the cursor.
-pub fn operand_from(
+pub(crate) fn operand_from(
     line: &[u8],
     tokens: &[u8],
     nodes: &mut [u8],

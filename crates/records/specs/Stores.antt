@@ -27,11 +27,11 @@ pub record PutAsks (N : List ℕ) (n left right : ℕ) : Type 0 where
   pub left-small : left < 256
   pub right-small : right < 256
 
--- the record b is the n-th, the records before it and the bytes past all 255 stay
+-- the record b is the n-th; all other bytes stay
 pub record PutTold (N N′ : List ℕ) (n : ℕ) (b : List ℕ) (r : ℕ) : Type 0 where
   pub next : r ≡ n + 1
   pub bytes : take (14 * r) N′ ≡ take (14 * n) N ++ b
-  pub past : drop nodeBytes N′ ≡ drop nodeBytes N
+  pub past : (k : ℕ) → n < k → drop (14 * k) N′ ≡ drop (14 * k) N
   pub long : length N′ ≡ length N
 
 -- ---- a diagnostic

@@ -7,10 +7,10 @@ use Prim.Native.Nat.{ℕ, suc, _+_, _-_, _*_, _≤_, _<_}
 use native.Mathlib.Omega.{arith}
 use native.Mathlib.Numerals.{add-one}
 use lib.ListN.{length, take, drop, getD, set, replicate, length-append, length-take, length-drop, length-replicate, take-append-drop, replicate-append-replicate}
-use lib.Seq.{drop-cons, set-at, append-snoc, paste, paste-zero, paste-suc, length-paste, take-length, take-at, drop-append-add, drop-drop}
+use lib.Seq.{drop-cons, set-at, append-snoc, paste, paste-suc, take-length, take-at, drop-append-add, drop-drop}
 use Rattle.records.specs.Diagnostics.{diagnosticRecord}
 use Rattle.records.specs.declared.diagnostics.Diagnostic.{Diagnostic}
-use Rattle.records.specs.Stores.{written, cleared, nodeBytes, added, PutAsks, PutTold}
+use Rattle.records.specs.Stores.{written, cleared, added, PutAsks, PutTold}
 
 -- one byte more
 pub paste-on : (d : List ℕ) (at : ℕ) (s : List ℕ) (j : ℕ) → at + j < length d → j < length s
@@ -53,13 +53,12 @@ written-more N at b c h =
 -- ---- a record
 
 pub put-told : (N N′ : List ℕ) (n left right : ℕ) (b : List ℕ) → PutAsks N n left right → length b ≡ 14 → N′ ≡ written N (14 * n) b → PutTold N N′ n b (n + 1)
-unfolding nodeBytes
 put-told N N′ n left right b asks e h = record {
   next = refl;
   bytes =
       let f : 14 * (n + 1) ≡ 14 * n + length b = omega arith in
       rw (h, f) (written-take N (14 * n) b (omega (arith, asks .long, asks .number)));
-  past = rw h (written-past N (14 * n) b 3570 (omega (arith, asks .long, asks .number)) (omega (arith, asks .number)));
+  past = λ k more. rw h (written-past N (14 * n) b (14 * k) (omega (arith, asks .long, asks .number)) (omega (arith, asks .number)));
   long = rw h (length-written N (14 * n) b (omega (arith, asks .long, asks .number)));
 }
 
@@ -78,10 +77,6 @@ cleared-more N f i le on =
     ∙ sym (append-snoc (take f N ++ replicate (i - f) 0) 0 (drop (suc i) N))
     ∙ ap (λ l. l ++ drop (suc i) N) (append-assoc (take f N) (replicate (i - f) 0) (0 ∷ []) ∙ ap (λ l. take f N ++ l) (replicate-append-replicate (i - f) 1 0))
     ∙ ap₂ (λ k j. (take f N ++ replicate k 0) ++ drop j N) e (sym (add-one i))
-
-pub cleared-all : (N N′ : List ℕ) (f i : ℕ) → N′ ≡ cleared N f i → i ≡ 3570 → N′ ≡ cleared N f nodeBytes
-unfolding nodeBytes
-cleared-all N N′ f i h e = h ∙ ap (cleared N f) e
 
 -- ---- diagnostics, one run after the other
 

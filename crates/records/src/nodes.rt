@@ -6,19 +6,19 @@ ghost use mathlib.Core.List.{[], _∷_};
 ghost use Prim.Native.Nat.{_+_, _*_, _≤_, _<_};
 ghost use lib.ListN.{length};
 ghost use Rattle.records.specs.Nodes.{record14, lowFirst};
-ghost use Rattle.records.specs.Stores.{written, cleared, nodeBytes, PutAsks, PutTold};
+ghost use Rattle.records.specs.Stores.{written, cleared, PutAsks, PutTold};
 
 // Writes the node record n, and returns the next number. The eight last bytes are the value, the low byte first.
 pub fn put_node(
     nodes: &mut [u8],
-    n: usize,
+    n: u32,
     kind: u8,
     detail: u8,
-    left: usize,
-    right: usize,
+    left: u32,
+    right: u32,
     span: Span,
     value: u64,
-) -> usize
+) -> u32
     requires { ⌜ PutAsks (now nodes) n left right ⌝ }
     ensures { λ r. ⌜ PutTold (now (nodes .entry)) (now (nodes .exit)) n (record14 kind detail left right span (lowFirst 8 value)) r ⌝ }
 {
@@ -45,26 +45,27 @@ pub fn put_node(
         (v6 % 256) as u8,
         (v7 % 256) as u8,
     ];
-    write(nodes, 14 * n, &record);
+    write(nodes, 14 * (n as usize), &record);
     n + 1
 }
 
 // Gives the node record n another span.
-pub fn widen(nodes: &mut [u8], n: usize, span: Span)
+pub fn widen(nodes: &mut [u8], n: u32, span: Span)
     requires { ⌜ (n < 255) × (3570 ≤ length (now nodes)) ⌝ }
     ensures { λ _. ⌜ now (nodes .exit) ≡ written (now (nodes .entry)) (14 * n + 4) (span .start ∷ span .end ∷ []) ⌝ }
 {
     let bytes = [span.start, span.end];
-    write(nodes, 14 * n + 4, &bytes);
+    write(nodes, 14 * (n as usize) + 4, &bytes);
 }
 
-// Sets the bytes of the node records from the n-th on to 0.
-pub fn clear_nodes(nodes: &mut [u8], n: usize)
-    requires { ⌜ (n ≤ 255) × (3570 ≤ length (now nodes)) ⌝ }
-    ensures { λ _. ⌜ now (nodes .exit) ≡ cleared (now (nodes .entry)) (14 * n) nodeBytes ⌝ }
+// Sets the bytes of the node records from the n-th up to the m-th to 0.
+pub fn clear_nodes(nodes: &mut [u8], n: usize, m: usize)
+    requires { ⌜ (n ≤ m) × (m ≤ 255) × (3570 ≤ length (now nodes)) ⌝ }
+    ensures { λ _. ⌜ now (nodes .exit) ≡ cleared (now (nodes .entry)) (14 * n) (14 * m) ⌝ }
 {
+    let end = 14 * m;
     let mut i = 14 * n;
-    while i < 3570 {
+    while i < end {
         nodes[i] = 0;
         i += 1;
     }

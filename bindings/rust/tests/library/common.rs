@@ -32,7 +32,8 @@ impl Input {
     /// Makes the call. A refusal must leave all as it was.
     pub fn read(&mut self) -> Result<Answer, Refusal> {
         let before = self.clone();
-        let answer = sagdrif::parse_operand(
+        let mut answer = Answer::new();
+        let refused = sagdrif::parse_operand(
             &self.line,
             &self.tokens,
             self.start,
@@ -40,17 +41,22 @@ impl Input {
             &mut self.nodes,
             &mut self.diagnostics,
             self.used,
+            &mut answer,
         );
-        match answer {
-            Ok(answer) => self.stores_are_told(&before, answer),
-            Err(_) => assert_eq!(*self, before, "a refusal writes nothing"),
+        match refused {
+            Ok(()) => self.stores_are_told(&before, answer),
+            Err(_) => assert_eq!(
+                (&*self, answer),
+                (&before, Answer::new()),
+                "a refusal writes nothing"
+            ),
         }
-        answer
+        refused.map(|()| answer)
     }
 
     /// Every byte that no record takes is zero or stays, as document 01 says.
     fn stores_are_told(&self, before: &Input, answer: Answer) {
-        let used = NODE * answer.nodes;
+        let used = NODE * answer.nodes();
         assert!(self.nodes[used..sagdrif::NODES_BYTES]
             .iter()
             .all(|byte| *byte == 0));
@@ -60,7 +66,7 @@ impl Input {
         );
         let (from, to) = (
             DIAGNOSTIC * self.used,
-            DIAGNOSTIC * (self.used + answer.diagnostics),
+            DIAGNOSTIC * (self.used + answer.diagnostics()),
         );
         assert_eq!(self.diagnostics[..from], before.diagnostics[..from]);
         assert_eq!(self.diagnostics[to..], before.diagnostics[to..]);
@@ -72,21 +78,10 @@ impl Input {
             Ok(answer) => answer,
             Err(refusal) => return hex::encode(&[2, refusal as u8]),
         };
-        let count = (answer.diagnostics as u16).to_le_bytes();
-        let kind = u8::from(answer.operand.is_none());
-        let mut bytes = vec![
-            kind,
-            answer.cursor as u8,
-            answer.nodes as u8,
-            count[0],
-            count[1],
-        ];
-        if let Some(operand) = answer.operand {
-            bytes.extend(operand.record);
-        }
+        let mut bytes = answer.line_head().to_vec();
         let from = DIAGNOSTIC * self.used;
-        bytes.extend(&self.nodes[..NODE * answer.nodes]);
-        bytes.extend(&self.diagnostics[from..from + DIAGNOSTIC * answer.diagnostics]);
+        bytes.extend(&self.nodes[..NODE * answer.nodes()]);
+        bytes.extend(&self.diagnostics[from..from + DIAGNOSTIC * answer.diagnostics()]);
         hex::encode(&bytes)
     }
 }

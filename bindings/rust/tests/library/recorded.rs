@@ -41,7 +41,10 @@ fn every_recorded_frame_has_its_answer() {
 fn a_list_has_its_mask() {
     let tokens = [0, 0, 0, 2, 15, 0, 2, 3, 0, 0, 3, 5, 17, 0, 5, 6, 0, 0, 6, 8];
     let answer = Input::new(b"d0-d2/sp", &tokens, 0, 255).read().unwrap();
-    let operand = answer.operand.unwrap();
+    let operand = answer.operand().unwrap();
     assert_eq!((operand.record[0], operand.mask), (14, 0x8007));
-    assert_eq!((answer.cursor, answer.nodes, answer.diagnostics), (5, 2, 0));
+    assert_eq!(
+        (answer.cursor(), answer.nodes(), answer.diagnostics()),
+        (5, 2, 0)
+    );
 }

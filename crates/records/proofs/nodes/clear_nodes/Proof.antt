@@ -5,16 +5,19 @@ use Prim.Native.Nat.{_≤_, _-_, _*_}
 use native.Mathlib.Omega.{arith}
 use lib.ListN.{length, set, length-set}
 use Rattle.records.specs.Stores.{cleared}
-use Rattle.records.specs.Written.{cleared-none, cleared-more, cleared-all}
+use Rattle.records.specs.Written.{cleared-none, cleared-more}
 use borrow.Author.Needs.{needs}
 use Rattle.records.proofs.nodes.clear_nodes.Statement.{statement}
 use Rattle.records.proofs.nodes.clear_nodes.Tie as tie
 
 abbrev Inv-loop : tie.InvT-loop
-Inv-loop nodes₀ n i₀ nodes i = (nodes ≡ cleared nodes₀ (14 * n) i) × (14 * n ≤ i) × (i ≤ 3570) × (length nodes ≡ length nodes₀) × (3570 ≤ length nodes₀)
+Inv-loop nodes₀ n m end i₀ nodes i = (nodes ≡ cleared nodes₀ (14 * n) i) × (14 * n ≤ i) × (i ≤ 14 * m) × (length nodes ≡ length nodes₀) × (14 * m ≤ length nodes₀)
 
 abbrev μ-loop : tie.MeasureT-loop
-μ-loop nodes₀ n i₀ nodes i = 3570 - i
+μ-loop nodes₀ n m end i₀ nodes i = 14 * m - i
+
+mul-end : tie.Need-mul-end Inv-loop μ-loop
+mul-end c = search needs
 
 mul-i : tie.Need-mul-i Inv-loop μ-loop
 mul-i c = search needs
@@ -45,7 +48,8 @@ same-length c = omega arith
 returns : tie.Need-returns Inv-loop μ-loop
 returns c =
     let c-loop = c .before .loop in
-    cleared-all _ _ _ _ (c-loop .inv .0) (omega arith)
+    let c-args = c .before .before .args in
+    c-loop .inv .0 ∙ ap (cleared (c-args .nodes .now) (14 * c-args .n)) (omega arith)
 
 pub clear-nodes-spec : {M : Type 1} → statement M
 clear-nodes-spec =
@@ -53,6 +57,7 @@ clear-nodes-spec =
     (tie.spec
     Inv-loop
     μ-loop
+    mul-end
     mul-i
     loop-holds
     slice-write-nodes
