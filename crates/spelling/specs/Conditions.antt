@@ -22,7 +22,8 @@ use Rattle.spelling.specs.Signs.{unreserved, ordinary}
 use Rattle.spelling.specs.Spelling.{Closed, Spelled}
 use Rattle.spelling.specs.Silence.{Unerring, silent-run}
 use Rattle.spelling.specs.Spelled.{operand-read}
-use Rattle.spelling.specs.Answered.{Found, operand-sound}
+use Rattle.spelling.specs.Grouped.{Found}
+use Rattle.spelling.specs.Answered.{operand-sound}
 
 -- the operand y, the cursor at j, and no diagnostic
 pub record Answers (r : Reading (Maybe Operand)) (y : Operand) (j : ℕ) : Type 0 where

@@ -15,11 +15,14 @@ pub mod Looks
 pub mod Parts
 pub mod Inner
 pub mod Openings
+pub mod Beginnings
 pub mod Spelled
 -- from a reading to its spelling
 pub mod Silence
 pub mod Sound
 pub mod Found
 pub mod Enclosed
+pub mod Hits
+pub mod Grouped
 pub mod Answered
 pub mod Wider

@@ -1,6 +1,6 @@
 -- Every spelling that is closed is read as its operand, up to its end, with no diagnostic.
 -- Assumes nothing.
-use mathlib.Core.Path.{_≡_, refl, sym, _∙_, ap}
+use mathlib.Core.Path.{_≡_, refl, sym, _∙_}
 use mathlib.Core.Bool.{Bool, true, false}
 use mathlib.Core.List.{List, []}
 use mathlib.Core.Logic.{_⊎_, inl, inr}
@@ -31,48 +31,16 @@ use Rattle.operand.specs.declared.forms.BaseRegister.{BaseRegister}
 use Rattle.operand.specs.declared.forms.Index.{Index}
 use Rattle.operand.specs.declared.forms.Registers.{Registers}
 use Rattle.spelling.specs.Signs.{Sign, Name, RegisterAt, a-register, CounterAt, ordinary}
-use Rattle.spelling.specs.Expressions.{Spells, a-number, a-literal, a-name, a-local, an-address, a-unary, a-group, own-group, tighter, joined}
-use Rattle.spelling.specs.Expressions as E
 use Rattle.spelling.specs.Spelling
 use Rattle.spelling.specs.Spelling.{Closed, Letter, Sized, no-size, a-size, AddressAt, an-address, Indexes, BaseAndIndex, Full, Expression, Opening, Inside, Behind, Items, last, more, a-single, a-range, Spelling}
-use Rattle.spelling.specs.Reads.{Reads, answers, then, steps, passes, sees, misses, either-way, comes, other, kinded, same-sign}
-use Rattle.spelling.specs.Climbs.{Ends, ends-by, unary-sign, leads, climb-stop, First, a-term, the-own, expression-read, looser}
+use Rattle.spelling.specs.Reads.{Reads, answers, then, steps, passes, sees, misses, comes, other, kinded, same-sign}
+use Rattle.spelling.specs.Climbs.{Ends, ends-by, leads, climb-stop, First, a-term, the-own, expression-read, looser}
 use Rattle.spelling.specs.Names
 use Rattle.spelling.specs.Looks.{held, looks-register, looks-counter, starts, stops-close, stops-comma, stops-closed, closed-kind, closed-fails}
 use Rattle.spelling.specs.Parts.{letter-read, no-letter, registered, index-read, bases-read, begun, Seen}
 use Rattle.spelling.specs.Inner.{ordinary-free, letter-ends, behind-own, inside-read, inside-rises, behind-read, first-at, items-read}
 use Rattle.spelling.specs.Openings.{BaseLike, address, counter, Shut, no-full, no-start, base-not-full, base-starts, full-starts, full-bases}
-
-different : {at : ℕ → Place} {k n i : ℕ} → Sign at k i → Sign at n i → eqb k n ≡ false → eqb n n ≡ true → ⊥
-different {n = n} s t q r = true-false (sym r ∙ ap (λ k. eqb k n) (sym (same-sign s t)) ∙ q)
-
--- ---- a minus, a parenthesis and a register begin no expression
-
-module _ (s : Setting) {at : ℕ → Place} {own : ℕ} where
-  group-inner : {m room i j : ℕ} {e : Expr} → Spells at (ordinary s) own m room i j e → Sign at Kinds.leftParen i → holds aRegister (at (i + 1)) ≡ false
-  group-inner (a-number t w) g = absurd (different t g refl refl)
-  group-inner (a-literal t) g = absurd (different t g refl refl)
-  group-inner (a-name t q) g = absurd (different t g refl refl)
-  group-inner (a-local t) g = absurd (different t g refl refl)
-  group-inner (E.an-address t) g = absurd (different t g refl refl)
-  group-inner (a-unary t u h) g = absurd (different t g (unary-sign u) refl)
-  group-inner (a-group b t h c) g = starts h .looks .registers
-  group-inner (own-group t h c) g = starts h .looks .registers
-  group-inner (tighter h) g = group-inner h g
-  group-inner (joined h t b f) g = group-inner h g
-
-  minus-group : {m room i j : ℕ} {e : Expr} → Spells at (ordinary s) own m room i j e → Sign at Kinds.minus i → Sign at Kinds.leftParen (i + 1)
-      → holds aRegister (at (i + 1 + 1)) ≡ false
-  minus-group (a-number t w) m g = absurd (different t m refl refl)
-  minus-group (a-literal t) m g = absurd (different t m refl refl)
-  minus-group (a-name t q) m g = absurd (different t m refl refl)
-  minus-group (a-local t) m g = absurd (different t m refl refl)
-  minus-group (E.an-address t) m g = absurd (different t m refl refl)
-  minus-group (a-unary t u h) m g = group-inner h g
-  minus-group (a-group b t h c) m g = absurd (different t m refl refl)
-  minus-group (own-group t h c) m g = absurd (different t m refl refl)
-  minus-group (tighter h) m g = minus-group h m g
-  minus-group (joined h t b f) m g = minus-group h m g
+use Rattle.spelling.specs.Beginnings.{begins-group, begins-name, begins-expression}
 
 -- a list of more than one register has a sign behind the first
 second : {s : Setting} {at : ℕ → Place} {i j e : ℕ} {xs : List RegisterListItem} → Items s at i j xs e → i + 1 < j
@@ -90,35 +58,6 @@ module _ (s : Setting) (at : ℕ → Place) (count : ℕ) (ends : (j : ℕ) (k :
   abbrev Plain : ℕ → ℕ → Expr → Type 0
   Plain i j e = Expression s at (ordinary s) own i j e
 
-  -- ---- by the first token
-
-  module _ {j l : ℕ} {y : Operand} where
-    begins-group : (t : Sign at Kinds.leftParen own) → ((l : ℕ) → Reads (Operand.parseParenthesisedOperand s o (t .token)) at (own + 1) l j (some y))
-        → Reads (operandFrom s o) at own l j (some y)
-    unfolding operandFrom
-    begins-group t h =
-        misses (omega arith) (other t Kinds.comma refl) (passes (other t Kinds.hash refl) (steps (t .there) (kinded t Kinds.leftParen refl) (h _)))
-
-    begins-name : (t : Name at own) → Reads (Operand.nameOrExpression s o) at own l j (some y) → Reads (operandFrom s o) at own l j (some y)
-    unfolding operandFrom
-    begins-name t h =
-        misses (omega arith) (other t Kinds.comma refl) (passes (other t Kinds.hash refl) (passes (other t Kinds.leftParen refl)
-        (misses (omega arith) (other t Kinds.minus refl) h)))
-
-    -- an expression that does not begin with a parenthesis
-    begins-expression : {n : ℕ} {e : Expr} → Plain own n e → holds (is Kinds.leftParen) (at own) ≡ false
-        → Reads (Operand.parseExpressionOperand s o) at own l j (some y) → Reads (operandFrom s o) at own l j (some y)
-    unfolding operandFrom Operand.minusOperand Operand.nameOrExpression
-    begins-expression e p h =
-        let b = starts e in
-        misses (omega arith) (other (b .sign) Kinds.comma (b .comma)) (passes (other (b .sign) Kinds.hash (b .hash)) (passes p
-        (either-way (omega arith)
-        (λ k x at₁ q. either-way refl
-        (λ k₂ x₂ at₂ q₂. misses (omega arith)
-        (minus-group s e (record { token = k; text = x; there = at₁; of = eqb-true _ _ q }) (record { token = k₂; text = x₂; there = at₂; of = eqb-true _ _ q₂ })) h)
-        λ q₂. h)
-        λ q. passes (b .looks .registers) (passes (b .special) h))))
-
   -- ---- 1: immediate
 
   immediate-read : {j l : ℕ} {y : Operand} {e : Expr} (t : Sign at Kinds.hash own) → Plain (own + 1) j e → Ends at 1 j → {n : ℕ}
@@ -132,7 +71,7 @@ module _ (s : Setting) (at : ℕ → Place) (count : ℕ) (ends : (j : ℕ) (k :
   direct-read : {l : ℕ} {r : Register} → RegisterAt at own r → Closed at (own + 1) → Reads (operandFrom s o) at own l (own + 1) (some (Operand.registerDirect r (r .span)))
   unfolding Operand.nameOrExpression Operand.parseRegisterOperand
   direct-read (a-register {r = r} t q) c =
-      begins-name t (steps (t .there) (held aRegister t (looks-register {s = s} (a-register t q) .registers))
+      begins-name s at own o t (steps (t .there) (held aRegister t (looks-register {s = s} (a-register t q) .registers))
       (misses (omega arith) (closed-fails (λ k y. either (eqb (k .kind) Kinds.minus) (eqb (k .kind) Kinds.slash)) (λ k x e. rw e refl) (λ k x e. rw e refl) c)
       (rw (registered (t .token) (t .text) r q) answers)))
 
@@ -172,15 +111,15 @@ module _ (s : Setting) (at : ℕ → Place) (count : ℕ) (ends : (j : ℕ) (k :
       → Reads (operandFrom s o) at own l j (some y)
   unfolding Operand.parseParenthesisedOperand Operand.parenthesised Operand.parenthesisedExpression Operand.afterExpression Operand.groupedOperand Operand.displacementTail Operand.parseExpressionOperand Operand.expressionOperand
   opening-read (Spelling.alone t) b c g =
-      begins-group t λ l. passes (base-unbracketed b) (base-not-full s _ _ b c (base-starts s _ _ b c (g (t .token) l)))
+      begins-group s at own o t λ l. passes (base-unbracketed b) (base-not-full s _ _ b c (base-starts s _ _ b c (g (t .token) l)))
   opening-read (Spelling.displacing (Spelling.inside t e k)) b c g =
-      begins-group t λ l. expression-opens (t .token) e l (then (behind-own s at count ends few own e (omega arith) (stops-comma k .level) l) λ l₂.
+      begins-group s at own o t λ l. expression-opens (t .token) e l (then (behind-own s at count ends few own e (omega arith) (stops-comma k .level) l) λ l₂.
       steps (k .there) (kinded k Kinds.comma refl) (base-not-full s _ _ b c (g (t .token) _)))
   opening-read (Spelling.displacing (Spelling.before (Spelling.group t e k) p)) b c g =
-      begins-group t λ l. expression-opens (t .token) e l (then (behind-own s at count ends few own e (omega arith) (stops-close k .level) l) λ l₂.
+      begins-group s at own o t λ l. expression-opens (t .token) e l (then (behind-own s at count ends few own e (omega arith) (stops-close k .level) l) λ l₂.
       passes (other k Kinds.comma refl) (steps (k .there) (kinded k Kinds.rightParen refl) (steps (p .there) (kinded p Kinds.leftParen refl) (g (p .token) _))))
   opening-read (Spelling.displacing (Spelling.before (Spelling.bare {k = n} t q e) p)) b c g =
-      begins-expression e (other t Kinds.leftParen (ne-eqb n Kinds.leftParen q))
+      begins-expression s at own o e (other t Kinds.leftParen (ne-eqb n Kinds.leftParen q))
       (then (expression-read at count ends few own (ordinary s) (ordinary-free s) e (omega arith) (λ z u. q (same-sign t u)) (paren-ends p) _) λ l₂.
       steps (p .there) (kinded p Kinds.leftParen refl) (g (p .token) _))
 
@@ -245,7 +184,7 @@ module _ (s : Setting) (at : ℕ → Place) (count : ℕ) (ends : (j : ℕ) (k :
       → Reads (operandFrom s o) at own l n (some (O.absolute e size (span o z)))
   unfolding Operand.parseExpressionOperand Operand.expressionOperand Operand.displacementTail
   absolute-bare {e = e} h sz c p =
-      begins-expression h p (then (expression-read at count ends few own (ordinary s) (ordinary-free s) h (omega arith) (λ z t. true-false (sym (comes (is Kinds.leftParen) t (kinded t Kinds.leftParen refl)) ∙ p)) (absolute-ends sz c) _)
+      begins-expression s at own o h p (then (expression-read at count ends few own (ordinary s) (ordinary-free s) h (omega arith) (λ z t. true-false (sym (comes (is Kinds.leftParen) t (kinded t Kinds.leftParen refl)) ∙ p)) (absolute-ends sz c) _)
       λ l₂. passes (absolute-open sz c) (finish-read e sz c l₂))
 
   -- from the operand's own group on
@@ -255,7 +194,7 @@ module _ (s : Setting) (at : ℕ → Place) (count : ℕ) (ends : (j : ℕ) (k :
   unfolding Operand.parenthesised Operand.parenthesisedExpression Operand.afterExpression Operand.groupedOperand Operand.displacementTail
   grouped-from (a-term b h) p unopened on sz c = absurd (b refl p)
   grouped-from {e = e} (the-own q m t h r k) p unopened on sz c =
-      begins-group t λ l. expression-opens (t .token) h l (then (r l) λ l₂.
+      begins-group s at own o t λ l. expression-opens (t .token) h l (then (r l) λ l₂.
       passes (other k Kinds.comma refl) (steps (k .there) (kinded k Kinds.rightParen refl) (passes (rw m at unopened) (then ((rw m at on) _) λ l₃. finish-read e sz c l₃))))
 
   absolute-grouped : {j n size z l : ℕ} {e : Expr} → Plain own j e → Sized at (spanE e .end) j n size z → Closed at n → Sign at Kinds.leftParen own
@@ -280,7 +219,7 @@ module _ (s : Setting) (at : ℕ → Place) (count : ℕ) (ends : (j : ℕ) (k :
       → Reads (operandFrom s o) at own l (own + 1) (some (O.specialRegister n (spanOf (t .token))))
   unfolding Operand.nameOrExpression Operand.specialIndex aRegister
   special-read {n} t q =
-      begins-name t (passes (comes aRegister t (rw (t .of) (Names.special-unregistered (t .text) n q))) (steps (t .there) (rw (t .of, q) refl) (rw q answers)))
+      begins-name s at own o t (passes (comes aRegister t (rw (t .of) (Names.special-unregistered (t .text) n q))) (steps (t .there) (rw (t .of, q) refl) (rw q answers)))
 
   indirect-closed : {i : ℕ} {r : Register} (c : Sign at Kinds.rightParen i) → Closed at (i + 1) → (k : Token) (l : ℕ)
       → Reads (Operand.afterBase s o k undisplaced r) at i l (i + 1) (some (O.indirect r (span o (c .token .end))))
@@ -317,14 +256,14 @@ module _ (s : Setting) (at : ℕ → Place) (count : ℕ) (ends : (j : ℕ) (k :
   unfolding Operand.parseParenthesisedOperand
   full-alone t f c =
       let b = full-bases f in
-      begins-group t λ l. passes (other (begun b .name) Kinds.leftBracket refl) (full-starts s _ _ f c (full-read (t .token) undisplaced b c l))
+      begins-group s at own o t λ l. passes (other (begun b .name) Kinds.leftBracket refl) (full-starts s _ _ f c (full-read (t .token) undisplaced b c l))
 
   full-displaced : {j n l : ℕ} {e : Expr} {r : Registers} → Sign at Kinds.leftParen own → Plain (own + 1) j e → Sign at Kinds.comma j → Full s at (j + 1) n r
       → (c : Sign at Kinds.rightParen n)
       → Reads (operandFrom s o) at own l (n + 1) (some (O.fullIndex (displaced e 0) (r .base) (r .index) 0 undisplaced (span o (c .token .end))))
   unfolding Operand.parenthesised Operand.parenthesisedExpression Operand.afterExpression
   full-displaced {e = e} t h m f c =
-      begins-group t λ l. expression-opens (t .token) h l (then (behind-own s at count ends few own h (omega arith) (stops-comma m .level) l) λ l₂.
+      begins-group s at own o t λ l. expression-opens (t .token) h l (then (behind-own s at count ends few own h (omega arith) (stops-comma m .level) l) λ l₂.
       steps (m .there) (kinded m Kinds.comma refl) (full-starts s _ _ f c (full-read (t .token) (displaced e 0) (full-bases f) c _)))
 
   full-sized : {j n l size : ℕ} {e : Expr} {r : Registers} → Sign at Kinds.leftParen own → Plain (own + 1) j e → Letter at j size → Sign at Kinds.comma (j + 1)
@@ -332,7 +271,7 @@ module _ (s : Setting) (at : ℕ → Place) (count : ℕ) (ends : (j : ℕ) (k :
       → Reads (operandFrom s o) at own l (n + 1) (some (O.fullIndex (displaced e size) (r .base) (r .index) 0 undisplaced (span o (c .token .end))))
   unfolding Operand.parenthesised Operand.parenthesisedExpression Operand.afterExpression Operand.sizedBase Operand.over
   full-sized {size = size} {e = e} t h z m b c =
-      begins-group t λ l. expression-opens (t .token) h l (then (behind-own s at count ends few own h (omega arith) (letter-ends z) l) λ l₂.
+      begins-group s at own o t λ l. expression-opens (t .token) h l (then (behind-own s at count ends few own h (omega arith) (letter-ends z) l) λ l₂.
       passes (other (z .sign) Kinds.comma refl) (passes (other (z .sign) Kinds.rightParen refl) (sees (omega arith) (z .sign .there) (kinded (z .sign) Kinds.sizeSuffix refl)
       (sees refl (m .there) (kinded m Kinds.comma refl) (then (letter-read _ _ z) λ l₃. steps (m .there) refl (full-read (t .token) (displaced e size) b c _))))))
 
@@ -341,7 +280,7 @@ module _ (s : Setting) (at : ℕ → Place) (count : ℕ) (ends : (j : ℕ) (k :
       → Reads (operandFrom s o) at own l (n + 1) (some (O.fullIndex d (r .base) x indirection u (span o (c .token .end))))
   unfolding Operand.parseParenthesisedOperand Operand.parseMemoryIndirect Operand.innerClosed Operand.outerClosed Operand.memoryIndirect
   memory-read t b h z u c =
-      begins-group t λ l. steps (b .there) (kinded b Kinds.leftBracket refl) (then (inside-read s at count ends few own o h (omega arith) z _) λ l₂.
+      begins-group s at own o t λ l. steps (b .there) (kinded b Kinds.leftBracket refl) (then (inside-read s at count ends few own o h (omega arith) z _) λ l₂.
       steps (z .there) (kinded z Kinds.rightBracket refl) (then (behind-read s at count ends few own o u (omega (arith, inside-rises h)) c _) λ l₃.
       then (expect (t .token) 9 c) λ l₄. answers))
 
@@ -362,7 +301,7 @@ module _ (s : Setting) (at : ℕ → Place) (count : ℕ) (ends : (j : ℕ) (k :
       → Reads (Operand.listLoop fuel o [] r) at (own + 1) (r .span .end) j (some y) → Reads (operandFrom s o) at own l j (some y)
   unfolding Operand.nameOrExpression Operand.parseRegisterOperand Operand.parseRegisterList
   list-from (a-register {r = r} t q) z h =
-      begins-name t (steps (t .there) (held aRegister t (looks-register {s = s} (a-register t q) .registers))
+      begins-name s at own o t (steps (t .there) (held aRegister t (looks-register {s = s} (a-register t q) .registers))
       (sees (omega arith) (z .there) (z .passed) (rw (registered (t .token) (t .text) r q) h)))
 
   list-read : {j e l : ℕ} {xs : List RegisterListItem} → Items s at own j xs e → own + 1 < j → Closed at j

@@ -1,0 +1,51 @@
+-- An index register.
+-- Assumes nothing.
+use mathlib.Core.Bool.{Bool}
+use Prim.Native.Nat.{ℕ}
+use native.Mathlib.Omega.{arith}
+use Rattle.names.specs.Places.{Place}
+use Rattle.expressions.specs.Expressions.{suffixed, bare}
+use Rattle.expressions.specs.Laws.{All, all-choose, Law, call}
+use Rattle.expressions.specs.Costs.{Clean, suffix-cost, valued-cost}
+use Rattle.operand.specs.Operands.{Operand, some, none}
+use Rattle.operand.specs.declared.forms.Register.{Register}
+use Rattle.operand.specs.declared.forms.IndexRegister.{IndexRegister}
+use Rattle.operand.specs.Operand
+use Rattle.expressions.specs.declared.reading.Setting.{Setting}
+use Rattle.operand.specs.Costs.Malformed.{Left, nil, malformed-cost, stepped-cost}
+
+module _ (at : ℕ → Place) (w : ℕ) (clean : Clean at w) where
+  scale-cost : (o shape : ℕ) (x : IndexRegister) (i l d r : ℕ) → Law (Operand.indexScale o shape x) at (Left at w clean (nil at w clean) 0 0 0 i d r) i l d r
+  unfolding All Operand.indexScale Operand.scaled
+  scale-cost o shape x i l d r = record {
+    all = (
+      (λ k y h p. (
+        (λ t z h₂ p₂. call (valued-cost at w clean t _ _ _ _ _) λ j e s v a b c g m.
+            all-choose (Operand.scaleOf v) _ _ _ _ _ _ _ _ (omega arith)
+            (call (malformed-cost at w clean (nil at w clean) o shape 7 0 0 0 _ _ _ _) λ j₂ e₂ s₂. elim [ some x ↦ omega arith | none ↦ omega arith ])),
+        λ p₂. call (stepped-cost at w clean (nil at w clean) o shape 7 0 0 0 _ _ _ _) λ j e s. elim [ some x ↦ omega arith | none ↦ omega arith ],
+      )),
+      λ p. omega arith,
+    );
+  }
+
+  index-register-cost : (o shape : ℕ) (q : Register) (b : Bool) (i l d r : ℕ) → Law (Operand.indexRegister o shape q b) at (Left at w clean (nil at w clean) 0 0 0 i d r) i l d r
+  unfolding All Operand.indexRegister Operand.indexSize
+  index-register-cost o shape q b i l d r = record {
+    all = call (suffix-cost at w clean _ _ _ _ _) λ j e s. elim [
+      | suffixed n z ↦ λ a b c g m. call (scale-cost o shape _ _ _ _ _) λ j₂ e₂ s₂. elim [ some x ↦ omega arith | none ↦ omega arith ]
+      | bare ↦ λ a b c g m. call (scale-cost o shape _ _ _ _ _) λ j₂ e₂ s₂. elim [ some x ↦ omega arith | none ↦ omega arith ]
+    ];
+  }
+
+  pub index-cost : (z : Setting) (o shape i l d r : ℕ) → Law (Operand.parseIndexRegister z o shape) at (Left at w clean (nil at w clean) 1 0 0 i d r) i l d r
+  unfolding All Operand.parseIndexRegister
+  index-cost z o shape i l d r = record {
+    all = (
+      (λ t x h p. call (index-register-cost o shape _ _ _ _ _ _) λ j e s. elim [ some x ↦ omega arith | none ↦ omega arith ]),
+      λ p. (
+        (λ t x h p₂. call (index-register-cost o shape _ _ _ _ _ _) λ j e s. elim [ some x ↦ omega arith | none ↦ omega arith ]),
+        λ p₂. stepped-cost at w clean (nil at w clean) o shape 6 1 0 0 _ _ _ _ .all,
+      ),
+    );
+  }
