@@ -42,7 +42,7 @@ fn figure(byte: u8) -> u8
 }
 
 impl NumberBase {
-    fn radix(self) -> u8
+    fn radix(self) -> u64
         ensures { λ r. ⌜ r ≡ radixOf self ⌝ }
     {
         match self {
@@ -78,11 +78,11 @@ fn parse_digits(base: NumberBase, digits: &[u8]) -> Number
     let mut value: u64 = 0;
     let mut i = 0;
     while i < digits.len() {
-        let digit = figure(digits[i]);
+        let digit = wide(figure(digits[i]));
         if radix <= digit {
             return Number::Invalid;
         }
-        value = with_digit(value, wide(radix), wide(digit));
+        value = with_digit(value, radix, digit);
         i += 1;
     }
     if value < 0x8000_0000_0000_0000 {
