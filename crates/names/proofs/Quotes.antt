@@ -4,7 +4,7 @@ use mathlib.Core.Path.{_≡_, refl, sym, _∙_, ap}
 use mathlib.Core.List.{List, [], _∷_}
 use Prim.Native.Nat.{ℕ, _+_, _≤_, _<_}
 use native.Mathlib.Omega.{arith}
-use native.Mathlib.Nat.{add-assoc, zero-add}
+use native.Mathlib.Nat.{zero-add}
 use native.Mathlib.Numerals.{add-one}
 use borrow.Author.Tests.{eq-eqb, ne-eqb, le-leb, lt-leb}
 use lib.ListN.{length, getD, drop, set, length-drop, drop-of-length-le}
@@ -39,9 +39,9 @@ module _ (t : List ℕ) (q i : ℕ) where
       unfolding quoted
       quoted-close n = rw (two, eq-eqb _ _ e, ne-eqb _ _ n)
 
-      pub quoted-double : getD t (i + 1) 0 ≡ q → quoted q (drop i t) ≡ getD t i 0 ∷ quoted q (drop (i + 2) t)
+      pub quoted-double : getD t (i + 1) 0 ≡ q → quoted q (drop i t) ≡ getD t i 0 ∷ quoted q (drop (i + 1 + 1) t)
       unfolding quoted
-      quoted-double d = rw (two, eq-eqb _ _ e, eq-eqb _ _ d, add-assoc)
+      quoted-double d = rw (two, eq-eqb _ _ e, eq-eqb _ _ d)
 
 pub literal-from : (t : List ℕ) → literalBytes t ≡ quoted (getD t 0 0) (drop 1 t)
 unfolding literalBytes quoted

@@ -6,6 +6,7 @@ pub mod Places
 pub mod Letters
 pub mod Registers
 pub mod Reserved
+pub mod Codes
 pub mod Sizes
 pub mod Numbers
 pub mod Literals

@@ -1,6 +1,5 @@
 -- Numbers: their bases and their digits.
 -- Assumes nothing.
-use mathlib.Core.Bool.{Bool}
 use mathlib.Core.List.{List, [], _∷_}
 use Prim.Native.Nat.{ℕ, _+_, _-_, _*_, _^_, _<_, _≤_}
 use lib.Dec.{leb, ltb, eqb}
@@ -9,7 +8,6 @@ use Rattle.names.specs.Choice.{pick, both}
 use Rattle.names.specs.Letters.{lower}
 use Rattle.names.specs.declared.numbers.NumberBase.{NumberBase}
 use Rattle.names.specs.declared.numbers.NumberBase.the-variants.{Decimal, Hexadecimal, Binary, Octal}
-use Rattle.names.specs.declared.numbers.Prefix.{Prefix}
 use Rattle.names.specs.declared.numbers.Number.{Number}
 use Rattle.names.specs.declared.numbers.Number.the-variants.{Value, TooLarge, Invalid}
 
@@ -19,25 +17,18 @@ radixOf Hexadecimal = 16
 radixOf Binary = 2
 radixOf Octal = 8
 
--- nothing, `$`, `%`, `@`
-unfoldable pub prefixOf : NumberBase → Prefix
-prefixOf Decimal = Prefix.Not
-prefixOf Hexadecimal = Prefix.Is 36
-prefixOf Binary = Prefix.Is 37
-prefixOf Octal = Prefix.Is 64
-
-unfoldable pub width : Prefix → ℕ
-width Prefix.Not = 0
-width (Prefix.Is c) = 1
+-- how many bytes its prefix has: nothing, `$`, `%`, `@`
+unfoldable pub width : NumberBase → ℕ
+width Decimal = 0
+width Hexadecimal = 1
+width Binary = 1
+width Octal = 1
 
 -- a digit's value in any base: 0 (48) to 9 (57), then the letters from a (97) on; 36 for any other byte
 unfoldable pub figure : ℕ → ℕ
 figure c =
     pick (both (leb 48 c) (leb c 57)) (c - 48)
     (pick (both (leb 97 (lower c)) (leb (lower c) 122)) (lower c - 87) 36)
-
-unfoldable pub isDigit : NumberBase → ℕ → Bool
-isDigit base c = ltb (figure c) (radixOf base)
 
 -- the digits read on from a value. It is too large where all are digits and it does not fit in 63 bits
 unfoldable pub scan : ℕ → ℕ → List ℕ → Number
@@ -50,7 +41,7 @@ digitsOf base [] = Invalid
 digitsOf base (c ∷ cs) = scan (radixOf base) 0 (c ∷ cs)
 
 unfoldable pub inBase : NumberBase → List ℕ → Number
-inBase base text = digitsOf base (drop (width (prefixOf base)) text)
+inBase base text = digitsOf base (drop (width base) text)
 
 -- a number token, by its detail: the base's number in the order of `NumberBase`
 unfoldable pub numberOf : ℕ → List ℕ → Number

@@ -31,3 +31,9 @@ pub(crate) fn spells(name: &[u8], word: &[u8]) -> bool
     }
     true
 }
+
+pub(crate) fn wide(x: u8) -> u64
+    ensures { λ r. ⌜ r ≡ x ⌝ }
+{
+    x as u64
+}

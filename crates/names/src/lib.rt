@@ -10,8 +10,6 @@ mod tokens;
 pub use literals::Literal;
 pub use literals::string_literal_bytes;
 pub use numbers::Number;
-pub use numbers::NumberBase;
-pub use numbers::parse_digits;
 pub use numbers::parse_number;
 pub use registers::Reg;
 pub use registers::SpecialRegister;

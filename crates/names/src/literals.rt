@@ -25,16 +25,17 @@ fn inner_at(text: &[u8], quote: u8, i: usize) -> Inner
         return Inner::End;
     }
     let byte = text[i];
+    let next = i + 1;
     if byte != quote {
-        return Inner::Byte(byte, i + 1);
+        return Inner::Byte(byte, next);
     }
-    if text.len() - i < 2 {
+    if text.len() <= next {
         return Inner::End;
     }
-    if text[i + 1] != quote {
+    if text[next] != quote {
         return Inner::End;
     }
-    Inner::Byte(byte, i + 2)
+    Inner::Byte(byte, next + 1)
 }
 
 // How many bytes a literal stands for.

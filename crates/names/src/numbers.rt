@@ -1,22 +1,17 @@
 // Numbers: their bases and their digits.
 use crate::letters::lower;
+use crate::letters::wide;
 use crate::tokens::behind_first;
 ghost use mathlib.Core.Path.{_≡_};
 ghost use Prim.Native.Nat.{_+_, _*_, _^_, min};
-ghost use Rattle.names.specs.Numbers.{radixOf, prefixOf, figure, isDigit, NextAsks, digitsOf, numberOf};
+ghost use Rattle.names.specs.Numbers.{radixOf, figure, NextAsks, digitsOf, numberOf};
 
 // The base of a number, in the order of the Rust's `NumberBase`.
-pub enum NumberBase {
+enum NumberBase {
     Decimal,
     Hexadecimal,
     Binary,
     Octal,
-}
-
-// The byte that a number of a base begins with.
-pub enum Prefix {
-    Is(u8),
-    Not,
 }
 
 // What the digits of a number come to: a value below 2^63; digits of the base with a larger value; no number.
@@ -47,7 +42,7 @@ fn figure(byte: u8) -> u8
 }
 
 impl NumberBase {
-    pub fn radix(self) -> u8
+    fn radix(self) -> u64
         ensures { λ r. ⌜ r ≡ radixOf self ⌝ }
     {
         match self {
@@ -56,23 +51,6 @@ impl NumberBase {
             NumberBase::Binary => 2,
             NumberBase::Octal => 8,
         }
-    }
-
-    pub fn prefix(self) -> Prefix
-        ensures { λ r. ⌜ r ≡ prefixOf self ⌝ }
-    {
-        match self {
-            NumberBase::Decimal => Prefix::Not,
-            NumberBase::Hexadecimal => Prefix::Is(36),
-            NumberBase::Binary => Prefix::Is(37),
-            NumberBase::Octal => Prefix::Is(64),
-        }
-    }
-
-    pub fn is_digit(self, byte: u8) -> bool
-        ensures { λ r. ⌜ r ≡ isDigit self byte ⌝ }
-    {
-        figure(byte) < self.radix()
     }
 }
 
@@ -90,13 +68,7 @@ fn with_digit(value: u64, radix: u64, digit: u64) -> u64
     0x8000_0000_0000_0000
 }
 
-fn wide(x: u8) -> u64
-    ensures { λ r. ⌜ r ≡ x ⌝ }
-{
-    x as u64
-}
-
-pub fn parse_digits(base: NumberBase, digits: &[u8]) -> Number
+fn parse_digits(base: NumberBase, digits: &[u8]) -> Number
     ensures { λ r. ⌜ r ≡ digitsOf base (now (digits .entry)) ⌝ }
 {
     if digits.len() == 0 {
@@ -106,11 +78,11 @@ pub fn parse_digits(base: NumberBase, digits: &[u8]) -> Number
     let mut value: u64 = 0;
     let mut i = 0;
     while i < digits.len() {
-        let digit = figure(digits[i]);
+        let digit = wide(figure(digits[i]));
         if radix <= digit {
             return Number::Invalid;
         }
-        value = with_digit(value, wide(radix), wide(digit));
+        value = with_digit(value, radix, digit);
         i += 1;
     }
     if value < 0x8000_0000_0000_0000 {

@@ -1,9 +1,11 @@
 // Registers by name. A register is its mask index: d0 to d7 are 0 to 7, a0 to a7 are 8 to 15, and `sp` is a7.
 use crate::letters::lower;
 use crate::letters::spells;
+use crate::letters::wide;
 use crate::tokens::behind_first;
 ghost use mathlib.Core.Path.{_≡_};
 ghost use Rattle.names.specs.Registers.{registerOf, pair, programCounter, specialOf, suppressedOf, reserved};
+ghost use Rattle.names.specs.Codes.{codedSpecial};
 
 pub enum Reg {
     Is(u8),
@@ -63,41 +65,40 @@ pub fn is_program_counter(name: &[u8]) -> bool
     spells(name, b"pc")
 }
 
+// The special register whose name has this code: its small letters, the last one first, behind a 1.
+fn of_code(code: u64) -> SpecialRegister
+    ensures { λ r. ⌜ r ≡ codedSpecial code ⌝ }
+{
+    match code {
+        0x01_72_73 => SpecialRegister::Is(1), // sr
+        0x01_72_63_63 => SpecialRegister::Is(2), // ccr
+        0x01_70_73_75 => SpecialRegister::Is(3), // usp
+        0x01_63_66_73 => SpecialRegister::Is(4), // sfc
+        0x01_63_66_64 => SpecialRegister::Is(5), // dfc
+        0x01_72_62_76 => SpecialRegister::Is(6), // vbr
+        0x01_72_63_61_63 => SpecialRegister::Is(7), // cacr
+        0x01_72_61_61_63 => SpecialRegister::Is(8), // caar
+        0x01_70_73_6d => SpecialRegister::Is(9), // msp
+        0x01_70_73_69 => SpecialRegister::Is(10), // isp
+        _ => SpecialRegister::Not,
+    }
+}
+
 impl SpecialRegister {
+    // No special register has a longer name than four letters; a shorter name is told by its code in one step.
     pub fn parse(name: &[u8]) -> SpecialRegister
         ensures { λ r. ⌜ r ≡ specialOf (now (name .entry)) ⌝ }
     {
-        if spells(name, b"sr") {
-            return SpecialRegister::Is(1);
+        if 4 < name.len() {
+            return SpecialRegister::Not;
         }
-        if spells(name, b"ccr") {
-            return SpecialRegister::Is(2);
+        let mut code: u64 = 1;
+        let mut i = name.len();
+        while 0 < i {
+            i -= 1;
+            code = code * 256 + wide(lower(name[i]));
         }
-        if spells(name, b"usp") {
-            return SpecialRegister::Is(3);
-        }
-        if spells(name, b"sfc") {
-            return SpecialRegister::Is(4);
-        }
-        if spells(name, b"dfc") {
-            return SpecialRegister::Is(5);
-        }
-        if spells(name, b"vbr") {
-            return SpecialRegister::Is(6);
-        }
-        if spells(name, b"cacr") {
-            return SpecialRegister::Is(7);
-        }
-        if spells(name, b"caar") {
-            return SpecialRegister::Is(8);
-        }
-        if spells(name, b"msp") {
-            return SpecialRegister::Is(9);
-        }
-        if spells(name, b"isp") {
-            return SpecialRegister::Is(10);
-        }
-        SpecialRegister::Not
+        of_code(code)
     }
 }
 

@@ -25,10 +25,11 @@ pub fn token_at(tokens: &[u8], i: usize) -> Peeked
     if tokens.len() / 4 <= i {
         return Peeked::End;
     }
-    let kind = tokens[4 * i];
-    let detail = tokens[4 * i + 1];
-    let start = tokens[4 * i + 2];
-    let end = tokens[4 * i + 3];
+    let at = 4 * i;
+    let kind = tokens[at];
+    let detail = tokens[at + 1];
+    let start = tokens[at + 2];
+    let end = tokens[at + 3];
     Peeked::Is(Token {
         kind: kind,
         detail: detail,

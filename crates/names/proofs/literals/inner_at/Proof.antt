@@ -14,8 +14,8 @@ returns c =
 shared-slice-read-byte : tie.Need-shared-slice-read-byte
 shared-slice-read-byte c = search needs
 
-add-t9 : tie.Need-add-t9
-add-t9 c = search needs
+add-next : tie.Need-add-next
+add-next c = search needs
 
 returns-2 : tie.Need-returns-2
 returns-2 c =
@@ -23,17 +23,11 @@ returns-2 c =
     let c-if2 = c .if2 in
     (quoted-byte _ _ _ (c-if1 .left) (c-if2 .taken), omega arith, omega arith)
 
-sub-if3 : tie.Need-sub-if3
-sub-if3 c = search needs
-
 returns-3 : tie.Need-returns-3
 returns-3 c =
     let c-if2 = c .before .if2 in
     let c-if1 = c .before .before .before .if1 in
     quoted-last _ _ _ (c-if2 .left) (c-if1 .left) (omega arith)
-
-add-if4 : tie.Need-add-if4
-add-if4 c = search needs
 
 shared-slice-read-if4 : tie.Need-shared-slice-read-if4
 shared-slice-read-if4 c = search needs
@@ -45,8 +39,8 @@ returns-4 c =
     let c-if4 = c .if4 in
     quoted-close (c-args .text .now) (c-args .quote) (c-args .i) (c-if2 .left) (omega arith) (c-if4 .taken)
 
-add-t10 : tie.Need-add-t10
-add-t10 c = search needs
+add-t6 : tie.Need-add-t6
+add-t6 c = search needs
 
 returns-5 : tie.Need-returns-5
 returns-5 c =
@@ -61,12 +55,10 @@ inner-at-spec =
     (tie.spec
     returns
     shared-slice-read-byte
-    add-t9
+    add-next
     returns-2
-    sub-if3
     returns-3
-    add-if4
     shared-slice-read-if4
     returns-4
-    add-t10
+    add-t6
     returns-5)

@@ -1,6 +1,6 @@
 -- `names::numbers::parse_digits` meets its contract. The loop's invariant: the rest of the digits, read on from the value, give what all of them give.
 -- Assumes nothing.
-use mathlib.Core.Path.{_≡_, refl, sym, _∙_, ap, ap₂}
+use mathlib.Core.Path.{_≡_, refl, sym, _∙_, ap}
 use Prim.Native.Nat.{_≤_, _+_, _-_, _*_, _^_, min}
 use native.Mathlib.Omega.{arith}
 use lib.ListN.{length, drop}
@@ -36,29 +36,25 @@ shared-slice-read-figure c = search needs
 figure-requires : tie.Need-figure-requires Inv-loop μ-loop
 figure-requires c κs = search needs
 
-returns-2 : tie.Need-returns-2 Inv-loop μ-loop
-returns-2 c =
-    let c-radix = c .before .before .before .before .before .radix in
-    let c-loop = c .before .before .before .before .loop in
-    let c-args = c .before .before .before .before .before .before .before .before .args in
-    let c-figure = c .before .figure in
-    let c-if2 = c .if2 in
-    let c-if1 = c .before .before .before .before .before .before .if1 in
-    sym (scan-stop (c-radix .result) (c-loop .value) (c-args .digits .now) (c-loop .i) (omega arith) (omega (arith, c-figure .ensures, c-if2 .taken))) ∙ c-loop .inv .3 ∙ ap (λ r. scan r 0 (c-args .digits .now)) (c-radix .ensures) ∙ sym (digits-some _ _ (c-if1 .left))
-
 wide-requires : tie.Need-wide-requires Inv-loop μ-loop
 wide-requires c κs = search needs
 
-wide-requires-2 : tie.Need-wide-requires-2 Inv-loop μ-loop
-wide-requires-2 c κs = search needs
+returns-2 : tie.Need-returns-2 Inv-loop μ-loop
+returns-2 c =
+    let c-radix = c .before .before .before .before .before .before .radix in
+    let c-loop = c .before .before .before .before .before .loop in
+    let c-args = c .before .before .before .before .before .before .before .before .before .args in
+    let c-figure = c .before .before .figure in
+    let c-wide = c .before .wide in
+    let c-if2 = c .if2 in
+    let c-if1 = c .before .before .before .before .before .before .before .if1 in
+    sym (scan-stop (c-radix .result) (c-loop .value) (c-args .digits .now) (c-loop .i) (omega arith) (omega (arith, c-figure .ensures, c-wide .ensures, c-if2 .taken))) ∙ c-loop .inv .3 ∙ ap (λ r. scan r 0 (c-args .digits .now)) (c-radix .ensures) ∙ sym (digits-some _ _ (c-if1 .left))
 
 with-digit-requires : tie.Need-with-digit-requires Inv-loop μ-loop
 with-digit-requires c κs =
-    let c-loop = c .before .before .before .before .before .before .loop in
-    let c-wide = c .before .wide in
-    let c-wide2 = c .wide2 in
-    let c-if2 = c .before .before .if2 in
-    record { capped = c-loop .inv .1; small = omega (arith, c-wide .ensures, c-loop .inv .2); less = omega (arith, c-wide .ensures, c-wide2 .ensures, c-if2 .left) }
+    let c-loop = c .before .before .before .before .before .loop in
+    let c-if2 = c .if2 in
+    record { capped = c-loop .inv .1; small = c-loop .inv .2; less = c-if2 .left }
 
 add-i : tie.Need-add-i Inv-loop μ-loop
 add-i c = search needs
@@ -69,14 +65,13 @@ loop-less c = search needs
 loop-again : tie.Need-loop-again Inv-loop μ-loop
 loop-again c =
     let c-with-digit = c .with-digit in
-    let c-loop = c .before .before .before .before .before .before .before .loop in
-    let c-radix = c .before .before .before .before .before .before .before .before .radix in
-    let c-args = c .before .before .before .before .before .before .before .before .before .before .before .args in
-    let c-figure = c .before .before .before .before .figure in
-    let c-if2 = c .before .before .before .if2 in
+    let c-loop = c .before .before .before .before .before .before .loop in
+    let c-radix = c .before .before .before .before .before .before .before .radix in
+    let c-args = c .before .before .before .before .before .before .before .before .before .before .args in
     let c-wide = c .before .before .wide in
-    let c-wide2 = c .before .wide2 in
-    (omega arith, omega (arith, c-with-digit .ensures), c-loop .inv .2, sym (scan-on (c-radix .result) (c-loop .value) (c-args .digits .now) (c-loop .i) (omega arith) (c-with-digit .result) (omega (arith, c-figure .ensures, c-if2 .left)) (c-with-digit .ensures ∙ ap₂ (λ r d. min (c-loop .value * r + d) (2 ^ 63)) (c-wide .ensures) (c-wide2 .ensures ∙ c-figure .ensures))) ∙ c-loop .inv .3)
+    let c-figure = c .before .before .before .figure in
+    let c-if2 = c .before .if2 in
+    (omega arith, omega (arith, c-with-digit .ensures), c-loop .inv .2, sym (scan-on (c-radix .result) (c-loop .value) (c-args .digits .now) (c-loop .i) (omega arith) (c-with-digit .result) (omega (arith, c-wide .ensures ∙ c-figure .ensures, c-if2 .left)) (c-with-digit .ensures ∙ ap (λ d. min (c-loop .value * c-radix .result + d) (2 ^ 63)) (c-wide .ensures ∙ c-figure .ensures))) ∙ c-loop .inv .3)
 
 returns-3 : tie.Need-returns-3 Inv-loop μ-loop
 returns-3 c =
@@ -107,9 +102,8 @@ parse-digits-spec =
     loop-holds
     shared-slice-read-figure
     figure-requires
-    returns-2
     wide-requires
-    wide-requires-2
+    returns-2
     with-digit-requires
     add-i
     loop-less

@@ -12,14 +12,11 @@ returns c =
     let c-if1 = c .if1 in
     simp (le-leb _ _ (c-if1 .taken))
 
-mul-kind : tie.Need-mul-kind
-mul-kind c = search needs
+mul-at : tie.Need-mul-at
+mul-at c = search needs
 
 shared-slice-read-kind : tie.Need-shared-slice-read-kind
 shared-slice-read-kind c = search needs
-
-mul-detail : tie.Need-mul-detail
-mul-detail c = search needs
 
 add-detail : tie.Need-add-detail
 add-detail c = search needs
@@ -27,17 +24,11 @@ add-detail c = search needs
 shared-slice-read-detail : tie.Need-shared-slice-read-detail
 shared-slice-read-detail c = search needs
 
-mul-start : tie.Need-mul-start
-mul-start c = search needs
-
 add-start : tie.Need-add-start
 add-start c = search needs
 
 shared-slice-read-start : tie.Need-shared-slice-read-start
 shared-slice-read-start c = search needs
-
-mul-end : tie.Need-mul-end
-mul-end c = search needs
 
 add-end : tie.Need-add-end
 add-end c = search needs
@@ -56,15 +47,12 @@ token-at-spec =
     tie.close
     (tie.spec
     returns
-    mul-kind
+    mul-at
     shared-slice-read-kind
-    mul-detail
     add-detail
     shared-slice-read-detail
-    mul-start
     add-start
     shared-slice-read-start
-    mul-end
     add-end
     shared-slice-read-end
     returns-2)

@@ -1,289 +1,93 @@
--- `names::registers::SpecialRegister::parse` meets its contract.
+-- `names::registers::SpecialRegister::parse` meets its contract. The loop's invariant: the code is that of the letters from i on.
 -- Assumes nothing.
-use mathlib.Core.Path.{sym, _∙_}
-use Rattle.names.specs.Letters.{spelled}
-use Rattle.names.specs.Registers.{numbered, specialOf}
+use mathlib.Core.Path.{_≡_, sym, _∙_}
+use native.Mathlib.Omega.{arith}
+use Rattle.names.specs.Codes.{special-long}
+use Rattle.names.proofs.Coding.{Coding, coding-first, coding-room, coding-next, coding-last}
 use borrow.Author.Needs.{needs}
 use Rattle.names.proofs.registers.SpecialRegister.parse.Statement.{statement}
 use Rattle.names.proofs.registers.SpecialRegister.parse.Tie as tie
 
-slice-aggregate-spells : tie.Need-slice-aggregate-spells
-slice-aggregate-spells c = search needs
+abbrev Inv-loop : tie.InvT-loop
+Inv-loop name code₀ i₀ code i = Coding name i code
 
-spells-requires : tie.Need-spells-requires
-spells-requires c κs = search needs
+abbrev μ-loop : tie.MeasureT-loop
+μ-loop name code₀ i₀ code i = i
 
-returns : tie.Need-returns
-unfolding spelled numbered specialOf
+returns : tie.Need-returns Inv-loop μ-loop
 returns c =
-    let c-spells = c .before .spells in
     let c-if1 = c .if1 in
-    rw (sym (c-spells .ensures) ∙ c-if1 .taken)
+    sym (special-long _ (c-if1 .taken))
 
-slice-aggregate-spells-2 : tie.Need-slice-aggregate-spells-2
-slice-aggregate-spells-2 c = search needs
+loop-holds : tie.Need-loop-holds Inv-loop μ-loop
+loop-holds c = coding-first _
 
-spells-requires-2 : tie.Need-spells-requires-2
-spells-requires-2 c κs = search needs
+sub-i : tie.Need-sub-i Inv-loop μ-loop
+sub-i c = omega arith
 
-returns-2 : tie.Need-returns-2
-unfolding spelled numbered specialOf
+mul-code : tie.Need-mul-code Inv-loop μ-loop
+mul-code c =
+    let c-loop = c .before .loop in
+    let c-if1 = c .before .before .if1 in
+    let c-loop-test = c .loop-test in
+    omega (arith, coding-room (c-loop .inv) (c-if1 .left) (c-loop-test .taken))
+
+shared-slice-read-lower : tie.Need-shared-slice-read-lower Inv-loop μ-loop
+shared-slice-read-lower c =
+    let c-loop = c .before .before .loop in
+    omega (arith, c-loop .inv .within)
+
+lower-requires : tie.Need-lower-requires Inv-loop μ-loop
+lower-requires c κs = search needs
+
+wide-requires : tie.Need-wide-requires Inv-loop μ-loop
+wide-requires c κs = search needs
+
+add-code : tie.Need-add-code Inv-loop μ-loop
+add-code c =
+    let c-loop = c .before .before .before .before .loop in
+    let c-if1 = c .before .before .before .before .before .if1 in
+    let c-loop-test = c .before .before .before .loop-test in
+    let c-wide = c .wide in
+    omega (arith, coding-room (c-loop .inv) (c-if1 .left) (c-loop-test .taken), c-wide .ensures)
+
+loop-less : tie.Need-loop-less Inv-loop μ-loop
+loop-less c = omega arith
+
+loop-again : tie.Need-loop-again Inv-loop μ-loop
+loop-again c =
+    let c-loop = c .before .before .before .before .loop in
+    let c-if1 = c .before .before .before .before .before .if1 in
+    let c-loop-test = c .before .before .before .loop-test in
+    let c-wide = c .wide in
+    let c-lower = c .before .lower in
+    coding-next (c-loop .inv) (c-if1 .left) (c-loop-test .taken) _ (c-wide .ensures ∙ c-lower .ensures) (omega (arith, c-wide .ensures))
+
+of-code-requires : tie.Need-of-code-requires Inv-loop μ-loop
+of-code-requires c κs = search needs
+
+returns-2 : tie.Need-returns-2 Inv-loop μ-loop
 returns-2 c =
-    let c-spells = c .before .before .before .before .spells in
-    let c-if1 = c .before .before .before .if1 in
-    let c-spells2 = c .before .spells2 in
-    let c-if2 = c .if2 in
-    rw (sym (c-spells .ensures) ∙ c-if1 .left, sym (c-spells2 .ensures) ∙ c-if2 .taken)
-
-slice-aggregate-spells-3 : tie.Need-slice-aggregate-spells-3
-slice-aggregate-spells-3 c = search needs
-
-spells-requires-3 : tie.Need-spells-requires-3
-spells-requires-3 c κs = search needs
-
-returns-3 : tie.Need-returns-3
-unfolding spelled numbered specialOf
-returns-3 c =
-    let c-spells = c .before .before .before .before .before .before .before .spells in
-    let c-if1 = c .before .before .before .before .before .before .if1 in
-    let c-spells2 = c .before .before .before .before .spells2 in
-    let c-if2 = c .before .before .before .if2 in
-    let c-spells3 = c .before .spells3 in
-    let c-if3 = c .if3 in
-    rw (sym (c-spells .ensures) ∙ c-if1 .left, sym (c-spells2 .ensures) ∙ c-if2 .left, sym (c-spells3 .ensures) ∙ c-if3 .taken)
-
-slice-aggregate-spells-4 : tie.Need-slice-aggregate-spells-4
-slice-aggregate-spells-4 c = search needs
-
-spells-requires-4 : tie.Need-spells-requires-4
-spells-requires-4 c κs = search needs
-
-returns-4 : tie.Need-returns-4
-unfolding spelled numbered specialOf
-returns-4 c =
-    let c-spells = c .before .before .before .before .before .before .before .before .before .before .spells in
-    let c-if1 = c .before .before .before .before .before .before .before .before .before .if1 in
-    let c-spells2 = c .before .before .before .before .before .before .before .spells2 in
-    let c-if2 = c .before .before .before .before .before .before .if2 in
-    let c-spells3 = c .before .before .before .before .spells3 in
-    let c-if3 = c .before .before .before .if3 in
-    let c-spells4 = c .before .spells4 in
-    let c-if4 = c .if4 in
-    rw (sym (c-spells .ensures) ∙ c-if1 .left, sym (c-spells2 .ensures) ∙ c-if2 .left, sym (c-spells3 .ensures) ∙ c-if3 .left, sym (c-spells4 .ensures) ∙ c-if4 .taken)
-
-slice-aggregate-spells-5 : tie.Need-slice-aggregate-spells-5
-slice-aggregate-spells-5 c = search needs
-
-spells-requires-5 : tie.Need-spells-requires-5
-spells-requires-5 c κs = search needs
-
-returns-5 : tie.Need-returns-5
-unfolding spelled numbered specialOf
-returns-5 c =
-    let c-spells = c .before .before .before .before .before .before .before .before .before .before .before .before .before .spells in
-    let c-if1 = c .before .before .before .before .before .before .before .before .before .before .before .before .if1 in
-    let c-spells2 = c .before .before .before .before .before .before .before .before .before .before .spells2 in
-    let c-if2 = c .before .before .before .before .before .before .before .before .before .if2 in
-    let c-spells3 = c .before .before .before .before .before .before .before .spells3 in
-    let c-if3 = c .before .before .before .before .before .before .if3 in
-    let c-spells4 = c .before .before .before .before .spells4 in
-    let c-if4 = c .before .before .before .if4 in
-    let c-spells5 = c .before .spells5 in
-    let c-if5 = c .if5 in
-    rw (sym (c-spells .ensures) ∙ c-if1 .left, sym (c-spells2 .ensures) ∙ c-if2 .left, sym (c-spells3 .ensures) ∙ c-if3 .left, sym (c-spells4 .ensures) ∙ c-if4 .left, sym (c-spells5 .ensures) ∙ c-if5 .taken)
-
-slice-aggregate-spells-6 : tie.Need-slice-aggregate-spells-6
-slice-aggregate-spells-6 c = search needs
-
-spells-requires-6 : tie.Need-spells-requires-6
-spells-requires-6 c κs = search needs
-
-returns-6 : tie.Need-returns-6
-unfolding spelled numbered specialOf
-returns-6 c =
-    let c-spells = c .before .before .before .before .before .before .before .before .before .before .before .before .before .before .before .before .spells in
-    let c-if1 = c .before .before .before .before .before .before .before .before .before .before .before .before .before .before .before .if1 in
-    let c-spells2 = c .before .before .before .before .before .before .before .before .before .before .before .before .before .spells2 in
-    let c-if2 = c .before .before .before .before .before .before .before .before .before .before .before .before .if2 in
-    let c-spells3 = c .before .before .before .before .before .before .before .before .before .before .spells3 in
-    let c-if3 = c .before .before .before .before .before .before .before .before .before .if3 in
-    let c-spells4 = c .before .before .before .before .before .before .before .spells4 in
-    let c-if4 = c .before .before .before .before .before .before .if4 in
-    let c-spells5 = c .before .before .before .before .spells5 in
-    let c-if5 = c .before .before .before .if5 in
-    let c-spells6 = c .before .spells6 in
-    let c-if6 = c .if6 in
-    rw (sym (c-spells .ensures) ∙ c-if1 .left, sym (c-spells2 .ensures) ∙ c-if2 .left, sym (c-spells3 .ensures) ∙ c-if3 .left, sym (c-spells4 .ensures) ∙ c-if4 .left, sym (c-spells5 .ensures) ∙ c-if5 .left, sym (c-spells6 .ensures) ∙ c-if6 .taken)
-
-slice-aggregate-spells-7 : tie.Need-slice-aggregate-spells-7
-slice-aggregate-spells-7 c = search needs
-
-spells-requires-7 : tie.Need-spells-requires-7
-spells-requires-7 c κs = search needs
-
-returns-7 : tie.Need-returns-7
-unfolding spelled numbered specialOf
-returns-7 c =
-    let c-spells = c .before .before .before .before .before .before .before .before .before .before .before .before .before .before .before .before .before .before .before .spells in
-    let c-if1 = c .before .before .before .before .before .before .before .before .before .before .before .before .before .before .before .before .before .before .if1 in
-    let c-spells2 = c .before .before .before .before .before .before .before .before .before .before .before .before .before .before .before .before .spells2 in
-    let c-if2 = c .before .before .before .before .before .before .before .before .before .before .before .before .before .before .before .if2 in
-    let c-spells3 = c .before .before .before .before .before .before .before .before .before .before .before .before .before .spells3 in
-    let c-if3 = c .before .before .before .before .before .before .before .before .before .before .before .before .if3 in
-    let c-spells4 = c .before .before .before .before .before .before .before .before .before .before .spells4 in
-    let c-if4 = c .before .before .before .before .before .before .before .before .before .if4 in
-    let c-spells5 = c .before .before .before .before .before .before .before .spells5 in
-    let c-if5 = c .before .before .before .before .before .before .if5 in
-    let c-spells6 = c .before .before .before .before .spells6 in
-    let c-if6 = c .before .before .before .if6 in
-    let c-spells7 = c .before .spells7 in
-    let c-if7 = c .if7 in
-    rw (sym (c-spells .ensures) ∙ c-if1 .left, sym (c-spells2 .ensures) ∙ c-if2 .left, sym (c-spells3 .ensures) ∙ c-if3 .left, sym (c-spells4 .ensures) ∙ c-if4 .left, sym (c-spells5 .ensures) ∙ c-if5 .left, sym (c-spells6 .ensures) ∙ c-if6 .left, sym (c-spells7 .ensures) ∙ c-if7 .taken)
-
-slice-aggregate-spells-8 : tie.Need-slice-aggregate-spells-8
-slice-aggregate-spells-8 c = search needs
-
-spells-requires-8 : tie.Need-spells-requires-8
-spells-requires-8 c κs = search needs
-
-returns-8 : tie.Need-returns-8
-unfolding spelled numbered specialOf
-returns-8 c =
-    let c-spells = c .before .before .before .before .before .before .before .before .before .before .before .before .before .before .before .before .before .before .before .before .before .before .spells in
-    let c-if1 = c .before .before .before .before .before .before .before .before .before .before .before .before .before .before .before .before .before .before .before .before .before .if1 in
-    let c-spells2 = c .before .before .before .before .before .before .before .before .before .before .before .before .before .before .before .before .before .before .before .spells2 in
-    let c-if2 = c .before .before .before .before .before .before .before .before .before .before .before .before .before .before .before .before .before .before .if2 in
-    let c-spells3 = c .before .before .before .before .before .before .before .before .before .before .before .before .before .before .before .before .spells3 in
-    let c-if3 = c .before .before .before .before .before .before .before .before .before .before .before .before .before .before .before .if3 in
-    let c-spells4 = c .before .before .before .before .before .before .before .before .before .before .before .before .before .spells4 in
-    let c-if4 = c .before .before .before .before .before .before .before .before .before .before .before .before .if4 in
-    let c-spells5 = c .before .before .before .before .before .before .before .before .before .before .spells5 in
-    let c-if5 = c .before .before .before .before .before .before .before .before .before .if5 in
-    let c-spells6 = c .before .before .before .before .before .before .before .spells6 in
-    let c-if6 = c .before .before .before .before .before .before .if6 in
-    let c-spells7 = c .before .before .before .before .spells7 in
-    let c-if7 = c .before .before .before .if7 in
-    let c-spells8 = c .before .spells8 in
-    let c-if8 = c .if8 in
-    rw (sym (c-spells .ensures) ∙ c-if1 .left, sym (c-spells2 .ensures) ∙ c-if2 .left, sym (c-spells3 .ensures) ∙ c-if3 .left, sym (c-spells4 .ensures) ∙ c-if4 .left, sym (c-spells5 .ensures) ∙ c-if5 .left, sym (c-spells6 .ensures) ∙ c-if6 .left, sym (c-spells7 .ensures) ∙ c-if7 .left, sym (c-spells8 .ensures) ∙ c-if8 .taken)
-
-slice-aggregate-spells-9 : tie.Need-slice-aggregate-spells-9
-slice-aggregate-spells-9 c = search needs
-
-spells-requires-9 : tie.Need-spells-requires-9
-spells-requires-9 c κs = search needs
-
-returns-9 : tie.Need-returns-9
-unfolding spelled numbered specialOf
-returns-9 c =
-    let c-spells = c .before .before .before .before .before .before .before .before .before .before .before .before .before .before .before .before .before .before .before .before .before .before .before .before .before .spells in
-    let c-if1 = c .before .before .before .before .before .before .before .before .before .before .before .before .before .before .before .before .before .before .before .before .before .before .before .before .if1 in
-    let c-spells2 = c .before .before .before .before .before .before .before .before .before .before .before .before .before .before .before .before .before .before .before .before .before .before .spells2 in
-    let c-if2 = c .before .before .before .before .before .before .before .before .before .before .before .before .before .before .before .before .before .before .before .before .before .if2 in
-    let c-spells3 = c .before .before .before .before .before .before .before .before .before .before .before .before .before .before .before .before .before .before .before .spells3 in
-    let c-if3 = c .before .before .before .before .before .before .before .before .before .before .before .before .before .before .before .before .before .before .if3 in
-    let c-spells4 = c .before .before .before .before .before .before .before .before .before .before .before .before .before .before .before .before .spells4 in
-    let c-if4 = c .before .before .before .before .before .before .before .before .before .before .before .before .before .before .before .if4 in
-    let c-spells5 = c .before .before .before .before .before .before .before .before .before .before .before .before .before .spells5 in
-    let c-if5 = c .before .before .before .before .before .before .before .before .before .before .before .before .if5 in
-    let c-spells6 = c .before .before .before .before .before .before .before .before .before .before .spells6 in
-    let c-if6 = c .before .before .before .before .before .before .before .before .before .if6 in
-    let c-spells7 = c .before .before .before .before .before .before .before .spells7 in
-    let c-if7 = c .before .before .before .before .before .before .if7 in
-    let c-spells8 = c .before .before .before .before .spells8 in
-    let c-if8 = c .before .before .before .if8 in
-    let c-spells9 = c .before .spells9 in
-    let c-if9 = c .if9 in
-    rw (sym (c-spells .ensures) ∙ c-if1 .left, sym (c-spells2 .ensures) ∙ c-if2 .left, sym (c-spells3 .ensures) ∙ c-if3 .left, sym (c-spells4 .ensures) ∙ c-if4 .left, sym (c-spells5 .ensures) ∙ c-if5 .left, sym (c-spells6 .ensures) ∙ c-if6 .left, sym (c-spells7 .ensures) ∙ c-if7 .left, sym (c-spells8 .ensures) ∙ c-if8 .left, sym (c-spells9 .ensures) ∙ c-if9 .taken)
-
-slice-aggregate-spells-10 : tie.Need-slice-aggregate-spells-10
-slice-aggregate-spells-10 c = search needs
-
-spells-requires-10 : tie.Need-spells-requires-10
-spells-requires-10 c κs = search needs
-
-returns-10 : tie.Need-returns-10
-unfolding spelled numbered specialOf
-returns-10 c =
-    let c-spells = c .before .before .before .before .before .before .before .before .before .before .before .before .before .before .before .before .before .before .before .before .before .before .before .before .before .before .before .before .spells in
-    let c-if1 = c .before .before .before .before .before .before .before .before .before .before .before .before .before .before .before .before .before .before .before .before .before .before .before .before .before .before .before .if1 in
-    let c-spells2 = c .before .before .before .before .before .before .before .before .before .before .before .before .before .before .before .before .before .before .before .before .before .before .before .before .before .spells2 in
-    let c-if2 = c .before .before .before .before .before .before .before .before .before .before .before .before .before .before .before .before .before .before .before .before .before .before .before .before .if2 in
-    let c-spells3 = c .before .before .before .before .before .before .before .before .before .before .before .before .before .before .before .before .before .before .before .before .before .before .spells3 in
-    let c-if3 = c .before .before .before .before .before .before .before .before .before .before .before .before .before .before .before .before .before .before .before .before .before .if3 in
-    let c-spells4 = c .before .before .before .before .before .before .before .before .before .before .before .before .before .before .before .before .before .before .before .spells4 in
-    let c-if4 = c .before .before .before .before .before .before .before .before .before .before .before .before .before .before .before .before .before .before .if4 in
-    let c-spells5 = c .before .before .before .before .before .before .before .before .before .before .before .before .before .before .before .before .spells5 in
-    let c-if5 = c .before .before .before .before .before .before .before .before .before .before .before .before .before .before .before .if5 in
-    let c-spells6 = c .before .before .before .before .before .before .before .before .before .before .before .before .before .spells6 in
-    let c-if6 = c .before .before .before .before .before .before .before .before .before .before .before .before .if6 in
-    let c-spells7 = c .before .before .before .before .before .before .before .before .before .before .spells7 in
-    let c-if7 = c .before .before .before .before .before .before .before .before .before .if7 in
-    let c-spells8 = c .before .before .before .before .before .before .before .spells8 in
-    let c-if8 = c .before .before .before .before .before .before .if8 in
-    let c-spells9 = c .before .before .before .before .spells9 in
-    let c-if9 = c .before .before .before .if9 in
-    let c-spells10 = c .before .spells10 in
-    let c-if10 = c .if10 in
-    rw (sym (c-spells .ensures) ∙ c-if1 .left, sym (c-spells2 .ensures) ∙ c-if2 .left, sym (c-spells3 .ensures) ∙ c-if3 .left, sym (c-spells4 .ensures) ∙ c-if4 .left, sym (c-spells5 .ensures) ∙ c-if5 .left, sym (c-spells6 .ensures) ∙ c-if6 .left, sym (c-spells7 .ensures) ∙ c-if7 .left, sym (c-spells8 .ensures) ∙ c-if8 .left, sym (c-spells9 .ensures) ∙ c-if9 .left, sym (c-spells10 .ensures) ∙ c-if10 .taken)
-
-returns-11 : tie.Need-returns-11
-unfolding spelled numbered specialOf
-returns-11 c =
-    let c-spells = c .before .before .before .before .before .before .before .before .before .before .before .before .before .before .before .before .before .before .before .before .before .before .before .before .before .before .before .before .spells in
-    let c-if1 = c .before .before .before .before .before .before .before .before .before .before .before .before .before .before .before .before .before .before .before .before .before .before .before .before .before .before .before .if1 in
-    let c-spells2 = c .before .before .before .before .before .before .before .before .before .before .before .before .before .before .before .before .before .before .before .before .before .before .before .before .before .spells2 in
-    let c-if2 = c .before .before .before .before .before .before .before .before .before .before .before .before .before .before .before .before .before .before .before .before .before .before .before .before .if2 in
-    let c-spells3 = c .before .before .before .before .before .before .before .before .before .before .before .before .before .before .before .before .before .before .before .before .before .before .spells3 in
-    let c-if3 = c .before .before .before .before .before .before .before .before .before .before .before .before .before .before .before .before .before .before .before .before .before .if3 in
-    let c-spells4 = c .before .before .before .before .before .before .before .before .before .before .before .before .before .before .before .before .before .before .before .spells4 in
-    let c-if4 = c .before .before .before .before .before .before .before .before .before .before .before .before .before .before .before .before .before .before .if4 in
-    let c-spells5 = c .before .before .before .before .before .before .before .before .before .before .before .before .before .before .before .before .spells5 in
-    let c-if5 = c .before .before .before .before .before .before .before .before .before .before .before .before .before .before .before .if5 in
-    let c-spells6 = c .before .before .before .before .before .before .before .before .before .before .before .before .before .spells6 in
-    let c-if6 = c .before .before .before .before .before .before .before .before .before .before .before .before .if6 in
-    let c-spells7 = c .before .before .before .before .before .before .before .before .before .before .spells7 in
-    let c-if7 = c .before .before .before .before .before .before .before .before .before .if7 in
-    let c-spells8 = c .before .before .before .before .before .before .before .spells8 in
-    let c-if8 = c .before .before .before .before .before .before .if8 in
-    let c-spells9 = c .before .before .before .before .spells9 in
-    let c-if9 = c .before .before .before .if9 in
-    let c-spells10 = c .before .spells10 in
-    let c-if10 = c .if10 in
-    rw (sym (c-spells .ensures) ∙ c-if1 .left, sym (c-spells2 .ensures) ∙ c-if2 .left, sym (c-spells3 .ensures) ∙ c-if3 .left, sym (c-spells4 .ensures) ∙ c-if4 .left, sym (c-spells5 .ensures) ∙ c-if5 .left, sym (c-spells6 .ensures) ∙ c-if6 .left, sym (c-spells7 .ensures) ∙ c-if7 .left, sym (c-spells8 .ensures) ∙ c-if8 .left, sym (c-spells9 .ensures) ∙ c-if9 .left, sym (c-spells10 .ensures) ∙ c-if10 .left)
+    let c-of-code = c .of-code in
+    let c-loop = c .before .before .loop in
+    let c-loop-test = c .before .loop-test in
+    c-of-code .ensures ∙ coding-last (c-loop .inv) (c-loop-test .left)
 
 pub parse-spec : {M : Type 1} → statement M
 parse-spec =
     tie.close
     (tie.spec
-    slice-aggregate-spells
-    spells-requires
+    Inv-loop
+    μ-loop
     returns
-    slice-aggregate-spells-2
-    spells-requires-2
-    returns-2
-    slice-aggregate-spells-3
-    spells-requires-3
-    returns-3
-    slice-aggregate-spells-4
-    spells-requires-4
-    returns-4
-    slice-aggregate-spells-5
-    spells-requires-5
-    returns-5
-    slice-aggregate-spells-6
-    spells-requires-6
-    returns-6
-    slice-aggregate-spells-7
-    spells-requires-7
-    returns-7
-    slice-aggregate-spells-8
-    spells-requires-8
-    returns-8
-    slice-aggregate-spells-9
-    spells-requires-9
-    returns-9
-    slice-aggregate-spells-10
-    spells-requires-10
-    returns-10
-    returns-11)
+    loop-holds
+    sub-i
+    mul-code
+    shared-slice-read-lower
+    lower-requires
+    wide-requires
+    add-code
+    loop-less
+    loop-again
+    of-code-requires
+    returns-2)
