@@ -3,8 +3,6 @@ pub mod Trees
 pub mod Reader
 pub mod Expressions
 pub mod Records
-pub mod Terms
-pub mod Promises
 pub mod Examples
 pub mod Laws
 pub mod Costs

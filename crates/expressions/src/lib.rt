@@ -1,10 +1,4 @@
-// Expressions: terms, levels and trees, read into lent stores of records.
+// Expressions: the definition of a reading in specs/.
 mod reading;
-mod terms;
 
 pub use reading::Setting;
-pub use reading::expression;
-pub use reading::expression_from;
-pub use terms::Chain;
-pub use terms::Parsed;
-pub use terms::Step;

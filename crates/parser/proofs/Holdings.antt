@@ -7,14 +7,14 @@ use native.Mathlib.Omega.{arith}
 use lib.ListN.{take, length}
 use Rattle.names.specs.Places.{place}
 use Rattle.records.specs.declared.spans.Span.{Span}
-use Rattle.expressions.specs.declared.terms.Chain.{Chain}
+use Rattle.terms.specs.declared.terms.Chain.{Chain}
 use Rattle.records.specs.declared.counters.Counters.{Counters}
-use Rattle.expressions.specs.declared.terms.Parsed.the-variants as parsed
-use Rattle.expressions.specs.declared.terms.Step.{Step}
+use Rattle.terms.specs.declared.terms.Parsed.the-variants as parsed
+use Rattle.terms.specs.declared.terms.Step.{Step}
 use Rattle.expressions.specs.Expressions.{Term, read, reported, absent, parseExpression, expressionFrom}
-use Rattle.expressions.specs.Promises.{ExpressionPromise, Stands, LeftStands, FromPromise}
+use Rattle.terms.specs.Promises.{ExpressionPromise, Stands, LeftStands, FromPromise}
 use Rattle.expressions.specs.Reader.{Reader, answer, _>>=_, run}
-use Rattle.expressions.specs.Terms.{sizeT}
+use Rattle.terms.specs.Terms.{sizeT}
 use Rattle.expressions.specs.Trees.{Expr, withSpan, size}
 use Rattle.operand.specs.Operands.{Displacement, displaced, undisplaced, Operand, Maybe, some, none}
 use Rattle.operand.specs.Operand.{finishExpressionOperand}

@@ -28,7 +28,7 @@ use Rattle.expressions.specs.Laws.{holds}
 use Rattle.records.specs.Nodes.{record14, lowFirst}
 use Rattle.records.specs.Stores.{PutTold}
 use Rattle.records.specs.Counting.{stepped}
-use Rattle.expressions.specs.Terms.{NodeTold}
+use Rattle.terms.specs.Terms.{NodeTold}
 use Rattle.operand.specs.Operands.{single, Maybe, some, none}
 use Rattle.operand.specs.Operand.{aRegister, indexOf, registerFrom, registerExpected, ranged, listItem}
 use Rattle.operand.specs.Mask.{bitsFrom}

@@ -9,17 +9,17 @@ use lib.Seq.{take-at, drop-append-add, drop-drop, length-take-le}
 use Rattle.names.specs.Places.{place}
 use Rattle.records.specs.declared.spans.Span.{Span}
 use Rattle.records.specs.declared.counters.Counters.{Counters}
-use Rattle.expressions.specs.declared.terms.Parsed.the-variants as parsed
-use Rattle.expressions.specs.declared.terms.Step.{Step}
-use Rattle.expressions.specs.declared.terms.Chain.{Chain}
+use Rattle.terms.specs.declared.terms.Parsed.the-variants as parsed
+use Rattle.terms.specs.declared.terms.Step.{Step}
+use Rattle.terms.specs.declared.terms.Chain.{Chain}
 use Rattle.expressions.specs.Costs.{expression-cost}
 use Rattle.expressions.specs.Expressions.{Term, read, reported, absent, parseExpression, expressionFrom}
 use Rattle.expressions.specs.Laws.{law-run}
-use Rattle.expressions.specs.Promises.{filled, ExpressionPromise, Stands, FromPromise}
+use Rattle.terms.specs.Promises.{filled, ExpressionPromise, Stands, FromPromise}
 use Rattle.expressions.specs.Reader.{run}
 use Rattle.expressions.specs.Records.{nodes, length-nodes}
 use Rattle.records.specs.Stores.{nodeBytes}
-use Rattle.expressions.specs.Terms.{parsedOf, sizeT, nodesT, Fit, FitClimb}
+use Rattle.terms.specs.Terms.{parsedOf, sizeT, nodesT, Fit, FitClimb}
 use Rattle.expressions.specs.Trees.{Expr, number, characterLiteral, symbol, currentAddress, unary, binary, spanE, withSpan, size}
 use Rattle.parser.specs.Steps.{Room, NodeRoom, Told}
 use Rattle.parser.proofs.Rooms.{clean}

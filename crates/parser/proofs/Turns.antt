@@ -22,7 +22,7 @@ use Rattle.expressions.specs.Reader.{is, _>>=_, run}
 use Rattle.records.specs.Stores.{nodeBytes}
 use Rattle.operand.specs.Clearing.{all-records}
 use Rattle.records.specs.Counting.{stepped}
-use Rattle.expressions.specs.Terms.{NodeTold}
+use Rattle.terms.specs.Terms.{NodeTold}
 use Rattle.operand.specs.Operands.{RegisterListItem, single, range, Operand, Maybe, some, none}
 use Rattle.operand.specs.Operand.{registerFrom, registerExpected, listItem, listed, nextItem, listLoop, parseRegisterList}
 use Rattle.operand.specs.Records.{itemRecord, itemRecords, sizeO, nodesO}

@@ -15,7 +15,7 @@ use Rattle.records.specs.Spans.{span, spanOf, empty}
 use Rattle.expressions.specs.Trees.{Expr, spanE, withSpan, size}
 use Rattle.records.specs.Diagnostics.{operandExpected, unexpectedTokenInOperand}
 use Rattle.expressions.specs.Expressions.{takeSizeSuffix, expressionFrom}
-use Rattle.expressions.specs.Promises.{Stands}
+use Rattle.terms.specs.Promises.{Stands}
 use Rattle.records.specs.Stores.{nodeBytes}
 use Rattle.records.specs.declared.spans.Span.{Span}
 use Rattle.expressions.specs.declared.reading.Setting.{Setting}

@@ -24,7 +24,7 @@ ghost use Prim.Native.Nat.{_+_, _-_, _*_, _≤_, _<_};
 ghost use lib.ListN.{length};
 ghost use Rattle.names.specs.Tokens.{tokenAt};
 ghost use Rattle.records.specs.Diagnostics.{registerExpectedInRegisterList};
-ghost use Rattle.expressions.specs.Terms.{NodeTold};
+ghost use Rattle.terms.specs.Terms.{NodeTold};
 ghost use Rattle.operand.specs.Operand.{parseRegisterList};
 ghost use Rattle.operand.specs.Mask.{bitsFrom};
 ghost use Rattle.parser.specs.Steps.{Room, Raised, OperandTold};

@@ -1,0 +1,3 @@
+-- What the functions that read terms and expressions ask and tell.
+pub mod Terms
+pub mod Promises

@@ -1,0 +1,210 @@
+-- What the functions that read terms ask, and what they tell: the answer and both stores, by the reading that the definition gives.
+-- Assumes nothing.
+use mathlib.Core.Path.{_≡_}
+use mathlib.Core.List.{List, [], _∷_, _++_}
+use Prim.Native.Nat.{ℕ, _+_, _-_, _*_, _≤_, _<_}
+use lib.ListN.{length, take, drop}
+use Rattle.names.specs.Kinds
+use Rattle.names.specs.Tokens.{count, tokenAt}
+use Rattle.names.specs.declared.tokens.Peeked.the-variants as peeked
+use Rattle.names.specs.Places.{Place, stands, place}
+use Rattle.names.specs.declared.tokens.Token.{Token}
+use Rattle.records.specs.Spans.{span, spanOf}
+use Rattle.expressions.specs.Trees.{Expr, spanE, size}
+use Rattle.records.specs.declared.spans.Span.{Span}
+use Rattle.records.specs.declared.diagnostics.Diagnostic.{Diagnostic}
+use Rattle.records.specs.declared.counters.Counters.{Counters}
+use Rattle.terms.specs.declared.terms.Parsed.{Parsed}
+use Rattle.terms.specs.declared.terms.Parsed.the-variants as parsed
+use Rattle.terms.specs.declared.terms.Step.{Step}
+use Rattle.terms.specs.declared.terms.Chain.{Chain}
+use Rattle.records.specs.Diagnostics.{unclosedParenthesis}
+use Rattle.expressions.specs.Reader.{Reading, Reader, run, _>>=_}
+use Rattle.expressions.specs.Expressions.{Term, precedence, read, reported, absent, tooDeep, fuel, negated, plussed, grouped, parsePrefix, parseExpression, parseExpressionFrom}
+use Rattle.records.specs.Nodes.{record14, lowFirst}
+use Rattle.expressions.specs.Records.{nodes}
+use Rattle.records.specs.Counting.{stepped}
+use Rattle.records.specs.Stores.{written, added, PutTold, PushTold}
+
+-- ---- a term as the answer has it
+
+unfoldable pub parsedOf : Term → Parsed
+parsedOf (read e) = parsed.Read (spanE e)
+parsedOf reported = parsed.Reported
+parsedOf absent = parsed.Absent
+
+unfoldable pub sizeT : Term → ℕ
+sizeT (read e) = size e
+sizeT reported = 0
+sizeT absent = 0
+
+unfoldable pub nodesT : ℕ → Term → List ℕ
+nodesT b (read e) = nodes b e
+nodesT b reported = []
+nodesT b absent = []
+
+-- the answer r and the stores N′ and D′ are what the reading s says, from the node n and the diagnostic d on
+pub record Told (s : Reading Term) (N D N′ D′ : List ℕ) (n d : ℕ) (r : Step) : Type 0 where
+  pub what : r .parsed ≡ parsedOf (s .value)
+  pub at : r .counters .at ≡ s .cursor
+  pub end : r .counters .end ≡ s .end
+  pub total : r .counters .nodes ≡ n + sizeT (s .value)
+  pub seen : r .counters .diagnostics ≡ d + length (s .raised)
+  pub bytes : take (14 * r .counters .nodes) N′ ≡ take (14 * n) N ++ nodesT n (s .value)
+  pub more : D′ ≡ added D d (s .raised)
+
+-- From the counters c to r a record is written for each consumed token at the most: the records past these stay
+abbrev pub Spared : List ℕ → List ℕ → Counters → Counters → Type 0
+Spared N N′ c r = (k : ℕ) → c .nodes + r .at ≤ k + c .at → drop (14 * k) N′ ≡ drop (14 * k) N
+
+-- ---- the parts that are no readers of their own
+
+pub record LeafTold (N N′ : List ℕ) (c : Counters) (kind detail : ℕ) (s : Span) (value : ℕ) (r : Step) : Type 0 where
+  pub what : r .parsed ≡ parsed.Read s
+  pub at : r .counters .at ≡ c .at
+  pub end : r .counters .end ≡ c .end
+  pub seen : r .counters .diagnostics ≡ c .diagnostics
+  pub put : PutTold N N′ (c .nodes) (record14 kind detail 255 255 s (lowFirst 8 value)) (r .counters .nodes)
+
+pub record DeepTold (D D′ : List ℕ) (c : Counters) (x : Diagnostic) (r : Step) : Type 0 where
+  pub what : r .parsed ≡ parsed.Reported
+  pub at : r .counters .at ≡ c .at
+  pub end : r .counters .end ≡ c .end
+  pub same : r .counters .nodes ≡ c .nodes
+  pub push : PushTold D D′ (c .diagnostics) x (r .counters .diagnostics)
+
+-- the node record b behind those that count; nothing else moves
+pub record NodeTold (N N′ : List ℕ) (c : Counters) (b : List ℕ) (r : Counters) : Type 0 where
+  pub at : r .at ≡ c .at
+  pub end : r .end ≡ c .end
+  pub seen : r .diagnostics ≡ c .diagnostics
+  pub put : PutTold N N′ (c .nodes) b (r .nodes)
+
+-- ---- what a term of one token asks, behind that token, and what it tells
+
+pub record LeafAsks (N D : List ℕ) (c : Counters) : Type 0 where
+  pub number : c .nodes < 255
+  pub long : 3570 ≤ length N
+  pub room : 10 * c .diagnostics + 10 ≤ length D
+
+-- the reader p, which looks at no place, from the counters c on
+pub record ReaderTold (p : Reader Term) (N D N′ D′ : List ℕ) (c : Counters) (r : Step) : Type 0 where
+  pub told : (at : ℕ → Place) → Told (run p at (c .at) (c .end)) N D N′ D′ (c .nodes) (c .diagnostics) r
+  pub stays : r .counters .at ≡ c .at
+  pub past : (k : ℕ) → c .nodes < k → drop (14 * k) N′ ≡ drop (14 * k) N
+
+-- the reader p, where the token k with the text x stands at the cursor
+pub record TokenTold (p : Reader Term) (k : Token) (x : List ℕ) (N D N′ D′ : List ℕ) (c : Counters) (r : Step) : Type 0 where
+  pub told : (at : ℕ → Place) → at (c .at) ≡ stands k x → Told (run p at (c .at) (c .end)) N D N′ D′ (c .nodes) (c .diagnostics) r
+  pub past : Spared N N′ c (r .counters)
+
+-- the depth is told, whatever the line
+pub record DepthTold (T D D′ : List ℕ) (c : Counters) (r : Step) : Type 0 where
+  pub told : (L N : List ℕ) → Told (run tooDeep (place L T) (c .at) (c .end)) N D N D′ (c .nodes) (c .diagnostics) r
+
+-- ---- the readers that call each other: what they ask
+
+pub record Fit (T N D : List ℕ) (c : Counters) : Type 0 where
+  pub few : count T ≤ 255
+  pub within : c .at ≤ count T
+  pub nodesFit : c .nodes + count T ≤ 255 + c .at
+  pub nodesLong : 3570 ≤ length N
+  pub diagsFit : 10 * c .diagnostics + 10 * count T + 10 ≤ length D + 10 * c .at
+
+-- behind a token, which has left room for a node and a diagnostic
+pub record FitBehind (T N D : List ℕ) (c : Counters) : Type 0 where
+  pub few : count T ≤ 255
+  pub within : c .at ≤ count T
+  pub nodesFit : c .nodes + count T + 1 ≤ 255 + c .at
+  pub nodesLong : 3570 ≤ length N
+  pub diagsFit : 10 * c .diagnostics + 10 * count T + 20 ≤ length D + 10 * c .at
+
+-- behind a tree
+pub record FitClimb (T N D : List ℕ) (c : Counters) : Type 0 where
+  pub few : count T ≤ 255
+  pub within : c .at ≤ count T
+  pub nodesFit : c .nodes + count T ≤ 255 + c .at
+  pub nodesLong : 3570 ≤ length N
+  pub diagsFit : 10 * c .diagnostics + 10 * count T ≤ length D + 10 * c .at
+  pub some : 0 < c .nodes
+
+-- an operator t of the climb stands at the cursor
+pub record OperatedAsks (T : List ℕ) (c : Counters) (min : ℕ) (t : Token) : Type 0 where
+  pub there : tokenAt T (c .at) ≡ peeked.Is t
+  pub level : min ≤ precedence (t .kind)
+
+-- ---- and what they tell
+
+pub record TermTold (s : Reading Term) (T N D N′ D′ : List ℕ) (c : Counters) (r : Step) : Type 0 where
+  pub told : Told s N D N′ D′ (c .nodes) (c .diagnostics) r
+  pub past : Spared N N′ c (r .counters)
+  pub on : c .at ≤ r .counters .at
+  pub within : r .counters .at ≤ count T
+  pub few : r .counters .nodes + c .at ≤ c .nodes + r .counters .at
+  pub quiet : r .counters .diagnostics + c .at ≤ c .diagnostics + r .counters .at + 1
+
+abbrev pub PrefixTold : List ℕ → List ℕ → List ℕ → List ℕ → List ℕ → List ℕ → Counters → ℕ → Step → Type 0
+PrefixTold L T N D N′ D′ c room r = TermTold (run (parsePrefix fuel room) (place L T) (c .at) (c .end)) T N D N′ D′ c r
+
+abbrev pub ExpressionTold : List ℕ → List ℕ → List ℕ → List ℕ → List ℕ → List ℕ → Counters → ℕ → Step → Type 0
+ExpressionTold L T N D N′ D′ c room r = TermTold (run (parseExpression room) (place L T) (c .at) (c .end)) T N D N′ D′ c r
+
+-- the terms behind their first token
+abbrev pub unaryTerm : ℕ → Token → Reader Term
+unaryTerm room k = parsePrefix fuel room >>= negated k
+
+abbrev pub plusTerm : ℕ → Token → Reader Term
+plusTerm room k = parsePrefix fuel room >>= plussed k
+
+abbrev pub groupTerm : ℕ → Token → Reader Term
+groupTerm room k = parseExpression room >>= grouped k
+
+pub record BehindTold (p : Reader Term) (L T N D N′ D′ : List ℕ) (c : Counters) (r : Step) : Type 0 where
+  pub told : Told (run p (place L T) (c .at) (c .end)) N D N′ D′ (c .nodes) (c .diagnostics) r
+  pub past : (k : ℕ) → c .nodes + r .counters .at + 1 ≤ k + c .at → drop (14 * k) N′ ≡ drop (14 * k) N
+  pub on : c .at ≤ r .counters .at
+  pub within : r .counters .at ≤ count T
+  pub few : r .counters .nodes + c .at ≤ c .nodes + r .counters .at + 1
+  pub quiet : r .counters .diagnostics + c .at ≤ c .diagnostics + r .counters .at + 2
+
+-- the climb s, of a tree whose records stand from b on, behind P
+pub record Says (s : Reading Expr) (D N′ D′ P : List ℕ) (b d : ℕ) (r : Chain) : Type 0 where
+  pub span : r .span ≡ spanE (s .value)
+  pub at : r .counters .at ≡ s .cursor
+  pub end : r .counters .end ≡ s .end
+  pub total : r .counters .nodes ≡ b + size (s .value)
+  pub seen : r .counters .diagnostics ≡ d + length (s .raised)
+  pub bytes : take (14 * r .counters .nodes) N′ ≡ P ++ nodes b (s .value)
+  pub more : D′ ≡ added D d (s .raised)
+
+-- whatever tree e the last records hold, and with fuel enough
+pub record ClimbTold (L T N D N′ D′ : List ℕ) (c : Counters) (left : Span) (min room : ℕ) (r : Chain) : Type 0 where
+  pub told : (g : ℕ) → count T ≤ g + c .at → (P : List ℕ) (b : ℕ) (e : Expr) → take (14 * c .nodes) N ≡ P ++ nodes b e → c .nodes ≡ b + size e → left ≡ spanE e
+      → Says (run (parseExpressionFrom g (parsePrefix fuel room) min e) (place L T) (c .at) (c .end)) D N′ D′ P b (c .diagnostics) r
+  pub past : Spared N N′ c (r .counters)
+  pub some : 0 < r .counters .nodes
+  pub on : c .at ≤ r .counters .at
+  pub within : r .counters .at ≤ count T
+  pub few : r .counters .nodes + c .at ≤ c .nodes + r .counters .at
+  pub quiet : r .counters .diagnostics + c .at ≤ c .diagnostics + r .counters .at
+
+-- ---- the end of a group
+
+pub record CloseAsks (T N D : List ℕ) (first : ℕ) (c : Counters) : Type 0 where
+  pub few : count T ≤ 255
+  pub within : c .at ≤ count T
+  pub nodesFit : c .nodes ≤ 255
+  pub nodesLong : 3570 ≤ length N
+  pub room : 10 * c .diagnostics + 10 ≤ length D
+  pub some : 0 < c .nodes
+
+abbrev pub withNodes : Counters → ℕ → Counters
+withNodes c n = record { at = c .at; end = c .end; nodes = n; diagnostics = c .diagnostics }
+
+-- a parenthesis t closes the group k, whose root gets the whole span; or none does
+pub data CloseTold (T N D N′ D′ : List ℕ) (first : ℕ) (c : Counters) (k : Token) (r : Step) : Type 0 where
+  closed : (t : Token) → tokenAt T (c .at) ≡ peeked.Is t → t .kind ≡ Kinds.rightParen
+      → N′ ≡ written N (14 * (c .nodes - 1) + 4) (k .start ∷ t .end ∷ []) → D′ ≡ D
+      → r .parsed ≡ parsed.Read (span (k .start) (t .end)) → r .counters ≡ stepped c t → CloseTold T N D N′ D′ first c k r
+  unclosed : ((t : Token) → tokenAt T (c .at) ≡ peeked.Is t → t .kind ≡ Kinds.rightParen → ⊥) → N′ ≡ N
+      → DeepTold D D′ (withNodes c first) (unclosedParenthesis (spanOf k)) r → CloseTold T N D N′ D′ first c k r
