@@ -36,12 +36,12 @@ use Rattle.operand.specs.declared.forms.DisplacementStep.{DisplacementStep}
 use Rattle.operand.specs.declared.forms.SizedDisplacement.{SizedDisplacement}
 use Rattle.operand.specs.declared.forms.OperandRead.{OperandRead}
 use Rattle.operand.specs.declared.forms.OperandStep.{OperandStep}
-use Rattle.parser.specs.declared.indirect.InnerPart.{InnerPart}
-use Rattle.parser.specs.declared.indirect.InnerRead.{InnerRead}
-use Rattle.parser.specs.declared.indirect.InnerStep.{InnerStep}
-use Rattle.parser.specs.declared.indirect.OuterPart.{OuterPart}
-use Rattle.parser.specs.declared.indirect.OuterRead.{OuterRead}
-use Rattle.parser.specs.declared.indirect.OuterStep.{OuterStep}
+use Rattle.parser.specs.declared.inner.InnerPart.{InnerPart}
+use Rattle.parser.specs.declared.inner.InnerRead.{InnerRead}
+use Rattle.parser.specs.declared.inner.InnerStep.{InnerStep}
+use Rattle.parser.specs.declared.outer.OuterPart.{OuterPart}
+use Rattle.parser.specs.declared.outer.OuterRead.{OuterRead}
+use Rattle.parser.specs.declared.outer.OuterStep.{OuterStep}
 use Rattle.parser.proofs.Paths.{answered, hereby, hit, passed, unseen}
 use Rattle.parser.proofs.Rooms.{clean, room-step, left-room}
 use Rattle.parser.proofs.Trees.{TreeRead}

@@ -1,6 +1,7 @@
 -- What the proofs of the functions share.
 pub mod Paths
 pub mod Names
+pub mod Starts
 pub mod Ranges
 pub mod Turns
 pub mod Rooms

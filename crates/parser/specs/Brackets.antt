@@ -1,4 +1,4 @@
--- What the functions of memory indirect operands ask and tell, and the code's values (indirect.rt) for those of the definition.
+-- What the functions of memory indirect operands ask and tell, and the code's values (inner.rt, outer.rt) for those of the definition.
 -- Assumes nothing.
 use mathlib.Core.Path.{_≡_}
 use mathlib.Core.List.{List, [], _++_}
@@ -20,12 +20,12 @@ use Rattle.operand.specs.declared.forms.Index.{Index}
 use Rattle.operand.specs.declared.forms.SizedDisplacement.{SizedDisplacement}
 use Rattle.operand.specs.declared.forms.DisplacementStep.{DisplacementStep}
 use Rattle.operand.specs.declared.forms.OperandStep.{OperandStep}
-use Rattle.parser.specs.declared.indirect.InnerPart.{InnerPart}
-use Rattle.parser.specs.declared.indirect.InnerRead.{InnerRead}
-use Rattle.parser.specs.declared.indirect.InnerStep.{InnerStep}
-use Rattle.parser.specs.declared.indirect.OuterPart.{OuterPart}
-use Rattle.parser.specs.declared.indirect.OuterRead.{OuterRead}
-use Rattle.parser.specs.declared.indirect.OuterStep.{OuterStep}
+use Rattle.parser.specs.declared.inner.InnerPart.{InnerPart}
+use Rattle.parser.specs.declared.inner.InnerRead.{InnerRead}
+use Rattle.parser.specs.declared.inner.InnerStep.{InnerStep}
+use Rattle.parser.specs.declared.outer.OuterPart.{OuterPart}
+use Rattle.parser.specs.declared.outer.OuterRead.{OuterRead}
+use Rattle.parser.specs.declared.outer.OuterStep.{OuterStep}
 
 -- ---- nodes
 

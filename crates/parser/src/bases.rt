@@ -2,12 +2,9 @@
 use crate::indexes::expect_close;
 use crate::indexes::parse_index_register;
 use crate::places::address_register_at;
-use crate::places::base_at;
-use crate::places::is_an_index_at;
 use crate::places::program_counter_at;
 use crate::reports::malformed;
 use crate::reports::not_an_address_register;
-use crate::reports::stepped_over;
 use crate::reports::unclosed;
 use crate::steps::an_operand;
 use crate::steps::indexed;
@@ -25,9 +22,6 @@ use operand::IndexRead;
 use operand::IndexRegister;
 use operand::OperandStep;
 use operand::Register;
-use operand::Registers;
-use operand::RegistersRead;
-use operand::RegistersStep;
 use operand::SizedDisplacement;
 use records::Counters;
 use records::Span;
@@ -38,11 +32,9 @@ ghost use mathlib.Core.List.{List};
 ghost use Prim.Native.Nat.{ℕ, _+_, _*_, _≤_};
 ghost use lib.ListN.{length};
 ghost use Rattle.operand.specs.Operands.{Displacement};
-ghost use Rattle.operand.specs.Operand.{baseShape, closedBase, afterBase, closedCounter, afterCounter, parseBaseAndIndex, afterBaseRegister, noBase, parseBaseAndIndexRegisters, parseFullIndex};
-ghost use Rattle.operand.specs.Forms.{sizedOf, registersRead};
-ghost use Rattle.parser.specs.Steps.{Room, Told, Same, TailTold, BaseTold, IndexedTold, closeIndex, baseAndIndex, withIndex, commaAndIndex};
-ghost use Rattle.parser.specs.Tests.{isBase};
-ghost use Rattle.operand.specs.declared.forms.RegistersRead.{RegistersRead};
+ghost use Rattle.operand.specs.Operand.{baseShape, closedBase, afterBase, closedCounter, afterCounter, parseBaseAndIndex};
+ghost use Rattle.operand.specs.Forms.{sizedOf};
+ghost use Rattle.parser.specs.Steps.{Room, BaseTold, IndexedTold, closeIndex, baseAndIndex};
 
 // The shape of an operand whose base is wrong, by whether it has a displacement.
 fn base_shape(d: SizedDisplacement) -> u8
@@ -280,206 +272,4 @@ pub(crate) fn parse_base_and_index(
         return after_counter(line, tokens, diagnostics, e, s, o, paren, d);
     }
     no_operand(not_an_address_register(diagnostics, e, o, base_shape(d), t))
-}
-
-// ---- the registers of a full index
-
-fn registers(base: BaseRegister, index: Index, c: Counters) -> RegistersStep
-    ensures { λ r. ⌜ (r .registers ≡ RegistersRead.Is (record { base = base; index = index })) × (r .counters ≡ c) ⌝ }
-{
-    RegistersStep {
-        registers: RegistersRead::Is(Registers {
-            base: base,
-            index: index,
-        }),
-        counters: c,
-    }
-}
-
-fn no_registers(c: Counters) -> RegistersStep
-    ensures { λ r. ⌜ (r .registers ≡ RegistersRead.Not) × (r .counters ≡ c) ⌝ }
-{
-    RegistersStep {
-        registers: RegistersRead::Not,
-        counters: c,
-    }
-}
-
-// The index that stands at the cursor, behind this base.
-fn with_index(
-    line: &[u8],
-    tokens: &[u8],
-    diagnostics: &mut [u8],
-    c: Counters,
-    s: Setting,
-    o: u8,
-    shape: u8,
-    base: BaseRegister,
-) -> RegistersStep
-    requires { ⌜ Room (now tokens) (now diagnostics) c ⌝ }
-    ensures { λ r. ⌜ Told registersRead (Same (c .nodes)) (withIndex s o shape base) (now (line .entry)) (now (tokens .entry)) (now (diagnostics .entry)) (now (diagnostics .exit)) c (r .registers) (r .counters) ⌝ }
-{
-    let i = parse_index_register(line, tokens, diagnostics, c, s, o, shape);
-    let e = i.counters;
-    let index = i.index;
-    match index {
-        IndexRead::Not => no_registers(e),
-        IndexRead::Is(x) => registers(base, Index::Indexed(x), e),
-    }
-}
-
-// A comma and the index behind it, or neither.
-fn comma_and_index(
-    line: &[u8],
-    tokens: &[u8],
-    diagnostics: &mut [u8],
-    c: Counters,
-    s: Setting,
-    o: u8,
-    shape: u8,
-    base: BaseRegister,
-) -> RegistersStep
-    requires { ⌜ Room (now tokens) (now diagnostics) c ⌝ }
-    ensures { λ r. ⌜ Told registersRead (Same (c .nodes)) (commaAndIndex s o shape base) (now (line .entry)) (now (tokens .entry)) (now (diagnostics .entry)) (now (diagnostics .exit)) c (r .registers) (r .counters) ⌝ }
-{
-    let at = c.at;
-    let p = names::token_at(tokens, at);
-    match p {
-        Peeked::End => registers(base, Index::Unindexed, c),
-        Peeked::Is(t) => {
-            if t.kind != kinds::COMMA {
-                return registers(base, Index::Unindexed, c);
-            }
-            with_index(
-                line,
-                tokens,
-                diagnostics,
-                step_over(c, t),
-                s,
-                o,
-                shape,
-                base,
-            )
-        }
-    }
-}
-
-// Behind a base.
-fn after_base_register(
-    line: &[u8],
-    tokens: &[u8],
-    diagnostics: &mut [u8],
-    c: Counters,
-    s: Setting,
-    o: u8,
-    shape: u8,
-    base: BaseRegister,
-) -> RegistersStep
-    requires { ⌜ Room (now tokens) (now diagnostics) c ⌝ }
-    ensures { λ r. ⌜ Told registersRead (Same (c .nodes)) (afterBaseRegister s o shape base) (now (line .entry)) (now (tokens .entry)) (now (diagnostics .entry)) (now (diagnostics .exit)) c (r .registers) (r .counters) ⌝ }
-{
-    let at = c.at;
-    if is_an_index_at(line, tokens, at + 1, s) {
-        return comma_and_index(line, tokens, diagnostics, c, s, o, shape, base);
-    }
-    registers(base, Index::Unindexed, c)
-}
-
-// An index without a base.
-fn no_base(
-    line: &[u8],
-    tokens: &[u8],
-    diagnostics: &mut [u8],
-    c: Counters,
-    s: Setting,
-    o: u8,
-    shape: u8,
-) -> RegistersStep
-    requires { ⌜ Room (now tokens) (now diagnostics) c ⌝ }
-    ensures { λ r. ⌜ Told registersRead (Same (c .nodes)) (noBase s o shape) (now (line .entry)) (now (tokens .entry)) (now (diagnostics .entry)) (now (diagnostics .exit)) c (r .registers) (r .counters) ⌝ }
-{
-    let at = c.at;
-    if is_an_index_at(line, tokens, at, s) {
-        return with_index(
-            line,
-            tokens,
-            diagnostics,
-            c,
-            s,
-            o,
-            shape,
-            BaseRegister::Omitted,
-        );
-    }
-    no_registers(stepped_over(tokens, diagnostics, c, o, shape, 11))
-}
-
-fn is_base(base: BaseRegister) -> bool
-    ensures { λ r. ⌜ r ≡ isBase base ⌝ }
-{
-    match base {
-        BaseRegister::Address(_) => true,
-        BaseRegister::ProgramCounter => true,
-        BaseRegister::SuppressedAddress(_) => true,
-        BaseRegister::SuppressedProgramCounter => true,
-        BaseRegister::Omitted => false,
-    }
-}
-
-pub(crate) fn parse_base_and_index_registers(
-    line: &[u8],
-    tokens: &[u8],
-    diagnostics: &mut [u8],
-    c: Counters,
-    s: Setting,
-    o: u8,
-    shape: u8,
-) -> RegistersStep
-    requires { ⌜ Room (now tokens) (now diagnostics) c ⌝ }
-    ensures { λ r. ⌜ Told registersRead (Same (c .nodes)) (parseBaseAndIndexRegisters s o shape) (now (line .entry)) (now (tokens .entry)) (now (diagnostics .entry)) (now (diagnostics .exit)) c (r .registers) (r .counters) ⌝ }
-{
-    let at = c.at;
-    let p = names::token_at(tokens, at);
-    let Peeked::Is(t) = p else {
-        return no_base(line, tokens, diagnostics, c, s, o, shape);
-    };
-    let base = base_at(line, tokens, at, s, t);
-    if is_base(base) {
-        let e = step_over(c, t);
-        return after_base_register(line, tokens, diagnostics, e, s, o, shape, base);
-    }
-    no_base(line, tokens, diagnostics, c, s, o, shape)
-}
-
-pub(crate) fn parse_full_index(
-    line: &[u8],
-    tokens: &[u8],
-    diagnostics: &mut [u8],
-    c: Counters,
-    s: Setting,
-    o: u8,
-    paren: Token,
-    d: SizedDisplacement,
-) -> OperandStep
-    requires { ⌜ Room (now tokens) (now diagnostics) c ⌝ }
-    ensures { λ r. ⌜ TailTold (λ y. parseFullIndex s o paren y) (now (line .entry)) (now (tokens .entry)) (now (diagnostics .entry)) (now (diagnostics .exit)) c d r ⌝ }
-{
-    let r = parse_base_and_index_registers(line, tokens, diagnostics, c, s, o, 6);
-    let e = r.counters;
-    let both = r.registers;
-    let RegistersRead::Is(x) = both else {
-        return no_operand(e);
-    };
-    let f = expect_close(tokens, diagnostics, e, o, paren, 6);
-    let g = f.counters;
-    let close = f.close;
-    match close {
-        Close::Not => no_operand(g),
-        Close::Is(end) => {
-            let span = Span { start: o, end: end };
-            let base = x.base;
-            let index = x.index;
-            an_operand(indexed(12, span, d, base, index), g)
-        }
-    }
 }

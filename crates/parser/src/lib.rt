@@ -1,12 +1,33 @@
-// The reader of one operand: every addressing mode.
-mod bases;
-mod indexes;
-mod indirect;
-mod lists;
-mod operands;
+// The reader of one operand: every addressing mode. Its parts, in reading order:
+
+// what the forms share
 mod places;
-mod reading;
 mod reports;
 mod steps;
+
+// sizes, scales and index registers; displacements
+mod displacements;
+mod indexes;
+
+// immediates and register lists
+mod immediates;
+mod lists;
+
+// bases and indexes between parentheses
+mod bases;
+mod full;
+
+// memory indirect
+mod indirect;
+mod inner;
+mod outer;
+
+// expressions and groups; the operand, by how it begins
+mod absolutes;
+mod operands;
+mod parentheses;
+
+// the public function
+mod reading;
 
 pub use reading::operand_at;

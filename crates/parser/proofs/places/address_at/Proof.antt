@@ -4,7 +4,7 @@ use mathlib.Core.Path.{sym, _∙_}
 use native.Mathlib.Omega.{arith}
 use borrow.Author.Tests.{le-leb, lt-leb}
 use Rattle.parser.specs.Tests.{addressBase}
-use Rattle.parser.proofs.Names.{closes-neither}
+use Rattle.parser.proofs.Starts.{closes-neither}
 use borrow.Author.Needs.{needs}
 use Rattle.parser.proofs.places.address_at.Statement.{statement}
 use Rattle.parser.proofs.places.address_at.Tie as tie

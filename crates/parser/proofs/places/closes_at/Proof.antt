@@ -1,7 +1,8 @@
 -- `parser::places::closes_at` meets its contract.
 -- Assumes nothing.
 use mathlib.Core.Path.{sym, _∙_}
-use Rattle.parser.proofs.Names.{holds-at, holds-end, closes-size, closes-star, closes-paren, closes-comma, closes-not}
+use Rattle.parser.proofs.Names.{holds-at, holds-end}
+use Rattle.parser.proofs.Starts.{closes-size, closes-star, closes-paren, closes-comma, closes-not}
 use borrow.Author.Needs.{needs}
 use Rattle.parser.proofs.places.closes_at.Statement.{statement}
 use Rattle.parser.proofs.places.closes_at.Tie as tie

@@ -3,7 +3,7 @@
 use mathlib.Core.Path.{sym, _∙_}
 use borrow.Author.Tests.{ne-eqb}
 use Rattle.names.specs.Kinds
-use Rattle.parser.proofs.Names.{ends-at, ends-end}
+use Rattle.parser.proofs.Starts.{ends-at, ends-end}
 use borrow.Author.Needs.{needs}
 use Rattle.parser.proofs.places.ends_a_base.Statement.{statement}
 use Rattle.parser.proofs.places.ends_a_base.Tie as tie

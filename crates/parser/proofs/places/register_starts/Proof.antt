@@ -1,7 +1,8 @@
 -- `parser::places::register_starts` meets its contract.
 -- Assumes nothing.
 use mathlib.Core.Path.{sym, _∙_}
-use Rattle.parser.proofs.Names.{reg-not, address-none, register-starts}
+use Rattle.parser.proofs.Names.{reg-not, address-none}
+use Rattle.parser.proofs.Starts.{register-starts}
 use borrow.Author.Needs.{needs}
 use Rattle.parser.proofs.places.register_starts.Statement.{statement}
 use Rattle.parser.proofs.places.register_starts.Tie as tie

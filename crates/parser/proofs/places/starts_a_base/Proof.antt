@@ -1,7 +1,8 @@
 -- `parser::places::starts_a_base` meets its contract.
 -- Assumes nothing.
 use mathlib.Core.Path.{sym, _∙_}
-use Rattle.parser.proofs.Names.{base-starts-at, base-starts-end, reg-is, reg-not}
+use Rattle.parser.proofs.Names.{reg-is, reg-not}
+use Rattle.parser.proofs.Starts.{base-starts-at, base-starts-end}
 use borrow.Author.Needs.{needs}
 use Rattle.parser.proofs.places.starts_a_base.Statement.{statement}
 use Rattle.parser.proofs.places.starts_a_base.Tie as tie

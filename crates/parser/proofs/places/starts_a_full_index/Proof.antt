@@ -2,7 +2,7 @@
 -- Assumes nothing.
 use mathlib.Core.Path.{sym, _∙_}
 use Rattle.operand.specs.Operand.{isSuppressed}
-use Rattle.parser.proofs.Names.{full-at, full-end}
+use Rattle.parser.proofs.Starts.{full-at, full-end}
 use borrow.Author.Needs.{needs}
 use Rattle.parser.proofs.places.starts_a_full_index.Statement.{statement}
 use Rattle.parser.proofs.places.starts_a_full_index.Tie as tie

@@ -1,0 +1,114 @@
+-- `parser::displacements::parse_sized_displacement` meets its contract.
+-- Assumes nothing.
+use mathlib.Core.Path.{sym, _∙_}
+use native.Mathlib.Omega.{arith}
+use Rattle.operand.specs.Operand.{parseSizedDisplacement, displacementValue}
+use Rattle.operand.specs.Forms.{displacementRead}
+use Rattle.parser.proofs.Paths.{answered, bound, failed-over}
+use Rattle.parser.proofs.Trees.{fit, term-told, term-past, tree-read, absent-room, reported-is, absent-is}
+use Rattle.parser.proofs.Inners.{displacement-read}
+use borrow.Author.Needs.{needs}
+use Rattle.parser.proofs.displacements.parse_sized_displacement.Statement.{statement}
+use Rattle.parser.proofs.displacements.parse_sized_displacement.Tie as tie
+
+expression-requires : tie.Need-expression-requires
+expression-requires c κs =
+    let c-pre = c .before .before .before .before .before .before .pre in
+    fit (c-pre)
+
+enum-known-parsed : tie.Need-enum-known-parsed
+enum-known-parsed c = search needs
+
+sized-requires : tie.Need-sized-requires
+sized-requires c κs =
+    let c-pre = c .before .before .before .before .before .before .before .before .before .before .before .before .before .before .before .before .pre in
+    let c-expression = c .before .before .before .before .before .before .before .before .before .expression in
+    let c-parsed = c .before .before .parsed in
+    (tree-read _ _ (c-pre) (c-expression .ensures) (c-parsed .given .1) (omega (arith, c-expression .kept)) (omega (arith, c-expression .kept)) .room .room, tree-read _ _ (c-pre) (c-expression .ensures) (c-parsed .given .1) (omega (arith, c-expression .kept)) (omega (arith, c-expression .kept)) .some, tree-read _ _ (c-pre) (c-expression .ensures) (c-parsed .given .1) (omega (arith, c-expression .kept)) (omega (arith, c-expression .kept)) .few)
+
+enum-told : tie.Need-enum-told
+enum-told c = search needs
+
+no-displacement-requires : tie.Need-no-displacement-requires
+no-displacement-requires c κs = search needs
+
+enum-told-2 : tie.Need-enum-told-2
+enum-told-2 c = search needs
+
+stepped-over-requires : tie.Need-stepped-over-requires
+stepped-over-requires c κs =
+    let c-pre = c .before .before .before .before .before .before .before .before .before .before .before .before .before .before .before .pre in
+    let c-expression = c .before .before .before .before .before .before .before .before .expression in
+    let c-enum-told2 = c .before .enum-told2 in
+    absent-room _ _ (c-pre) (c-expression .ensures) (c-enum-told2 .given .1) (omega (arith, c-expression .kept))
+
+no-displacement-requires-2 : tie.Need-no-displacement-requires-2
+no-displacement-requires-2 c κs = search needs
+
+same-length : tie.Need-same-length
+same-length c = search needs
+
+same-length-2 : tie.Need-same-length-2
+same-length-2 c = search needs
+
+returns : tie.Need-returns
+unfolding parseSizedDisplacement displacementValue displacementRead
+returns c =
+    let c-pre = c .before .before .before .before .before .before .before .before .before .before .before .before .before .before .before .before .before .before .before .pre in
+    let c-expression = c .before .before .before .before .before .before .before .before .before .before .before .before .expression in
+    let c-parsed = c .before .before .before .before .before .parsed in
+    let c-sized = c .before .before .sized in
+    record { told = bound (term-told _ _ (c-pre) (c-expression .ensures)) (tree-read _ _ (c-pre) (c-expression .ensures) (c-parsed .given .1) (omega (arith, c-expression .kept)) (omega (arith, c-expression .kept)) .value) (displacement-read (tree-read _ _ (c-pre) (c-expression .ensures) (c-parsed .given .1) (omega (arith, c-expression .kept)) (omega (arith, c-expression .kept))) (c-sized .ensures)); past = term-past _ _ (c-pre) (c-expression .ensures) }
+
+same-length-3 : tie.Need-same-length-3
+same-length-3 c = search needs
+
+same-length-4 : tie.Need-same-length-4
+same-length-4 c = search needs
+
+returns-2 : tie.Need-returns-2
+unfolding parseSizedDisplacement displacementValue displacementRead
+returns-2 c =
+    let c-pre = c .before .before .before .before .before .before .before .before .before .before .before .before .before .before .before .pre in
+    let c-expression = c .before .before .before .before .before .before .before .before .expression in
+    let c-enum-told = c .before .enum-told in
+    let c-no-displacement = c .no-displacement in
+    record { told = bound (term-told _ _ (c-pre) (c-expression .ensures)) (reported-is _ (sym (term-told _ _ (c-pre) (c-expression .ensures) .what) ∙ c-enum-told .given .1)) (answered (c-no-displacement .ensures .0) (c-no-displacement .ensures .1) tt); past = term-past _ _ (c-pre) (c-expression .ensures) }
+
+same-length-5 : tie.Need-same-length-5
+same-length-5 c = search needs
+
+same-length-6 : tie.Need-same-length-6
+same-length-6 c = search needs
+
+returns-3 : tie.Need-returns-3
+unfolding parseSizedDisplacement displacementValue displacementRead
+returns-3 c =
+    let c-pre = c .before .before .before .before .before .before .before .before .before .before .before .before .before .before .before .before .before .before .before .pre in
+    let c-expression = c .before .before .before .before .before .before .before .before .before .before .before .before .expression in
+    let c-enum-told2 = c .before .before .before .before .before .enum-told2 in
+    let c-stepped-over = c .before .before .before .stepped-over in
+    let c-no-displacement2 = c .no-displacement2 in
+    record { told = bound (term-told _ _ (c-pre) (c-expression .ensures)) (absent-is _ (sym (term-told _ _ (c-pre) (c-expression .ensures) .what) ∙ c-enum-told2 .given .1)) (failed-over _ 9 10 (c-stepped-over .ensures) (c-no-displacement2 .ensures .0) (c-no-displacement2 .ensures .1) tt); past = term-past _ _ (c-pre) (c-expression .ensures) }
+
+pub parse-sized-displacement-spec : {M : Type 1} → statement M
+parse-sized-displacement-spec =
+    tie.close
+    (tie.spec
+    expression-requires
+    enum-known-parsed
+    sized-requires
+    enum-told
+    no-displacement-requires
+    enum-told-2
+    stepped-over-requires
+    no-displacement-requires-2
+    same-length
+    same-length-2
+    returns
+    same-length-3
+    same-length-4
+    returns-2
+    same-length-5
+    same-length-6
+    returns-3)

@@ -1,0 +1,16 @@
+-- `parser::immediates::immediate` meets its contract.
+-- Assumes nothing.
+use borrow.Author.Needs.{needs}
+use Rattle.parser.proofs.immediates.immediate.Statement.{statement}
+use Rattle.parser.proofs.immediates.immediate.Tie as tie
+
+last-tree-requires : tie.Need-last-tree-requires
+last-tree-requires c κs = search needs
+
+returns : tie.Need-returns
+returns c =
+    let c-last-tree = c .last-tree in
+    rw (c-last-tree .ensures)
+
+pub immediate-spec : {M : Type 1} → statement M
+immediate-spec = tie.close (tie.spec last-tree-requires returns)

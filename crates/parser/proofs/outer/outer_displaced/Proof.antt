@@ -1,0 +1,69 @@
+-- `parser::outer::outer_displaced` meets its contract.
+-- Assumes nothing.
+use mathlib.Core.Path.{sym, _∙_}
+use Rattle.operand.specs.Operand.{outerDisplaced}
+use Rattle.parser.specs.Brackets.{outerRead}
+use Rattle.parser.proofs.Paths.{answered, bound}
+use Rattle.parser.proofs.Inners.{displacement-is, displacement-not, held-some, outer-answered}
+use borrow.Author.Needs.{needs}
+use Rattle.parser.proofs.outer.outer_displaced.Statement.{statement}
+use Rattle.parser.proofs.outer.outer_displaced.Tie as tie
+
+parse-sized-displacement-requires : tie.Need-parse-sized-displacement-requires
+parse-sized-displacement-requires c κs = search needs
+
+enum-told : tie.Need-enum-told
+enum-told c = search needs
+
+no-outer-requires : tie.Need-no-outer-requires
+no-outer-requires c κs = search needs
+
+enum-known-displacement : tie.Need-enum-known-displacement
+enum-known-displacement c = search needs
+
+an-outer-requires : tie.Need-an-outer-requires
+an-outer-requires c κs = search needs
+
+same-length : tie.Need-same-length
+same-length c = search needs
+
+same-length-2 : tie.Need-same-length-2
+same-length-2 c = search needs
+
+returns : tie.Need-returns
+unfolding outerDisplaced outerRead
+returns c =
+    let c-parse-sized-displacement = c .before .before .before .before .before .before .before .before .parse-sized-displacement in
+    let c-enum-told = c .before .enum-told in
+    let c-no-outer = c .no-outer in
+    record { told = bound (c-parse-sized-displacement .ensures .told) (displacement-not _ _ (sym (c-parse-sized-displacement .ensures .told .what) ∙ c-enum-told .given .1)) (answered (c-no-outer .ensures .0) (c-no-outer .ensures .1) tt); past = c-parse-sized-displacement .ensures .past }
+
+same-length-3 : tie.Need-same-length-3
+same-length-3 c = search needs
+
+same-length-4 : tie.Need-same-length-4
+same-length-4 c = search needs
+
+returns-2 : tie.Need-returns-2
+unfolding outerDisplaced outerRead
+returns-2 c =
+    let c-parse-sized-displacement = c .before .before .before .before .before .before .before .before .before .parse-sized-displacement in
+    let c-displacement = c .before .before .displacement in
+    let c-an-outer = c .an-outer in
+    record { told = bound (c-parse-sized-displacement .ensures .told) (displacement-is _ _ (sym (c-parse-sized-displacement .ensures .told .what) ∙ c-displacement .given .1) .is) (outer-answered _ _ _ (displacement-is _ _ (sym (c-parse-sized-displacement .ensures .told .what) ∙ c-displacement .given .1) .form) (c-an-outer .ensures .0) (c-an-outer .ensures .1) (held-some (c-parse-sized-displacement .ensures .told) (displacement-is _ _ (sym (c-parse-sized-displacement .ensures .told .what) ∙ c-displacement .given .1) .is))); past = c-parse-sized-displacement .ensures .past }
+
+pub outer-displaced-spec : {M : Type 1} → statement M
+outer-displaced-spec =
+    tie.close
+    (tie.spec
+    parse-sized-displacement-requires
+    enum-told
+    no-outer-requires
+    enum-known-displacement
+    an-outer-requires
+    same-length
+    same-length-2
+    returns
+    same-length-3
+    same-length-4
+    returns-2)

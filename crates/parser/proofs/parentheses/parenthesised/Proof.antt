@@ -1,0 +1,113 @@
+-- `parser::parentheses::parenthesised` meets its contract.
+-- Assumes nothing.
+use mathlib.Core.Path.{_∙_}
+use native.Mathlib.Omega.{arith}
+use Rattle.operand.specs.Operand.{parenthesised, parenthesisedExpression}
+use Rattle.parser.proofs.Paths.{raised}
+use Rattle.parser.proofs.Trees.{fit, term-past, tree-read, absent-room}
+use Rattle.parser.proofs.Holdings.{nothing-stored, tree-stands, left-stands, behind-tree, behind-reported, behind-absent}
+use borrow.Author.Needs.{needs}
+use Rattle.parser.proofs.parentheses.parenthesised.Statement.{statement}
+use Rattle.parser.proofs.parentheses.parenthesised.Tie as tie
+
+expression-requires : tie.Need-expression-requires
+expression-requires c κs =
+    let c-pre = c .before .before .before .before .before .before .pre in
+    fit (c-pre .0)
+
+enum-known-parsed : tie.Need-enum-known-parsed
+enum-known-parsed c = search needs
+
+after-expression-requires : tie.Need-after-expression-requires
+after-expression-requires c κs =
+    let c-pre = c .before .before .before .before .before .before .before .before .before .before .before .before .before .before .before .before .before .pre in
+    let c-expression = c .before .before .before .before .before .before .before .before .before .before .expression in
+    let c-parsed = c .before .before .before .parsed in
+    ((tree-read _ _ (c-pre .0) (c-expression .ensures) (c-parsed .given .1) (omega (arith, c-expression .kept)) (omega (arith, c-expression .kept))) .room, left-stands (tree-stands (tree-read _ _ (c-pre .0) (c-expression .ensures) (c-parsed .given .1) (omega (arith, c-expression .kept)) (omega (arith, c-expression .kept))) (c-pre .1)))
+
+enum-told : tie.Need-enum-told
+enum-told c = search needs
+
+no-operand-requires : tie.Need-no-operand-requires
+no-operand-requires c κs = search needs
+
+enum-told-2 : tie.Need-enum-told-2
+enum-told-2 c = search needs
+
+expression-expected-requires : tie.Need-expression-expected-requires
+expression-expected-requires c κs =
+    let c-pre = c .before .before .before .before .before .before .before .before .before .before .before .before .before .before .before .pre in
+    let c-expression = c .before .before .before .before .before .before .before .before .expression in
+    let c-enum-told2 = c .before .enum-told2 in
+    omega (arith, absent-room _ _ (c-pre .0) (c-expression .ensures) (c-enum-told2 .given .1) (omega (arith, c-expression .kept)))
+
+no-operand-requires-2 : tie.Need-no-operand-requires-2
+no-operand-requires-2 c κs = search needs
+
+same-length : tie.Need-same-length
+same-length c = search needs
+
+same-length-2 : tie.Need-same-length-2
+same-length-2 c = search needs
+
+returns : tie.Need-returns
+unfolding parenthesised parenthesisedExpression
+returns c =
+    let c-pre = c .before .before .before .before .before .before .before .before .before .before .before .before .before .before .before .before .before .before .before .before .before .before .pre in
+    let c-expression = c .before .before .before .before .before .before .before .before .before .before .before .before .before .before .before .expression in
+    let c-parsed = c .before .before .before .before .before .before .before .before .parsed in
+    let c-after-expression = c .before .before .before .before .after-expression in
+    record { told = behind-tree _ _ (c-pre .0) (c-expression .ensures) (tree-read _ _ (c-pre .0) (c-expression .ensures) (c-parsed .given .1) (omega (arith, c-expression .kept)) (omega (arith, c-expression .kept))) (c-after-expression .ensures .told _ (tree-stands (tree-read _ _ (c-pre .0) (c-expression .ensures) (c-parsed .given .1) (omega (arith, c-expression .kept)) (omega (arith, c-expression .kept))) (c-pre .1)) ((tree-read _ _ (c-pre .0) (c-expression .ensures) (c-parsed .given .1) (omega (arith, c-expression .kept)) (omega (arith, c-expression .kept))) .span)); past = c-after-expression .ensures .past ∙ term-past _ _ (c-pre .0) (c-expression .ensures) }
+
+same-length-3 : tie.Need-same-length-3
+same-length-3 c = search needs
+
+same-length-4 : tie.Need-same-length-4
+same-length-4 c = search needs
+
+returns-2 : tie.Need-returns-2
+unfolding parenthesised parenthesisedExpression
+returns-2 c =
+    let c-pre = c .before .before .before .before .before .before .before .before .before .before .before .before .before .before .before .pre in
+    let c-expression = c .before .before .before .before .before .before .before .before .expression in
+    let c-enum-told = c .before .enum-told in
+    let c-no-operand = c .no-operand in
+    record { told = behind-reported _ _ (c-pre .0) (c-expression .ensures) (c-enum-told .given .1) (nothing-stored _ (c-no-operand .ensures)); past = term-past _ _ (c-pre .0) (c-expression .ensures) }
+
+same-length-5 : tie.Need-same-length-5
+same-length-5 c = search needs
+
+same-length-6 : tie.Need-same-length-6
+same-length-6 c = search needs
+
+returns-3 : tie.Need-returns-3
+unfolding parenthesised parenthesisedExpression
+returns-3 c =
+    let c-pre = c .before .before .before .before .before .before .before .before .before .before .before .before .before .before .before .before .before .before .before .pre in
+    let c-expression = c .before .before .before .before .before .before .before .before .before .before .before .before .expression in
+    let c-enum-told2 = c .before .before .before .before .before .enum-told2 in
+    let c-expression-expected = c .before .before .before .expression-expected in
+    let c-no-operand2 = c .no-operand2 in
+    record { told = behind-absent _ _ (c-pre .0) (c-expression .ensures) (c-enum-told2 .given .1) (raised (c-expression-expected .ensures) (nothing-stored _ (c-no-operand2 .ensures))); past = term-past _ _ (c-pre .0) (c-expression .ensures) }
+
+pub parenthesised-spec : {M : Type 1} → statement M
+parenthesised-spec =
+    tie.close
+    (tie.spec
+    expression-requires
+    enum-known-parsed
+    after-expression-requires
+    enum-told
+    no-operand-requires
+    enum-told-2
+    expression-expected-requires
+    no-operand-requires-2
+    same-length
+    same-length-2
+    returns
+    same-length-3
+    same-length-4
+    returns-2
+    same-length-5
+    same-length-6
+    returns-3)

@@ -1,0 +1,81 @@
+// A displacement with its size.
+use crate::indexes::take_size_suffix;
+use crate::reports::stepped_over;
+use crate::steps::last_tree;
+use expressions::Setting;
+use operand::DisplacementRead;
+use operand::DisplacementStep;
+use operand::SizedDisplacement;
+use operand::SuffixRead;
+use records::Counters;
+use terms::Parsed;
+use terms::expression;
+ghost use mathlib.Core.Path.{_≡_};
+ghost use Prim.Native.Nat.{_-_, _≤_, _<_};
+ghost use Rattle.operand.specs.Operand.{parseSizedDisplacement};
+ghost use Rattle.parser.specs.Steps.{Room, NodeRoom};
+ghost use Rattle.parser.specs.Brackets.{SizedTold, DisplacementTold};
+ghost use Rattle.operand.specs.declared.forms.DisplacementRead.{DisplacementRead};
+ghost use Rattle.operand.specs.declared.forms.SizedDisplacement.{SizedDisplacement};
+
+fn no_displacement(c: Counters) -> DisplacementStep
+    ensures { λ r. ⌜ (r .displacement ≡ DisplacementRead.Not) × (r .counters ≡ c) ⌝ }
+{
+    DisplacementStep {
+        displacement: DisplacementRead::Not,
+        counters: c,
+    }
+}
+
+// The tree that the last records hold, with this size.
+fn displaced(c: Counters, size: u8) -> DisplacementStep
+    requires { ⌜ (0 < c .nodes) × (c .nodes ≤ 255) ⌝ }
+    ensures { λ r. ⌜ (r .displacement ≡ DisplacementRead.Is (SizedDisplacement.Is (record { node = c .nodes - 1; size = size }))) × (r .counters ≡ c) ⌝ }
+{
+    DisplacementStep {
+        displacement: DisplacementRead::Is(last_tree(c, size)),
+        counters: c,
+    }
+}
+
+// Behind the expression of a displacement.
+fn sized(
+    line: &[u8],
+    tokens: &[u8],
+    diagnostics: &mut [u8],
+    c: Counters,
+    start: u8,
+) -> DisplacementStep
+    requires { ⌜ Room (now tokens) (now diagnostics) c × (0 < c .nodes) × (c .nodes ≤ 255) ⌝ }
+    ensures { λ r. ⌜ SizedTold start (now (line .entry)) (now (tokens .entry)) (now (diagnostics .entry)) (now (diagnostics .exit)) c r ⌝ }
+{
+    let s = take_size_suffix(line, tokens, diagnostics, c, start);
+    let e = s.counters;
+    let suffix = s.suffix;
+    match suffix {
+        SuffixRead::Not => displaced(e, 0),
+        SuffixRead::Is(x) => displaced(e, x.size),
+    }
+}
+
+pub(crate) fn parse_sized_displacement(
+    line: &[u8],
+    tokens: &[u8],
+    nodes: &mut [u8],
+    diagnostics: &mut [u8],
+    c: Counters,
+    s: Setting,
+    o: u8,
+) -> DisplacementStep
+    requires { ⌜ NodeRoom (now tokens) (now nodes) (now diagnostics) c ⌝ }
+    ensures { λ r. ⌜ DisplacementTold (parseSizedDisplacement s o) (now (line .entry)) (now (tokens .entry)) (now (nodes .entry)) (now (diagnostics .entry)) (now (nodes .exit)) (now (diagnostics .exit)) c r ⌝ }
+{
+    let r = expression(line, tokens, nodes, diagnostics, c, s);
+    let e = r.counters;
+    let parsed = r.parsed;
+    match parsed {
+        Parsed::Read(span) => sized(line, tokens, diagnostics, e, span.start),
+        Parsed::Reported => no_displacement(e),
+        Parsed::Absent => no_displacement(stepped_over(tokens, diagnostics, e, o, 9, 10)),
+    }
+}

@@ -1,0 +1,164 @@
+// What stands between the brackets of a memory indirect operand.
+use crate::displacements::parse_sized_displacement;
+use crate::full::parse_base_and_index_registers;
+use crate::places::is_a_base_or_an_index;
+use expressions::Setting;
+use names::Peeked;
+use names::kinds;
+use operand::BaseRegister;
+use operand::DisplacementRead;
+use operand::Index;
+use operand::Registers;
+use operand::RegistersRead;
+use operand::SizedDisplacement;
+use records::Counters;
+use records::step_over;
+ghost use mathlib.Core.Path.{_≡_};
+ghost use Rattle.operand.specs.Operand.{noRegisters, parseInner};
+ghost use Rattle.parser.specs.Steps.{Room, NodeRoom};
+ghost use Rattle.parser.specs.Brackets.{InnerBehind, InnerTold, registersBehind, displacedInner, innerDisplacement};
+ghost use Rattle.operand.specs.declared.forms.SizedDisplacement.{SizedDisplacement};
+ghost use Rattle.parser.specs.declared.inner.InnerRead.{InnerRead};
+
+// What stands between the brackets.
+pub struct InnerPart {
+    pub displacement: SizedDisplacement,
+    pub registers: Registers,
+}
+
+pub enum InnerRead {
+    Is(InnerPart),
+    Not,
+}
+
+pub struct InnerStep {
+    pub inner: InnerRead,
+    pub counters: Counters,
+}
+
+fn an_inner(d: SizedDisplacement, registers: Registers, c: Counters) -> InnerStep
+    ensures { λ r. ⌜ (r .inner ≡ InnerRead.Is (record { displacement = d; registers = registers })) × (r .counters ≡ c) ⌝ }
+{
+    InnerStep {
+        inner: InnerRead::Is(InnerPart {
+            displacement: d,
+            registers: registers,
+        }),
+        counters: c,
+    }
+}
+
+fn no_inner(c: Counters) -> InnerStep
+    ensures { λ r. ⌜ (r .inner ≡ InnerRead.Not) × (r .counters ≡ c) ⌝ }
+{
+    InnerStep {
+        inner: InnerRead::Not,
+        counters: c,
+    }
+}
+
+fn bare_inner(d: SizedDisplacement, c: Counters) -> InnerStep
+    ensures { λ r. ⌜ (r .inner ≡ InnerRead.Is (record { displacement = d; registers = noRegisters })) × (r .counters ≡ c) ⌝ }
+{
+    let none = Registers {
+        base: BaseRegister::Omitted,
+        index: Index::Unindexed,
+    };
+    an_inner(d, none, c)
+}
+
+// The registers that stand at the cursor, behind this displacement.
+fn inner_registers(
+    line: &[u8],
+    tokens: &[u8],
+    diagnostics: &mut [u8],
+    c: Counters,
+    s: Setting,
+    o: u8,
+    d: SizedDisplacement,
+) -> InnerStep
+    requires { ⌜ Room (now tokens) (now diagnostics) c ⌝ }
+    ensures { λ r. ⌜ InnerBehind (registersBehind s o) (now (line .entry)) (now (tokens .entry)) (now (diagnostics .entry)) (now (diagnostics .exit)) c d r ⌝ }
+{
+    let r = parse_base_and_index_registers(line, tokens, diagnostics, c, s, o, 9);
+    let e = r.counters;
+    let both = r.registers;
+    match both {
+        RegistersRead::Not => no_inner(e),
+        RegistersRead::Is(x) => an_inner(d, x, e),
+    }
+}
+
+// Behind the displacement between the brackets.
+fn inner_displaced(
+    line: &[u8],
+    tokens: &[u8],
+    diagnostics: &mut [u8],
+    c: Counters,
+    s: Setting,
+    o: u8,
+    d: SizedDisplacement,
+) -> InnerStep
+    requires { ⌜ Room (now tokens) (now diagnostics) c ⌝ }
+    ensures { λ r. ⌜ InnerBehind (displacedInner s o) (now (line .entry)) (now (tokens .entry)) (now (diagnostics .entry)) (now (diagnostics .exit)) c d r ⌝ }
+{
+    let at = c.at;
+    let p = names::token_at(tokens, at);
+    match p {
+        Peeked::End => bare_inner(d, c),
+        Peeked::Is(t) => {
+            if t.kind != kinds::COMMA {
+                return bare_inner(d, c);
+            }
+            inner_registers(line, tokens, diagnostics, step_over(c, t), s, o, d)
+        }
+    }
+}
+
+fn inner_displacement(
+    line: &[u8],
+    tokens: &[u8],
+    nodes: &mut [u8],
+    diagnostics: &mut [u8],
+    c: Counters,
+    s: Setting,
+    o: u8,
+) -> InnerStep
+    requires { ⌜ NodeRoom (now tokens) (now nodes) (now diagnostics) c ⌝ }
+    ensures { λ r. ⌜ InnerTold (innerDisplacement s o) (now (line .entry)) (now (tokens .entry)) (now (nodes .entry)) (now (diagnostics .entry)) (now (nodes .exit)) (now (diagnostics .exit)) c r ⌝ }
+{
+    let r = parse_sized_displacement(line, tokens, nodes, diagnostics, c, s, o);
+    let e = r.counters;
+    let displacement = r.displacement;
+    match displacement {
+        DisplacementRead::Not => no_inner(e),
+        DisplacementRead::Is(d) => inner_displaced(line, tokens, diagnostics, e, s, o, d),
+    }
+}
+
+// Behind the bracket.
+pub(crate) fn parse_inner(
+    line: &[u8],
+    tokens: &[u8],
+    nodes: &mut [u8],
+    diagnostics: &mut [u8],
+    c: Counters,
+    s: Setting,
+    o: u8,
+) -> InnerStep
+    requires { ⌜ NodeRoom (now tokens) (now nodes) (now diagnostics) c ⌝ }
+    ensures { λ r. ⌜ InnerTold (parseInner s o) (now (line .entry)) (now (tokens .entry)) (now (nodes .entry)) (now (diagnostics .entry)) (now (nodes .exit)) (now (diagnostics .exit)) c r ⌝ }
+{
+    let at = c.at;
+    let p = names::token_at(tokens, at);
+    let Peeked::Is(t) = p else {
+        return inner_displacement(line, tokens, nodes, diagnostics, c, s, o);
+    };
+    if t.kind == kinds::RIGHT_BRACKET {
+        return bare_inner(SizedDisplacement::Not, c);
+    }
+    if is_a_base_or_an_index(line, t, at, s) {
+        return inner_registers(line, tokens, diagnostics, c, s, o, SizedDisplacement::Not);
+    }
+    inner_displacement(line, tokens, nodes, diagnostics, c, s, o)
+}

@@ -1,0 +1,170 @@
+// What stands behind the brackets of a memory indirect operand.
+use crate::displacements::parse_sized_displacement;
+use crate::indexes::parse_index_register;
+use crate::places::is_an_index_at;
+use crate::reports::stepped_over;
+use expressions::Setting;
+use names::Peeked;
+use names::kinds;
+use operand::DisplacementRead;
+use operand::Index;
+use operand::IndexRead;
+use operand::IndexRegister;
+use operand::SizedDisplacement;
+use records::Counters;
+use records::step_over;
+ghost use mathlib.Core.Path.{_≡_};
+ghost use Rattle.operand.specs.Operand.{outerIndexed, outerIndex, parseOuter};
+ghost use Rattle.operand.specs.Operands.{some};
+ghost use Rattle.parser.specs.Steps.{NodeRoom};
+ghost use Rattle.parser.specs.Brackets.{OuterTold, outerDisplacement};
+ghost use Rattle.operand.specs.declared.forms.SizedDisplacement.{SizedDisplacement};
+ghost use Rattle.parser.specs.declared.outer.OuterRead.{OuterRead};
+
+// What stands behind them. Indirection: 1 preindexed, 2 postindexed.
+pub struct OuterPart {
+    pub index: Index,
+    pub indirection: u8,
+    pub displacement: SizedDisplacement,
+}
+
+pub enum OuterRead {
+    Is(OuterPart),
+    Not,
+}
+
+pub struct OuterStep {
+    pub outer: OuterRead,
+    pub counters: Counters,
+}
+
+fn an_outer(index: Index, indirection: u8, d: SizedDisplacement, c: Counters) -> OuterStep
+    ensures { λ r. ⌜ (r .outer ≡ OuterRead.Is (record { index = index; indirection = indirection; displacement = d })) × (r .counters ≡ c) ⌝ }
+{
+    OuterStep {
+        outer: OuterRead::Is(OuterPart {
+            index: index,
+            indirection: indirection,
+            displacement: d,
+        }),
+        counters: c,
+    }
+}
+
+fn no_outer(c: Counters) -> OuterStep
+    ensures { λ r. ⌜ (r .outer ≡ OuterRead.Not) × (r .counters ≡ c) ⌝ }
+{
+    OuterStep {
+        outer: OuterRead::Not,
+        counters: c,
+    }
+}
+
+// The outer displacement, which stands at the cursor.
+fn outer_displaced(
+    line: &[u8],
+    tokens: &[u8],
+    nodes: &mut [u8],
+    diagnostics: &mut [u8],
+    c: Counters,
+    s: Setting,
+    o: u8,
+    index: Index,
+    indirection: u8,
+) -> OuterStep
+    requires { ⌜ NodeRoom (now tokens) (now nodes) (now diagnostics) c ⌝ }
+    ensures { λ r. ⌜ OuterTold (outerDisplacement s o index indirection) (now (line .entry)) (now (tokens .entry)) (now (nodes .entry)) (now (diagnostics .entry)) (now (nodes .exit)) (now (diagnostics .exit)) c r ⌝ }
+{
+    let r = parse_sized_displacement(line, tokens, nodes, diagnostics, c, s, o);
+    let e = r.counters;
+    let displacement = r.displacement;
+    match displacement {
+        DisplacementRead::Not => no_outer(e),
+        DisplacementRead::Is(d) => an_outer(index, indirection, d, e),
+    }
+}
+
+// Behind the index outside the brackets.
+fn outer_indexed(
+    line: &[u8],
+    tokens: &[u8],
+    nodes: &mut [u8],
+    diagnostics: &mut [u8],
+    c: Counters,
+    s: Setting,
+    o: u8,
+    x: IndexRegister,
+) -> OuterStep
+    requires { ⌜ NodeRoom (now tokens) (now nodes) (now diagnostics) c ⌝ }
+    ensures { λ r. ⌜ OuterTold (outerIndexed s o (some x)) (now (line .entry)) (now (tokens .entry)) (now (nodes .entry)) (now (diagnostics .entry)) (now (nodes .exit)) (now (diagnostics .exit)) c r ⌝ }
+{
+    let index = Index::Indexed(x);
+    let at = c.at;
+    let p = names::token_at(tokens, at);
+    match p {
+        Peeked::End => an_outer(index, 2, SizedDisplacement::Not, c),
+        Peeked::Is(t) => {
+            if t.kind != kinds::COMMA {
+                return an_outer(index, 2, SizedDisplacement::Not, c);
+            }
+            let e = step_over(c, t);
+            outer_displaced(line, tokens, nodes, diagnostics, e, s, o, index, 2)
+        }
+    }
+}
+
+// An index goes inside the brackets or behind them, not both.
+fn outer_index(
+    line: &[u8],
+    tokens: &[u8],
+    nodes: &mut [u8],
+    diagnostics: &mut [u8],
+    c: Counters,
+    s: Setting,
+    o: u8,
+    index: Index,
+) -> OuterStep
+    requires { ⌜ NodeRoom (now tokens) (now nodes) (now diagnostics) c ⌝ }
+    ensures { λ r. ⌜ OuterTold (outerIndex s o index) (now (line .entry)) (now (tokens .entry)) (now (nodes .entry)) (now (diagnostics .entry)) (now (nodes .exit)) (now (diagnostics .exit)) c r ⌝ }
+{
+    if let Index::Indexed(_) = index {
+        return no_outer(stepped_over(tokens, diagnostics, c, o, 9, 9));
+    }
+    let i = parse_index_register(line, tokens, diagnostics, c, s, o, 9);
+    let e = i.counters;
+    let read = i.index;
+    match read {
+        IndexRead::Not => no_outer(e),
+        IndexRead::Is(x) => outer_indexed(line, tokens, nodes, diagnostics, e, s, o, x),
+    }
+}
+
+// Behind the brackets, with the index that stood between them.
+pub(crate) fn parse_outer(
+    line: &[u8],
+    tokens: &[u8],
+    nodes: &mut [u8],
+    diagnostics: &mut [u8],
+    c: Counters,
+    s: Setting,
+    o: u8,
+    index: Index,
+) -> OuterStep
+    requires { ⌜ NodeRoom (now tokens) (now nodes) (now diagnostics) c ⌝ }
+    ensures { λ r. ⌜ OuterTold (parseOuter s o index) (now (line .entry)) (now (tokens .entry)) (now (nodes .entry)) (now (diagnostics .entry)) (now (nodes .exit)) (now (diagnostics .exit)) c r ⌝ }
+{
+    let at = c.at;
+    let p = names::token_at(tokens, at);
+    let Peeked::Is(t) = p else {
+        return an_outer(index, 1, SizedDisplacement::Not, c);
+    };
+    if t.kind != kinds::COMMA {
+        return an_outer(index, 1, SizedDisplacement::Not, c);
+    }
+    let e = step_over(c, t);
+    let next = e.at;
+    if is_an_index_at(line, tokens, next, s) {
+        return outer_index(line, tokens, nodes, diagnostics, e, s, o, index);
+    }
+    outer_displaced(line, tokens, nodes, diagnostics, e, s, o, index, 1)
+}
