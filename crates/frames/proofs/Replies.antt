@@ -24,7 +24,7 @@ use Rattle.frames.specs.Frame.{isFrame, lineLength, tokenCount, inputOf}
 use Rattle.frames.specs.Reply.{refused, bytesAt, inputBytes, frameBytes, ended}
 use Rattle.frames.specs.Lent.{lent, lent-same}
 use Rattle.layout.specs.Answered.{operand-valid, missed-valid, found-fits, cursor-small}
-use Rattle.frames.specs.Inner.{Put, foundBytes, FoundAsks, missedBytes, MissedAsks}
+use Rattle.frames.specs.Inner.{Put, foundBytes, FoundAsks, missedBytes, MissedAsks, answerBytes, AnswerAsks}
 
 -- ---- of a call that keeps the entry's promise
 
@@ -148,7 +148,7 @@ parts B line N D = record {
   used = 0;
 }
 
-module _ (B : List ℕ) (line : ℕ) (N D N′ D′ : List ℕ) (first : line ≡ lineLength B) (h : length B ≡ lineLength B + 4 * tokenCount B + 4) (n : length N ≡ 3570) (d : length D ≡ 5110) where
+module _ (B : List ℕ) (line : ℕ) (N D N′ D′ : List ℕ) (first : line ≡ lineLength B) (h : length B ≡ lineLength B + 4 * tokenCount B + 4) where
   parts-lent : parts B line N D ≡ lent B N D
   parts-lent =
       let e₁ : line + 1 - 1 ≡ lineLength B = omega arith in
@@ -162,17 +162,25 @@ module _ (B : List ℕ) (line : ℕ) (N D N′ D′ : List ℕ) (first : line �
           → _≡_ {A = Input} (record { line = take i (drop 1 B); tokens = take j (drop m B); start = getD B k 0; mark = getD B l 0; nodes = N; diagnostics = D; used = 0 }) (lent B N D)
       part f₁ f₂ f₃ f₄ f₅ = rw (f₁, f₂, f₃, f₄, f₅)
 
-  same-bytes : inputBytes (parts B line N D) ≡ frameBytes B
-  same-bytes = ap inputBytes parts-lent ∙ lent-same B N D n d ∙ sym (is-frame B h)
+  pub read-lent : (r : Answer) → EntryPromise (parts B line N D) N′ D′ r → EntryPromise (lent B N D) N′ D′ r
+  read-lent r p = rw parts-lent at p
 
-  pub frame-found : (x : Found) → EntryPromise (parts B line N D) N′ D′ (Answer.Operand x) → foundBytes x N′ D′ ≡ frameBytes B
-  frame-found x p = found-bytes (parts B line N D) refl N′ D′ x p ∙ same-bytes
+module _ (B N D N′ D′ : List ℕ) where
+  pub answer-asks : (r : Answer) → EntryPromise (lent B N D) N′ D′ r → (O : List ℕ) (at : ℕ) → at + 17411 ≤ length O → length N′ ≡ 3570 → length D′ ≡ 5110 → AnswerAsks O at r N′ D′
+  unfolding AnswerAsks
+  answer-asks (Answer.Operand x) p O at room n d = found-asks (lent B N D) refl N′ D′ x p O at room n d
+  answer-asks (Answer.NoOperand x) p O at room n d = missed-asks (lent B N D) refl N′ D′ x p O at room d
+  answer-asks (Answer.Refused k) p O at room n d = omega arith
 
-  pub frame-missed : (x : Missed) → EntryPromise (parts B line N D) N′ D′ (Answer.NoOperand x) → missedBytes x D′ ≡ frameBytes B
-  frame-missed x p = missed-bytes (parts B line N D) refl N′ D′ x p ∙ same-bytes
+  same-bytes : length B ≡ lineLength B + 4 * tokenCount B + 4 → length N ≡ 3570 → length D ≡ 5110 → inputBytes (lent B N D) ≡ frameBytes B
+  same-bytes h n d = lent-same B N D n d ∙ sym (is-frame B h)
 
-  pub frame-refused : (k : ℕ) → EntryPromise (parts B line N D) N′ D′ (Answer.Refused k) → refused k ≡ frameBytes B
-  frame-refused k p = refused-bytes (parts B line N D) refl N′ D′ k p ∙ same-bytes
+  pub answer-bytes : (r : Answer) → EntryPromise (lent B N D) N′ D′ r → length B ≡ lineLength B + 4 * tokenCount B + 4 → length N ≡ 3570 → length D ≡ 5110
+      → answerBytes r N′ D′ ≡ frameBytes B
+  unfolding answerBytes
+  answer-bytes (Answer.Operand x) p h n d = found-bytes (lent B N D) refl N′ D′ x p ∙ same-bytes h n d
+  answer-bytes (Answer.NoOperand x) p h n d = missed-bytes (lent B N D) refl N′ D′ x p ∙ same-bytes h n d
+  answer-bytes (Answer.Refused k) p h n d = refused-bytes (lent B N D) refl N′ D′ k p ∙ same-bytes h n d
 
 -- an answer's line, under its other name
 pub line-of : {O P : List ℕ} {at r : ℕ} (b c : List ℕ) → b ≡ c → Put O P at (ended b) r → Put O P at (ended c) r

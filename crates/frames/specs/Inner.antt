@@ -7,12 +7,15 @@ use Prim.Native.Nat.{ℕ, _+_, _*_, _/_, _%_, _≤_, _<_}
 use lib.ListN.{length, take}
 use Rattle.records.specs.Stores.{written}
 use Rattle.operand.specs.Forms.{bytesOf}
+use Rattle.operand.specs.declared.entry.Answer.{Answer}
 use Rattle.operand.specs.declared.entry.Found.{Found}
 use Rattle.operand.specs.declared.entry.Missed.{Missed}
 use Rattle.frames.specs.Hex.{spells, spelled}
 use Rattle.frames.specs.Frame.{lineLength, tokenCount}
+use Rattle.frames.specs.Reply.{refused}
 use Rattle.layout.specs.Bases.{BaseFits}
 use Rattle.frames.specs.Machine.{State, heldOn, carryOn, step}
+use Rattle.frames.specs.declared.answer.Framed.{Framed}
 use Rattle.frames.specs.declared.hex.Decoded.{Decoded}
 use Rattle.frames.specs.declared.batches.Turned.{Turned}
 
@@ -56,17 +59,31 @@ pub record MissedAsks (O : List ℕ) (at : ℕ) (x : Missed) (D : List ℕ) : Ty
   pub diagnostics-few : x .diagnostics ≤ 511
   pub diagnostics-long : length D ≡ 5110
 
+unfoldable pub answerBytes : Answer → List ℕ → List ℕ → List ℕ
+answerBytes (Answer.Operand x) N D = foundBytes x N D
+answerBytes (Answer.NoOperand x) N D = missedBytes x D
+answerBytes (Answer.Refused k) N D = refused k
+
+unfoldable pub AnswerAsks : List ℕ → ℕ → Answer → List ℕ → List ℕ → Type 0
+AnswerAsks O at (Answer.Operand x) N D = FoundAsks O at x N D
+AnswerAsks O at (Answer.NoOperand x) N D = MissedAsks O at x D
+AnswerAsks O at (Answer.Refused k) N D = at + 5 ≤ length O
+
 -- the stores that an answer is made in, and room for the longest
 pub record FrameAsks (N D O : List ℕ) (at : ℕ) : Type 0 where
   pub nodes-long : length N ≡ 3570
   pub diagnostics-long : length D ≡ 5110
   pub room : at + 17411 ≤ length O
 
--- and the bytes are a frame, whose line has this length
-pub record PartsAsks (B : List ℕ) (line : ℕ) (N D O : List ℕ) (at : ℕ) : Type 0 where
-  pub stores : FrameAsks N D O at
+-- the bytes are a frame, whose line has this length
+pub record ReadAsks (B : List ℕ) (line : ℕ) : Type 0 where
   pub first : line ≡ lineLength B
   pub whole : length B ≡ lineLength B + 4 * tokenCount B + 4
+
+-- whether the bytes are a frame
+unfoldable pub FramedAs : List ℕ → Framed → Type 0
+FramedAs B (Framed.Is line) = ReadAsks B line
+FramedAs B Framed.Not = length B ≡ lineLength B + 4 * tokenCount B + 4 → ⊥
 
 -- ---- a part of the input
 
