@@ -37,10 +37,23 @@ size-withSpan (currentAddress s) t = refl
 size-withSpan (unary o e s) t = refl
 size-withSpan (binary o l r s) t = refl
 
+pub size-pos : (e : Expr) → 0 < size e
+unfolding size
+size-pos (number b v s) = omega arith
+size-pos (characterLiteral q o s) = omega arith
+size-pos (symbol o s) = omega arith
+size-pos (currentAddress s) = omega arith
+size-pos (unary o e s) = omega arith
+size-pos (binary o l r s) = omega arith
+
 -- w is 1 only where no Error token stands at all, so that d + w ≤ e says: something was raised, unless one stands somewhere
 pub record Clean (at : ℕ → Place) (w : ℕ) : Type 0 where
   pub small : w ≤ 1
   pub none : (j : ℕ) (k : Token) (x : List ℕ) → at j ≡ stands k x → eqb (k .kind) Kinds.error ≡ true → w ≡ 0
+
+-- whatever stands there
+pub all-clean : (at : ℕ → Place) → Clean at 0
+all-clean at = record { small = omega arith; none = λ j k x h q. refl }
 
 module _ (at : ℕ → Place) (w : ℕ) (clean : Clean at w) where
   -- what a term reader that starts at i, with d diagnostics raised and r the farthest place seen, leaves

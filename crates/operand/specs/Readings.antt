@@ -15,7 +15,7 @@ use Rattle.names.specs.declared.tokens.Token.{Token}
 use Rattle.expressions.specs.Reader.{any, Reading, reading, run, met}
 use Rattle.expressions.specs.Laws as L
 use Rattle.expressions.specs.Laws.{holds, All, Law, call, law-run, Every, Fine, all-fine, met-yes, met-no}
-use Rattle.expressions.specs.Costs.{Clean, true-false}
+use Rattle.expressions.specs.Costs.{Clean, all-clean, true-false}
 use Rattle.operand.specs.Operands.{Operand, Maybe, some, none}
 use Rattle.expressions.specs.declared.reading.Setting.{Setting}
 use Rattle.operand.specs.Operand.{parseOperand, operandFrom, readingOf}
@@ -27,9 +27,6 @@ unfoldable pub gap : {A : Type 0} → Maybe A → ℕ
 gap (some x) = 0
 gap none = 1
 
-clean-0 : (at : ℕ → Place) → Clean at 0
-clean-0 at = record { small = omega arith; none = λ j k x h q. refl }
-
 module _ (s : Setting) (lim : 1 ≤ s .limit) (at : ℕ → Place) (i : ℕ) where
   abbrev Whole : ℕ → ℕ → ℕ → Maybe Operand → Type 0
   Whole j e r v = (sizeM v + i ≤ j) × (e + i ≤ j + 1) × (r ≤ j + gap v)
@@ -38,7 +35,7 @@ module _ (s : Setting) (lim : 1 ≤ s .limit) (at : ℕ → Place) (i : ℕ) whe
   unfolding All parseOperand sizeM gap
   whole = record {
     all = (
-      (λ k x h q. call (operand-from-cost at 0 (clean-0 at) s (k .start) i 0 0 (max i (i + 0)) lim (omega arith)) λ j e r. elim [ some x ↦ omega arith | none ↦ omega arith ]),
+      (λ k x h q. call (operand-from-cost at 0 (all-clean at) s (k .start) i 0 0 (max i (i + 0)) lim (omega arith)) λ j e r. elim [ some x ↦ omega arith | none ↦ omega arith ]),
       λ n. omega arith,
     );
   }

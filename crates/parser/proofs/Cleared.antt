@@ -8,10 +8,12 @@ use lib.ListN.{take}
 use Rattle.names.specs.Tokens.{count}
 use Rattle.names.specs.Places.{place, below}
 use Rattle.records.specs.declared.counters.Counters.{Counters}
+use Rattle.records.specs.Counting.{counters-are}
 use Rattle.records.specs.Stores.{cleared}
 use Rattle.expressions.specs.declared.reading.Setting.{Setting}
 use Rattle.expressions.specs.Laws as laws
 use Rattle.expressions.specs.Laws.{law-run}
+use Rattle.expressions.specs.Costs.{all-clean}
 use Rattle.expressions.specs.Reader.{Reading, run}
 use Rattle.operand.specs.Operands.{Operand, Maybe, some, none}
 use Rattle.operand.specs.Operand.{operandFrom}
@@ -23,10 +25,6 @@ use Rattle.operand.specs.declared.forms.OperandRecord.{OperandRecord}
 use Rattle.operand.specs.declared.forms.OperandRead.{OperandRead}
 use Rattle.operand.specs.declared.forms.OperandStep.{OperandStep}
 use Rattle.parser.specs.Steps.{NodeRoom, HeldBy, OperandTold, OperandPromise}
-use Rattle.parser.proofs.Rooms.{clean}
-
-counters-are : (c : Counters) (a l n d : ℕ) → c .at ≡ a → c .end ≡ l → c .nodes ≡ n → c .diagnostics ≡ d → c ≡ record { at = a; end = l; nodes = n; diagnostics = d }
-counters-are c a l n d h i j k = rw (sym h, sym i, sym j, sym k)
 
 module _ {L T N D N₁ D₁ : List ℕ} {c : Counters} (s : Setting) (o : ℕ) {r : OperandStep} (told : OperandTold (operandFrom s o) L T N D N₁ D₁ c r) where
   abbrev whole : Reading (Maybe Operand)
@@ -54,7 +52,7 @@ module _ {L T N D N₁ D₁ : List ℕ} {c : Counters} (s : Setting) (o : ℕ) {
     pub operand-fits : NodeRoom T N D c → 1 ≤ s .limit → r .counters .nodes ≤ 255
     unfolding sizeM
     operand-fits room lim =
-        let law = rw (is-read .value) at (law-run (operand-from-cost (place L T) 0 (clean (place L T)) s o (c .at) (c .end) 0 0 lim (omega arith))) in
+        let law = rw (is-read .value) at (law-run (operand-from-cost (place L T) 0 (all-clean (place L T)) s o (c .at) (c .end) 0 0 lim (omega arith))) in
         let end = laws.within (operandFrom s o) (place L T) (count T) (c .at) (c .end) (λ j k x g. below L T j k x g) (room .room .within) in
         omega (arith, law .1, end, room .room .few, rw (is-read .value) at (held .0))
 

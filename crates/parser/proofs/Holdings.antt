@@ -12,6 +12,8 @@ use Rattle.records.specs.declared.counters.Counters.{Counters}
 use Rattle.terms.specs.declared.terms.Parsed.the-variants as parsed
 use Rattle.terms.specs.declared.terms.Step.{Step}
 use Rattle.expressions.specs.Expressions.{Term, read, reported, absent, parseExpression, expressionFrom}
+use Rattle.expressions.specs.Costs.{size-pos}
+use Rattle.terms.specs.Answers.{what-reported, what-absent}
 use Rattle.terms.specs.Promises.{ExpressionPromise, Stands, LeftStands, FromPromise}
 use Rattle.expressions.specs.Reader.{Reader, answer, _>>=_, run}
 use Rattle.terms.specs.Terms.{sizeT}
@@ -26,7 +28,7 @@ use Rattle.operand.specs.declared.forms.SizedDisplacement.{SizedDisplacement}
 use Rattle.operand.specs.declared.forms.OperandRead.{OperandRead}
 use Rattle.operand.specs.declared.forms.OperandStep.{OperandStep}
 use Rattle.parser.proofs.Paths.{answered, bound, reheld}
-use Rattle.parser.proofs.Trees.{size-pos, TreeRead, term-told, reported-is, absent-is, from-room, from-told}
+use Rattle.parser.proofs.Trees.{TreeRead, term-told, from-room, from-told}
 
 -- ---- an operand's nodes
 
@@ -115,7 +117,7 @@ module _ (L : List ℕ) {T N D N₁ D₁ : List ℕ} {c : Counters} (limit : ℕ
   pub absent-nodes : m .parsed ≡ parsed.Absent → c .nodes ≡ 0 → m .counters .nodes ≡ 0
   unfolding sizeT
   absent-nodes e z =
-      let k : sizeT (run (parseExpression limit) (place L T) (c .at) (c .end) .value) ≡ 0 = ap sizeT (absent-is _ (sym (term-told L limit h p .what) ∙ e)) in
+      let k : sizeT (run (parseExpression limit) (place L T) (c .at) (c .end) .value) ≡ 0 = ap sizeT (what-absent _ (sym (term-told L limit h p .what) ∙ e)) in
       omega (arith, ap (λ w. w .counters .nodes) (p .answer), k, z)
 
   module _ {E : Type 0} {f : Maybe Operand → E} {Q : Maybe Operand → Counters → Type 0} {D₂ : List ℕ} {q : Term → Reader (Maybe Operand)} {v : E} {r : Counters} where
@@ -124,10 +126,10 @@ module _ (L : List ℕ) {T N D N₁ D₁ : List ℕ} {c : Counters} (limit : ℕ
     behind-tree t g = bound (term-told L limit h p) (t .value) g
 
     pub behind-reported : m .parsed ≡ parsed.Reported → Told f Q (q reported) L T D₁ D₂ (m .counters) v r → Told f Q (parseExpression limit >>= q) L T D D₂ c v r
-    behind-reported e g = bound (term-told L limit h p) (reported-is _ (sym (term-told L limit h p .what) ∙ e)) g
+    behind-reported e g = bound (term-told L limit h p) (what-reported _ (sym (term-told L limit h p .what) ∙ e)) g
 
     pub behind-absent : m .parsed ≡ parsed.Absent → Told f Q (q absent) L T D₁ D₂ (m .counters) v r → Told f Q (parseExpression limit >>= q) L T D D₂ c v r
-    behind-absent e g = bound (term-told L limit h p) (absent-is _ (sym (term-told L limit h p .what) ∙ e)) g
+    behind-absent e g = bound (term-told L limit h p) (what-absent _ (sym (term-told L limit h p .what) ∙ e)) g
 
 -- ---- a group that goes on
 

@@ -14,6 +14,7 @@ use Rattle.records.specs.declared.counters.Counters.{Counters}
 use Rattle.records.specs.declared.spans.Span.{Span}
 use Rattle.expressions.specs.declared.reading.Setting.{Setting}
 use Rattle.expressions.specs.Expressions.{takeSizeSuffix}
+use Rattle.expressions.specs.Costs.{all-clean}
 use Rattle.expressions.specs.Reader.{Test, Reader, answer, here, bump, peek, run, _>>=_}
 use Rattle.expressions.specs.Laws as laws
 use Rattle.expressions.specs.Laws.{Law, law-run, holds}
@@ -43,7 +44,7 @@ use Rattle.parser.specs.declared.outer.OuterPart.{OuterPart}
 use Rattle.parser.specs.declared.outer.OuterRead.{OuterRead}
 use Rattle.parser.specs.declared.outer.OuterStep.{OuterStep}
 use Rattle.parser.proofs.Paths.{answered, hereby, hit, passed, unseen}
-use Rattle.parser.proofs.Rooms.{clean, room-step, left-room}
+use Rattle.parser.proofs.Rooms.{room-step, left-room}
 use Rattle.parser.proofs.Trees.{TreeRead}
 
 -- ---- nodes
@@ -76,7 +77,7 @@ node-step h t e = record { room = room-step (h .room) t e; nodesFit = omega (ari
 
 -- behind a reader that has answered a displacement, or what holds one
 part-room : {A B : Type 0} {f : Maybe A → B} {p : Reader (Maybe A)} {L T N D N₁ D₁ : List ℕ} {c : Counters} {v : B} {c₁ : Counters} (g : A → Displacement) (least far : ℕ) {x : A}
-    → Law p (place L T) (Left (place L T) 0 (clean (place L T)) (λ z. sizeD (g z)) least 0 far (c .at) 0 0) (c .at) (c .end) 0 0
+    → Law p (place L T) (Left (place L T) 0 (all-clean (place L T)) (λ z. sizeD (g z)) least 0 far (c .at) 0 0) (c .at) (c .end) 0 0
     → run p (place L T) (c .at) (c .end) .value ≡ some x → NodeRoom T N D c → Told f (StoredPart g N N₁ (c .nodes)) p L T D D₁ c v c₁ → length N₁ ≡ length N → length D₁ ≡ length D → NodeRoom T N₁ D₁ c₁
 part-room g least far law w h t n d =
     let q = rw w at (law-run law) in
@@ -88,15 +89,15 @@ part-room g least far law w h t n d =
 
 pub displacement-room : (s : Setting) (o : ℕ) {L T N D N₁ D₁ : List ℕ} {c : Counters} {r : DisplacementStep} {y : Displacement} → NodeRoom T N D c → DisplacementTold (parseSizedDisplacement s o) L T N D N₁ D₁ c r
     → run (parseSizedDisplacement s o) (place L T) (c .at) (c .end) .value ≡ some y → length N₁ ≡ length N → length D₁ ≡ length D → NodeRoom T N₁ D₁ (r .counters)
-displacement-room s o {L} {T} {c = c} h t w n d = part-room (λ y. y) 0 0 (cost.displacement-cost (place L T) 0 (clean (place L T)) s o (c .at) (c .end) 0 0) w h (t .told) n d
+displacement-room s o {L} {T} {c = c} h t w n d = part-room (λ y. y) 0 0 (cost.displacement-cost (place L T) 0 (all-clean (place L T)) s o (c .at) (c .end) 0 0) w h (t .told) n d
 
 pub inner-room : (s : Setting) (o : ℕ) {L T N D N₁ D₁ : List ℕ} {c : Counters} {r : InnerStep} {x : Inner} → NodeRoom T N D c → InnerTold (parseInner s o) L T N D N₁ D₁ c r
     → run (parseInner s o) (place L T) (c .at) (c .end) .value ≡ some x → length N₁ ≡ length N → length D₁ ≡ length D → NodeRoom T N₁ D₁ (r .counters)
-inner-room s o {L} {T} {c = c} h t w n d = part-room innerD 0 1 (cost.inner-cost (place L T) 0 (clean (place L T)) s o (c .at) (c .end) 0 0) w h (t .told) n d
+inner-room s o {L} {T} {c = c} h t w n d = part-room innerD 0 1 (cost.inner-cost (place L T) 0 (all-clean (place L T)) s o (c .at) (c .end) 0 0) w h (t .told) n d
 
 pub outer-room : (s : Setting) (o : ℕ) (i : Index) {L T N D N₁ D₁ : List ℕ} {c : Counters} {r : OuterStep} {x : Outer} → NodeRoom T N D c → OuterTold (parseOuter s o i) L T N D N₁ D₁ c r
     → run (parseOuter s o i) (place L T) (c .at) (c .end) .value ≡ some x → length N₁ ≡ length N → length D₁ ≡ length D → NodeRoom T N₁ D₁ (r .counters)
-outer-room s o i {L} {T} {c = c} h t w n d = part-room outerD 0 0 (cost.outer-cost (place L T) 0 (clean (place L T)) s o i (c .at) (c .end) 0 0) w h (t .told) n d
+outer-room s o i {L} {T} {c = c} h t w n d = part-room outerD 0 0 (cost.outer-cost (place L T) 0 (all-clean (place L T)) s o i (c .at) (c .end) 0 0) w h (t .told) n d
 
 -- behind a reader that has written no node
 pub same-room : {A B : Type 0} {f : A → B} {p : Reader A} {L T N D D₁ : List ℕ} {c : Counters} {v : B} {c₁ : Counters} → NodeRoom T N D c → Told f (Same (c .nodes)) p L T D D₁ c v c₁ → Room T D₁ c₁ → NodeRoom T N D₁ c₁

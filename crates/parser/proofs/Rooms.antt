@@ -11,7 +11,7 @@ use Rattle.names.specs.declared.tokens.Token.{Token}
 use Rattle.names.specs.declared.tokens.Peeked.the-variants as peeked
 use Rattle.records.specs.declared.counters.Counters.{Counters}
 use Rattle.expressions.specs.declared.reading.Setting.{Setting}
-use Rattle.expressions.specs.Costs.{Clean, suffix-cost}
+use Rattle.expressions.specs.Costs.{all-clean, suffix-cost}
 use Rattle.expressions.specs.Expressions.{Suffix, suffixed, bare, takeSizeSuffix}
 use Rattle.expressions.specs.Laws as laws
 use Rattle.expressions.specs.Laws.{Law, law-run}
@@ -94,26 +94,23 @@ room-behind {p = p} {L = L} {T = T} {c = c} h t q e = record {
   suffixes = h .suffixes;
 }
 
-pub clean : (at : ℕ → Place) → Clean at 0
-clean at = record { small = omega arith; none = λ j k x h q. refl }
-
 pub suffix-room : (from : ℕ) {Q : Suffix → Counters → Type 0} {L T D D₁ : List ℕ} {c : Counters} {v : SuffixRead} {c₁ : Counters}
     → Room T D c → Told suffixRead Q (takeSizeSuffix from) L T D D₁ c v c₁ → length D₁ ≡ length D → Room T D₁ c₁
 suffix-room from {L = L} {T = T} {c = c} h t e =
-    room-behind h t (omega (arith, law-run (suffix-cost (place L T) 0 (clean (place L T)) from (c .at) (c .end) 0 0) .0)) e
+    room-behind h t (omega (arith, law-run (suffix-cost (place L T) 0 (all-clean (place L T)) from (c .at) (c .end) 0 0) .0)) e
 
 -- behind a reader that has answered something
 pub left-room : {A B : Type 0} {f : Maybe A → B} {Q : Maybe A → Counters → Type 0} {p : Reader (Maybe A)} {L T D D₁ : List ℕ} {c : Counters} {v : B} {c₁ : Counters} (g : A → ℕ) (least given far : ℕ) {x : A}
-    → Law p (place L T) (Left (place L T) 0 (clean (place L T)) g least given far (c .at) 0 0) (c .at) (c .end) 0 0
+    → Law p (place L T) (Left (place L T) 0 (all-clean (place L T)) g least given far (c .at) 0 0) (c .at) (c .end) 0 0
     → run p (place L T) (c .at) (c .end) .value ≡ some x → Room T D c → Told f Q p L T D D₁ c v c₁ → length D₁ ≡ length D → Room T D₁ c₁
 left-room g least given far law w h t e = let q = rw w at (law-run law) in room-behind h t (omega (arith, q .2)) e
 
 pub index-room : (s : Setting) (o shape : ℕ) {Q : Maybe IndexRegister → Counters → Type 0} {L T D D₁ : List ℕ} {c : Counters} {v : IndexRead} {c₁ : Counters} {x : IndexRegister}
     → Room T D c → Told indexRead Q (parseIndexRegister s o shape) L T D D₁ c v c₁ → v ≡ IndexRead.Is x → length D₁ ≡ length D → Room T D₁ c₁
 index-room s o shape {L = L} {T = T} {c = c} h t w e =
-    left-room (cost.nil (place L T) 0 (clean (place L T))) 1 0 0 (cost.index-cost (place L T) 0 (clean (place L T)) s o shape (c .at) (c .end) 0 0) (index-is _ (sym (t .what) ∙ w)) h t e
+    left-room (cost.nil (place L T) 0 (all-clean (place L T))) 1 0 0 (cost.index-cost (place L T) 0 (all-clean (place L T)) s o shape (c .at) (c .end) 0 0) (index-is _ (sym (t .what) ∙ w)) h t e
 
 pub registers-room : (s : Setting) (o shape : ℕ) {Q : Maybe Registers → Counters → Type 0} {L T D D₁ : List ℕ} {c : Counters} {v : RegistersRead} {c₁ : Counters} {x : Registers}
     → Room T D c → Told registersRead Q (parseBaseAndIndexRegisters s o shape) L T D D₁ c v c₁ → v ≡ RegistersRead.Is x → length D₁ ≡ length D → Room T D₁ c₁
 registers-room s o shape {L = L} {T = T} {c = c} h t w e =
-    left-room (cost.nil (place L T) 0 (clean (place L T))) 1 0 1 (cost.registers-cost (place L T) 0 (clean (place L T)) s o shape (c .at) (c .end) 0 0) (registers-is _ (sym (t .what) ∙ w)) h t e
+    left-room (cost.nil (place L T) 0 (all-clean (place L T))) 1 0 1 (cost.registers-cost (place L T) 0 (all-clean (place L T)) s o shape (c .at) (c .end) 0 0) (registers-is _ (sym (t .what) ∙ w)) h t e

@@ -12,9 +12,10 @@ use Rattle.records.specs.declared.counters.Counters.{Counters}
 use Rattle.terms.specs.declared.terms.Parsed.the-variants as parsed
 use Rattle.terms.specs.declared.terms.Step.{Step}
 use Rattle.terms.specs.declared.terms.Chain.{Chain}
-use Rattle.expressions.specs.Costs.{expression-cost}
+use Rattle.expressions.specs.Costs.{expression-cost, all-clean, size-pos}
 use Rattle.expressions.specs.Expressions.{Term, read, reported, absent, parseExpression, expressionFrom}
 use Rattle.expressions.specs.Laws.{law-run}
+use Rattle.terms.specs.Answers.{what-read, what-absent}
 use Rattle.terms.specs.Promises.{filled, ExpressionPromise, Stands, FromPromise}
 use Rattle.expressions.specs.Reader.{run}
 use Rattle.expressions.specs.Records.{nodes, length-nodes}
@@ -22,44 +23,6 @@ use Rattle.records.specs.Stores.{nodeBytes}
 use Rattle.terms.specs.Terms.{parsedOf, sizeT, nodesT, Fit, FitClimb}
 use Rattle.expressions.specs.Trees.{Expr, number, characterLiteral, symbol, currentAddress, unary, binary, spanE, withSpan, size}
 use Rattle.parser.specs.Steps.{Room, NodeRoom, Told}
-use Rattle.parser.proofs.Rooms.{clean}
-
--- ---- trees
-
-pub size-pos : (e : Expr) → 0 < size e
-unfolding size
-size-pos (number b v s) = omega arith
-size-pos (characterLiteral q o s) = omega arith
-size-pos (symbol o s) = omega arith
-size-pos (currentAddress s) = omega arith
-size-pos (unary o e s) = omega arith
-size-pos (binary o l r s) = omega arith
-
--- ---- the definition's answer, by the code's
-
--- the tree that was read, whose span the code has
-pub record ReadAs (m : Term) (s : Span) : Type 0 where
-  pub tree : Expr
-  pub is : m ≡ read tree
-  pub span : s ≡ spanE tree
-
-pub read-is : (m : Term) {s : Span} → parsedOf m ≡ parsed.Read s → ReadAs m s
-unfolding parsedOf
-read-is (read e) h = record { tree = e; is = refl; span = cc }
-read-is reported h = let z : _≡_ {A = ℕ} 0 1 = cc in absurd (omega arith)
-read-is absent h = let z : _≡_ {A = ℕ} 0 1 = cc in absurd (omega arith)
-
-pub reported-is : (m : Term) → parsedOf m ≡ parsed.Reported → m ≡ reported
-unfolding parsedOf
-reported-is (read e) h = let z : _≡_ {A = ℕ} 0 1 = cc in absurd (omega arith)
-reported-is reported h = refl
-reported-is absent h = let z : _≡_ {A = ℕ} 0 1 = cc in absurd (omega arith)
-
-pub absent-is : (m : Term) → parsedOf m ≡ parsed.Absent → m ≡ absent
-unfolding parsedOf
-absent-is (read e) h = let z : _≡_ {A = ℕ} 0 1 = cc in absurd (omega arith)
-absent-is reported h = let z : _≡_ {A = ℕ} 0 1 = cc in absurd (omega arith)
-absent-is absent h = refl
 
 -- ---- the node store
 
@@ -152,16 +115,16 @@ module _ (L : List ℕ) {T N D N′ D′ : List ℕ} {c : Counters} (limit : ℕ
 
   pub tree-read : {s : Span} → r .parsed ≡ parsed.Read s → length N′ ≡ length N → length D′ ≡ length D → TreeRead L T N D N′ D′ c limit s (r .counters)
   tree-read q n d =
-      let m = read-is term (sym (term-told .what) ∙ q) in
-      let k = stored (read (m .tree)) (m .is) in
-      let law = rw (m .is) at (law-run (expression-cost (place L T) 0 (clean (place L T)) limit (c .at) (c .end) 0 0)) in
+      let m = what-read term _ (sym (term-told .what) ∙ q) in
+      let k = stored (read (m .0)) (m .1) in
+      let law = rw (m .1) at (law-run (expression-cost (place L T) 0 (all-clean (place L T)) limit (c .at) (c .end) 0 0)) in
       record {
-        tree = m .tree;
-        value = m .is;
-        span = m .span;
+        tree = m .0;
+        value = m .1;
+        span = m .2;
         bytes = k .0;
         total = k .1;
-        some = omega (arith, k .1, size-pos (m .tree));
+        some = omega (arith, k .1, size-pos (m .0));
         few = few-nodes;
         room = record {
           room = record {
@@ -178,7 +141,7 @@ module _ (L : List ℕ) {T N D N′ D′ : List ℕ} {c : Counters} (limit : ℕ
   -- where there is none, nothing was raised
   pub absent-room : r .parsed ≡ parsed.Absent → length D′ ≡ length D → Room T D′ (r .counters)
   absent-room q d =
-      let law = rw (absent-is term (sym (term-told .what) ∙ q)) at (law-run (expression-cost (place L T) 0 (clean (place L T)) limit (c .at) (c .end) 0 0)) in
+      let law = rw (what-absent term (sym (term-told .what) ∙ q)) at (law-run (expression-cost (place L T) 0 (all-clean (place L T)) limit (c .at) (c .end) 0 0)) in
       record {
         few = h .room .few;
         within = p .within;

@@ -347,21 +347,23 @@ pub(crate) fn parse_index_register(
         return no_index(stepped_over(tokens, diagnostics, c, o, shape, 6));
     };
     let r = register_at(line, t);
-    if let Reg::Is(index) = r {
-        let register = register_of(index, t);
-        let e = step_over(c, t);
-        return index_register(line, tokens, diagnostics, e, o, shape, register, false);
-    }
-    let z = suppressed_register_at(line, t, at, s);
-    match z {
-        Suppressed::Register(index) => {
-            let register = register_of(index, t);
-            let e = step_over(c, t);
-            index_register(line, tokens, diagnostics, e, o, shape, register, true)
+    let Reg::Is(index) = r else {
+        let z = suppressed_register_at(line, t, at, s);
+        match z {
+            Suppressed::Register(i) => {
+                let register = register_of(i, t);
+                let e = step_over(c, t);
+                return index_register(line, tokens, diagnostics, e, o, shape, register, true);
+            }
+            Suppressed::ProgramCounter => {
+                return no_index(stepped_over(tokens, diagnostics, c, o, shape, 6));
+            }
+            Suppressed::Not => {
+                return no_index(stepped_over(tokens, diagnostics, c, o, shape, 6));
+            }
         }
-        Suppressed::ProgramCounter => {
-            no_index(stepped_over(tokens, diagnostics, c, o, shape, 6))
-        }
-        Suppressed::Not => no_index(stepped_over(tokens, diagnostics, c, o, shape, 6)),
-    }
+    };
+    let register = register_of(index, t);
+    let e = step_over(c, t);
+    index_register(line, tokens, diagnostics, e, o, shape, register, false)
 }

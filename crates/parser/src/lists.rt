@@ -92,21 +92,25 @@ fn expect_register(
 {
     let at = c.at;
     let p = names::token_at(tokens, at);
-    if let Peeked::Is(t) = p {
-        let r = register_at(line, t);
-        if let Reg::Is(index) = r {
-            return RegisterStep {
-                register: RegisterRead::Is(Register {
-                    index: index,
-                    span: span_of(t),
-                }),
-                counters: step_over(c, t),
-            };
-        }
-    }
+    let Peeked::Is(t) = p else {
+        return RegisterStep {
+            register: RegisterRead::Not,
+            counters: register_expected(tokens, diagnostics, c, sign),
+        };
+    };
+    let r = register_at(line, t);
+    let Reg::Is(index) = r else {
+        return RegisterStep {
+            register: RegisterRead::Not,
+            counters: register_expected(tokens, diagnostics, c, sign),
+        };
+    };
     RegisterStep {
-        register: RegisterRead::Not,
-        counters: register_expected(tokens, diagnostics, c, sign),
+        register: RegisterRead::Is(Register {
+            index: index,
+            span: span_of(t),
+        }),
+        counters: step_over(c, t),
     }
 }
 

@@ -27,7 +27,8 @@ use Rattle.records.specs.Counting.{stepped}
 use Rattle.terms.specs.Terms.{NodeTold, sizeT, nodesT, DeepTold, PrefixTold, Says, ClimbTold}
 use Rattle.terms.proofs.Branches as branch
 use Rattle.terms.proofs.Leaves.{added-nil, added-more, added-one}
-use Rattle.terms.proofs.Returns.{what-read, what-reported, what-absent, kept, absent-quiet}
+use Rattle.terms.specs.Answers.{what-read, what-reported, what-absent}
+use Rattle.terms.proofs.Returns.{kept, absent-quiet}
 
 -- the records of a binary node's tree, from its parts'
 stored-binary : (P : List ℕ) (b n m o : ℕ) (l r : Expr) (s : Span) → n ≡ b + size l → m ≡ n + size r

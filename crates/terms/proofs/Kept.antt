@@ -11,6 +11,7 @@ use Rattle.names.specs.Places.{place}
 use Rattle.expressions.specs.Trees.{Expr, withSpan}
 use Rattle.records.specs.declared.spans.Span.{Span}
 use Rattle.records.specs.declared.counters.Counters.{Counters}
+use Rattle.records.specs.Counting.{counters-are}
 use Rattle.terms.specs.declared.terms.Step.{Step}
 use Rattle.terms.specs.declared.terms.Chain.{Chain}
 use Rattle.expressions.specs.Reader.{run}
@@ -22,9 +23,6 @@ use Rattle.terms.specs.Promises.{filled, spent, ExpressionPromise, Stand
 use Rattle.expressions.specs.Fuel.{fuel-enough}
 use Rattle.expressions.specs.Costs.{size-withSpan}
 use Rattle.terms.proofs.Groups.{spanE-withSpan, widened}
-
-counters-are : (c : Counters) (a l n d : ℕ) → c .at ≡ a → c .end ≡ l → c .nodes ≡ n → c .diagnostics ≡ d → c ≡ record { at = a; end = l; nodes = n; diagnostics = d }
-counters-are c a l n d h i j k = rw (sym h, sym i, sym j, sym k)
 
 -- a store whose first n records are b, cleared behind them
 filled-is : (N N₁ N₂ b : List ℕ) (n i m : ℕ) → take (14 * n) N₁ ≡ b → n ≡ i → drop (14 * m) N₁ ≡ drop (14 * m) N → N₂ ≡ cleared N₁ (14 * n) (14 * m) → N₂ ≡ filled b i m N

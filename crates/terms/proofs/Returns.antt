@@ -35,39 +35,11 @@ use Rattle.expressions.specs.Costs.{Clean, Cost, prefix-cost, expression-cost}
 use Rattle.expressions.specs.Fuel.{fuel-enough}
 use Rattle.expressions.specs.Reader.{is}
 use Rattle.expressions.specs.Laws.{holds}
-use Rattle.expressions.specs.Costs.{size-withSpan}
+use Rattle.expressions.specs.Costs.{size-withSpan, size-pos, all-clean}
+use Rattle.terms.specs.Answers.{what-read, what-reported, what-absent}
 use Rattle.terms.proofs.Branches as branch
 use Rattle.terms.proofs.Groups.{not-closed, spanE-withSpan, widened}
 use Rattle.terms.proofs.Leaves.{added-more, added-one, absent-told}
-
--- ---- an answer's term
-
-pub what-read : (v : Term) (x : Span) → parsedOf v ≡ parsed.Read x → (e : Expr) × (v ≡ read e) × (x ≡ spanE e)
-unfolding parsedOf
-what-read (read e) x h = (e, refl, cc)
-what-read reported x h = let z : _≡_ {A = ℕ} 0 1 = cc in absurd (omega arith)
-what-read absent x h = let z : _≡_ {A = ℕ} 0 1 = cc in absurd (omega arith)
-
-pub what-reported : (v : Term) → parsedOf v ≡ parsed.Reported → v ≡ reported
-unfolding parsedOf
-what-reported (read e) h = let z : _≡_ {A = ℕ} 0 1 = cc in absurd (omega arith)
-what-reported reported h = refl
-what-reported absent h = let z : _≡_ {A = ℕ} 0 1 = cc in absurd (omega arith)
-
-pub what-absent : (v : Term) → parsedOf v ≡ parsed.Absent → v ≡ absent
-unfolding parsedOf
-what-absent (read e) h = let z : _≡_ {A = ℕ} 0 1 = cc in absurd (omega arith)
-what-absent reported h = let z : _≡_ {A = ℕ} 0 1 = cc in absurd (omega arith)
-what-absent absent h = refl
-
-pub size-pos : (e : Expr) → 0 < size e
-unfolding size
-size-pos (number b v s) = omega arith
-size-pos (characterLiteral q o s) = omega arith
-size-pos (symbol o s) = omega arith
-size-pos (currentAddress s) = omega arith
-size-pos (unary o e s) = omega arith
-size-pos (binary o l r s) = omega arith
 
 -- the same reading, with its answer written out
 retold : {s : Reading Term} {N D N′ D′ : List ℕ} {n d : ℕ} {r : Step} (v : Term) → s .value ≡ v → Told s N D N′ D′ n d r → Told (reading (s .cursor) (s .end) (s .raised) v) N D N′ D′ n d r
@@ -110,16 +82,13 @@ pub record Bounds (s : Reading Term) (m i : ℕ) : Type 0 where
   pub few : sizeT (s .value) + i ≤ s .cursor
   pub quiet : length (s .raised) + i ≤ s .cursor + 1
 
-clean : (at : ℕ → Place) → Clean at 0
-clean at = record { small = omega arith; none = λ j k x h q. refl }
-
-few-quiet : (at : ℕ → Place) (i : ℕ) (v : Term) (j e r : ℕ) → i ≤ j → Cost at 0 (clean at) i 0 0 j e r v → (sizeT v + i ≤ j) × (e + i ≤ j + 1)
+few-quiet : (at : ℕ → Place) (i : ℕ) (v : Term) (j e r : ℕ) → i ≤ j → Cost at 0 (all-clean at) i 0 0 j e r v → (sizeT v + i ≤ j) × (e + i ≤ j + 1)
 unfolding sizeT
 few-quiet at i (read x) j e r f h = omega arith
 few-quiet at i reported j e r f h = omega arith
 few-quiet at i absent j e r f h = omega arith
 
-bounds : (p : Reader Term) (L T : List ℕ) (i l : ℕ) → i ≤ count T → laws.Law p (place L T) (Cost (place L T) 0 (clean (place L T)) i 0 0) i l 0 0 → Bounds (run p (place L T) i l) (count T) i
+bounds : (p : Reader Term) (L T : List ℕ) (i l : ℕ) → i ≤ count T → laws.Law p (place L T) (Cost (place L T) 0 (all-clean (place L T)) i 0 0) i l 0 0 → Bounds (run p (place L T) i l) (count T) i
 bounds p L T i l h law =
     let f = laws.forward p (place L T) i l in
     let q = few-quiet (place L T) i _ _ _ _ f (law-run law) in
@@ -134,7 +103,7 @@ bounds p L T i l h law =
 absent-nothing : (L T : List ℕ) (room i l : ℕ) → run (parsePrefix fuel room) (place L T) i l .value ≡ absent
     → (run (parsePrefix fuel room) (place L T) i l .cursor ≡ i) × (length (run (parsePrefix fuel room) (place L T) i l .raised) ≡ 0)
 absent-nothing L T room i l e =
-    let q = rw e at (law-run (prefix-cost (place L T) 0 (clean (place L T)) fuel room i l 0 0)) in
+    let q = rw e at (law-run (prefix-cost (place L T) 0 (all-clean (place L T)) fuel room i l 0 0)) in
     (q .0, omega (arith, q .1))
 
 pub absent-quiet : (L T N D N₁ D₁ : List ℕ) (c : Counters) (room : ℕ) (r : Step) → PrefixTold L T N D N₁ D₁ c room r → r .parsed ≡ parsed.Absent
@@ -162,7 +131,7 @@ module _ (L T N D : List ℕ) (c : Counters) (room : ℕ) (on : c .at ≤ count 
       → PrefixTold L T N D N′ D′ c room r
   prefix-is s e N′ D′ r w h =
       bounded (parsePrefix fuel room) L T N D N′ D′ c r w
-      (bounds (parsePrefix fuel room) L T (c .at) (c .end) on (prefix-cost (place L T) 0 (clean (place L T)) fuel room (c .at) (c .end) 0 0)) (rw e h)
+      (bounds (parsePrefix fuel room) L T (c .at) (c .end) on (prefix-cost (place L T) 0 (all-clean (place L T)) fuel room (c .at) (c .end) 0 0)) (rw e h)
 
   pub prefix-full : {D′ : List ℕ} {r : Step} → room ≡ 0 → DepthTold T D D′ c r → PrefixTold L T N D N D′ c room r
   prefix-full z h = prefix-is _ (branch.prefix-full room (place L T) (c .at) (c .end) z) N _ _ (λ j b. refl) (h .told L N)
@@ -326,7 +295,7 @@ module _ (L T N D N₁ D₁ : List ℕ) (c : Counters) (room : ℕ) (r : Step) (
   -- ---- an expression whose first term answers r
 
   expression-bounds : c .at ≤ count T → Bounds (run (parseExpression room) (place L T) (c .at) (c .end)) (count T) (c .at)
-  expression-bounds on = bounds (parseExpression room) L T (c .at) (c .end) on (expression-cost (place L T) 0 (clean (place L T)) room (c .at) (c .end) 0 0)
+  expression-bounds on = bounds (parseExpression room) L T (c .at) (c .end) on (expression-cost (place L T) 0 (all-clean (place L T)) room (c .at) (c .end) 0 0)
 
   pub expression-reports : c .at ≤ count T → r .parsed ≡ parsed.Reported → ExpressionTold L T N D N₁ D₁ c room r
   expression-reports on w =

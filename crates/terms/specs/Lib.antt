@@ -1,3 +1,4 @@
 -- What the functions that read terms and expressions ask and tell.
 pub mod Terms
 pub mod Promises
+pub mod Answers

@@ -5,7 +5,8 @@ use native.Mathlib.Omega.{arith}
 use Rattle.operand.specs.Operand.{parseSizedDisplacement, displacementValue}
 use Rattle.operand.specs.Forms.{displacementRead}
 use Rattle.parser.proofs.Paths.{answered, bound, failed-over}
-use Rattle.parser.proofs.Trees.{fit, term-told, term-past, tree-read, absent-room, reported-is, absent-is}
+use Rattle.parser.proofs.Trees.{fit, term-told, term-past, tree-read, absent-room}
+use Rattle.terms.specs.Answers.{what-reported, what-absent}
 use Rattle.parser.proofs.Inners.{displacement-read}
 use borrow.Author.Needs.{needs}
 use Rattle.parser.proofs.displacements.parse_sized_displacement.Statement.{statement}
@@ -73,7 +74,7 @@ returns-2 c =
     let c-expression = c .before .before .before .before .before .before .before .before .expression in
     let c-enum-told = c .before .enum-told in
     let c-no-displacement = c .no-displacement in
-    record { told = bound (term-told _ _ (c-pre) (c-expression .ensures)) (reported-is _ (sym (term-told _ _ (c-pre) (c-expression .ensures) .what) ∙ c-enum-told .given .1)) (answered (c-no-displacement .ensures .0) (c-no-displacement .ensures .1) tt); past = term-past _ _ (c-pre) (c-expression .ensures) }
+    record { told = bound (term-told _ _ (c-pre) (c-expression .ensures)) (what-reported _ (sym (term-told _ _ (c-pre) (c-expression .ensures) .what) ∙ c-enum-told .given .1)) (answered (c-no-displacement .ensures .0) (c-no-displacement .ensures .1) tt); past = term-past _ _ (c-pre) (c-expression .ensures) }
 
 same-length-5 : tie.Need-same-length-5
 same-length-5 c = search needs
@@ -89,7 +90,7 @@ returns-3 c =
     let c-enum-told2 = c .before .before .before .before .before .enum-told2 in
     let c-stepped-over = c .before .before .before .stepped-over in
     let c-no-displacement2 = c .no-displacement2 in
-    record { told = bound (term-told _ _ (c-pre) (c-expression .ensures)) (absent-is _ (sym (term-told _ _ (c-pre) (c-expression .ensures) .what) ∙ c-enum-told2 .given .1)) (failed-over _ 9 10 (c-stepped-over .ensures) (c-no-displacement2 .ensures .0) (c-no-displacement2 .ensures .1) tt); past = term-past _ _ (c-pre) (c-expression .ensures) }
+    record { told = bound (term-told _ _ (c-pre) (c-expression .ensures)) (what-absent _ (sym (term-told _ _ (c-pre) (c-expression .ensures) .what) ∙ c-enum-told2 .given .1)) (failed-over _ 9 10 (c-stepped-over .ensures) (c-no-displacement2 .ensures .0) (c-no-displacement2 .ensures .1) tt); past = term-past _ _ (c-pre) (c-expression .ensures) }
 
 pub parse-sized-displacement-spec : {M : Type 1} → statement M
 parse-sized-displacement-spec =

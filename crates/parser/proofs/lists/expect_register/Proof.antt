@@ -1,7 +1,6 @@
 -- `parser::lists::expect_register` meets its contract.
 -- Assumes nothing.
 use mathlib.Core.Path.{refl, sym, _∙_}
-use mathlib.Core.Logic.{⊎-elim}
 use Rattle.parser.specs.Items.{found, missing}
 use Rattle.parser.proofs.Ranges.{none-there, none-at-end}
 use borrow.Author.Needs.{needs}
@@ -14,11 +13,45 @@ token-at-requires c κs = search needs
 enum-known-p : tie.Need-enum-known-p
 enum-known-p c = search needs
 
+enum-told : tie.Need-enum-told
+enum-told c = search needs
+
+register-expected-requires : tie.Need-register-expected-requires
+register-expected-requires c κs = search needs
+
+same-length : tie.Need-same-length
+same-length c = search needs
+
+returns : tie.Need-returns
+returns c =
+    let c-token-at = c .before .before .before .before .before .before .token-at in
+    let c-enum-told = c .before .before .before .before .enum-told in
+    let c-register-expected = c .before .before .register-expected in
+    missing (none-at-end _ _ _ (sym (c-token-at .ensures) ∙ c-enum-told .given .1)) refl (c-register-expected .ensures)
+
 register-at-requires : tie.Need-register-at-requires
 register-at-requires c κs = search needs
 
 enum-known-r : tie.Need-enum-known-r
 enum-known-r c = search needs
+
+enum-told-2 : tie.Need-enum-told-2
+enum-told-2 c = search needs
+
+register-expected-requires-2 : tie.Need-register-expected-requires-2
+register-expected-requires-2 c κs = search needs
+
+same-length-2 : tie.Need-same-length-2
+same-length-2 c = search needs
+
+returns-2 : tie.Need-returns-2
+returns-2 c =
+    let c-token-at = c .before .before .before .before .before .before .before .before .before .before .token-at in
+    let c-p = c .before .before .before .before .before .before .before .before .p in
+    let c-register-at = c .before .before .before .before .before .before .register-at in
+    let c-enum-told2 = c .before .before .before .before .enum-told2 in
+    let c-register-expected2 = c .before .before .register-expected2 in
+    missing (none-there _ _ _ _ (sym (c-token-at .ensures) ∙ c-p .given .1) (sym (c-register-at .ensures) ∙ c-enum-told2 .given .1)) refl (c-register-expected2 .ensures)
 
 span-of-requires : tie.Need-span-of-requires
 span-of-requires c κs = search needs
@@ -26,8 +59,8 @@ span-of-requires c κs = search needs
 step-over-requires : tie.Need-step-over-requires
 step-over-requires c κs = search needs
 
-returns : tie.Need-returns
-returns c =
+returns-3 : tie.Need-returns-3
+returns-3 c =
     let c-token-at = c .before .before .before .before .before .before .before .before .before .token-at in
     let c-p = c .before .before .before .before .before .before .before .p in
     let c-register-at = c .before .before .before .before .before .register-at in
@@ -36,38 +69,22 @@ returns c =
     let c-step-over = c .step-over in
     found _ _ (sym (c-token-at .ensures) ∙ c-p .given .1) (sym (c-register-at .ensures) ∙ c-r .given .1) (rw (c-span-of .ensures)) (c-step-over .ensures) refl
 
-enum-told : tie.Need-enum-told
-enum-told c = search needs
-
-enum-told-2 : tie.Need-enum-told-2
-enum-told-2 c = search needs
-
-register-expected-requires : tie.Need-register-expected-requires
-register-expected-requires c κs = search needs
-
-same-length : tie.Need-same-length
-same-length c = search needs
-
-returns-2 : tie.Need-returns-2
-returns-2 c =
-    let c-token-at = c .before .before .before .before .before .token-at in
-    let c-match = c .before .before .before .before .match in
-    let c-register-expected = c .before .before .register-expected in
-    missing (⊎-elim (λ w. none-there _ _ _ _ (sym (c-token-at .ensures) ∙ w .1 .given .1) (sym (w .3 .ensures) ∙ w .5 .given .1)) (λ w. none-at-end _ _ _ (sym (c-token-at .ensures) ∙ w .1 .given .1)) (c-match .came)) refl (c-register-expected .ensures)
-
 pub expect-register-spec : {M : Type 1} → statement M
 expect-register-spec =
     tie.close
     (tie.spec
     token-at-requires
     enum-known-p
-    register-at-requires
-    enum-known-r
-    span-of-requires
-    step-over-requires
-    returns
     enum-told
-    enum-told-2
     register-expected-requires
     same-length
-    returns-2)
+    returns
+    register-at-requires
+    enum-known-r
+    enum-told-2
+    register-expected-requires-2
+    same-length-2
+    returns-2
+    span-of-requires
+    step-over-requires
+    returns-3)
