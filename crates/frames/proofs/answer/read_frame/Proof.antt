@@ -18,7 +18,7 @@ cast-start : tie.Need-cast-start
 cast-start c =
     let c-shared-slice-known2 = c .shared-slice-known2 in
     let c-args = c .before .before .before .before .args in
-    omega (arith, c-shared-slice-known2 .given (length (c-args .bytes .now) - 2))
+    omega (arith, c-shared-slice-known2 .given (length (c-args .bytes .now) - 2), c-shared-slice-known2 .given (length (c-args .bytes .now) - 1))
 
 sub-mark : tie.Need-sub-mark
 sub-mark c = search needs
@@ -73,7 +73,7 @@ returns c =
     let c-args = c .before .before .before .before .before .before .before .before .before .before .before .before .before .before .args in
     let c-pre = c .before .before .before .before .before .before .before .before .before .before .before .before .before .before .pre in
     let c-parse-operand = c .before .before .before .before .parse-operand in
-    read-lent (c-args .bytes .now) (c-args .line) _ _ _ _ (c-pre .first) (c-pre .whole) _ (c-parse-operand .ensures)
+    read-lent (c-args .bytes .now) (c-args .line) (c-args .nodes .now) (c-args .diagnostics .now) _ _ (c-pre .first) (c-pre .whole) _ (c-parse-operand .ensures)
 
 pub read-frame-spec : {M : Type 1} → statement M
 read-frame-spec =
