@@ -1,25 +1,25 @@
 -- What holds of every reading of an operand, over whatever places.
 -- Assumes nothing.
-use mathlib.Core.Path.{_≡_, refl, sym, _∙_, ap}
+use mathlib.Core.Path.{_≡_, refl, sym, _∙_}
 use mathlib.Core.Bool.{Bool, true, false}
 use mathlib.Core.List.{List, []}
-use Prim.Native.Nat.{ℕ, _+_, _*_, _≤_, _<_, max}
+use Prim.Native.Nat.{ℕ, _+_, _≤_, _<_, max}
 use native.Mathlib.Omega.{arith}
-use borrow.Author.Tests.{ltb-true, ltb-false, lt-ltb, le-ltb}
+use borrow.Author.Tests.{ltb-false, le-ltb}
 use lib.Dec.{eqb, ltb}
 use lib.ListN.{length}
 use Rattle.names.specs.Choice.{pick}
 use Rattle.names.specs.Kinds
 use Rattle.names.specs.Places.{Place, nothing, stands}
 use Rattle.names.specs.declared.tokens.Token.{Token}
-use Rattle.expressions.specs.Reader.{any, Reading, reading, run, met}
+use Rattle.expressions.specs.Reader.{any, reading, run}
 use Rattle.expressions.specs.Laws as L
 use Rattle.expressions.specs.Laws.{holds, All, Law, call, law-run, Every, Fine, all-fine, met-yes, met-no}
 use Rattle.expressions.specs.Costs.{Clean, all-clean, true-false}
 use Rattle.operand.specs.Operands.{Operand, Maybe, some, none}
 use Rattle.expressions.specs.declared.reading.Setting.{Setting}
 use Rattle.operand.specs.Operand.{parseOperand, operandFrom, readingOf}
-use Rattle.operand.specs.Records.{sizeO, sizeM}
+use Rattle.operand.specs.Records.{sizeM}
 use Rattle.operand.specs.Costs.{operand-from-cost}
 
 -- how far past the cursor a reading has looked: nowhere, and one place where there is no operand

@@ -188,7 +188,7 @@ table =
     ∷ trial "(name)" (sign Kinds.leftParen 0 (token Kinds.identifier 1 5 (sign Kinds.rightParen 5 []))) (span 0 6 ∷ name 1 5 ∷ kinds [] ∷ [])
     ∷ minuses 63 (form 13 ∷ cursor 64 ∷ kinds [] ∷ [])
     ∷ minuses 64 (noOperand ∷ kinds (6 ∷ []) ∷ [])
-    -- not at the second plus, as the paper has it: the unary plus is stepped over
+    -- a unary plus is stepped over, and told
     ∷ trial "1++5" (digit 0 (sign Kinds.plus 1 (sign Kinds.plus 2 (digit 3 [])))) (form 13 ∷ cursor 4 ∷ tree "(1+5)" ∷ kinds (13 ∷ []) ∷ [])
     ∷ []
 

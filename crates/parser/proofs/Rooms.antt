@@ -2,11 +2,11 @@
 -- Assumes nothing.
 use mathlib.Core.Path.{_≡_, refl, sym, _∙_, ap}
 use mathlib.Core.List.{List}
-use Prim.Native.Nat.{ℕ, _+_, _*_, _≤_, _<_}
+use Prim.Native.Nat.{ℕ, _+_, _≤_}
 use native.Mathlib.Omega.{arith}
 use lib.ListN.{length}
 use Rattle.names.specs.Tokens.{count, tokenAt}
-use Rattle.names.specs.Places.{Place, place, below, live}
+use Rattle.names.specs.Places.{place, below, live}
 use Rattle.names.specs.declared.tokens.Token.{Token}
 use Rattle.names.specs.declared.tokens.Peeked.the-variants as peeked
 use Rattle.records.specs.declared.counters.Counters.{Counters}
@@ -18,7 +18,7 @@ use Rattle.expressions.specs.Laws.{Law, law-run}
 use Rattle.expressions.specs.Reader.{Reader, run}
 use Rattle.records.specs.Counting.{stepped}
 use Rattle.operand.specs.Operands.{Maybe, some, none}
-use Rattle.operand.specs.Operand.{parseIndexRegister, parseBaseAndIndexRegisters, Inner, Outer}
+use Rattle.operand.specs.Operand.{parseIndexRegister, parseBaseAndIndexRegisters}
 use Rattle.operand.specs.Costs.{Left}
 use Rattle.operand.specs.Costs as cost
 use Rattle.operand.specs.Forms.{indexRead, registersRead, closeRead, suffixRead}

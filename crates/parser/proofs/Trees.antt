@@ -21,7 +21,7 @@ use Rattle.expressions.specs.Reader.{run}
 use Rattle.expressions.specs.Records.{nodes, length-nodes}
 use Rattle.records.specs.Stores.{nodeBytes}
 use Rattle.terms.specs.Terms.{parsedOf, sizeT, nodesT, Fit, FitClimb}
-use Rattle.expressions.specs.Trees.{Expr, number, characterLiteral, symbol, currentAddress, unary, binary, spanE, withSpan, size}
+use Rattle.expressions.specs.Trees.{Expr, spanE, withSpan, size}
 use Rattle.parser.specs.Steps.{Room, NodeRoom, Told}
 
 -- ---- the node store

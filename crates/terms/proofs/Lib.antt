@@ -4,5 +4,6 @@ pub mod Branches
 pub mod Leaves
 pub mod Groups
 pub mod Returns
+pub mod Closings
 pub mod Climbs
 pub mod Kept

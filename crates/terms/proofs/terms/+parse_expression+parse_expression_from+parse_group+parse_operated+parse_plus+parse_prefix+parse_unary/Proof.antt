@@ -8,7 +8,8 @@ use Prim.Native.Nat.{ℕ, _+_, _-_, _*_, _<_}
 use Rattle.names.specs.Tokens.{count}
 use Rattle.terms.proofs.Tables.{precedence-small}
 use Rattle.names.specs.Places.{live}
-use Rattle.terms.proofs.Returns.{read-some, absent-quiet, prefix-full, prefix-end, prefix-minus, prefix-tilde, prefix-plus, prefix-group, prefix-leaf, unary-reads, unary-reports, unary-absents, plus-reads, plus-reports, plus-absents, expression-reads, expression-reports, expression-absents, group-reports, group-absents, group-tells}
+use Rattle.terms.proofs.Returns.{read-some, absent-quiet, prefix-full, prefix-end, prefix-minus, prefix-tilde, prefix-plus, prefix-group, prefix-leaf, unary-reads, unary-reports, unary-absents, plus-reads, plus-reports, plus-absents, expression-reads, expression-reports, expression-absents}
+use Rattle.terms.proofs.Closings.{group-reports, group-absents, group-tells}
 use Rattle.terms.proofs.Climbs.{climb-ends, climb-lows, climb-reports, climb-absents, climb-reads}
 use borrow.Fn.Kinds.{In}
 use borrow.Fn.PlainCycle.{Measures, is, falls, and}
