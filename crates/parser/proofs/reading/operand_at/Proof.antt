@@ -22,7 +22,7 @@ clear-nodes-requires c κs =
     let c-operand-from = c .before .before .before .before .before .before .before .before .before .operand-from in
     let c-enum-told = c .before .before .enum-told in
     let c-pre = c .before .before .before .before .before .before .before .before .before .before .before .before .before .before .before .before .pre in
-    (operand-fits _ _ (c-operand-from .ensures) (c-enum-told .given .1) (c-pre .0) (c-pre .3), omega arith, omega (arith, c-pre .0 .nodesLong, c-operand-from .kept))
+    omega (arith, operand-fits _ _ (c-operand-from .ensures) (c-enum-told .given .1) (c-pre .0) (c-pre .3), c-pre .0 .nodesLong, c-operand-from .kept)
 
 enum-told-2 : tie.Need-enum-told-2
 enum-told-2 c = search needs
