@@ -12,7 +12,8 @@ A file of answers has these lines; a line that begins with a blank goes on with 
     measure FN = TEXT       of a member of a cycle
     unfolding NEED NEED.. = NAMES
     NEED NEED.. = TEXT      {thing} stands for a thing known at the need: its `.before`s are counted, and it is named once
-    Inv-LOOP = TEXT, μ-LOOP = TEXT     a loop's invariant and measure, over the names that `needs` shows
+    Inv-LOOP = TEXT, μ-LOOP = TEXT     a loop's invariant and measure, over the names that `needs` shows;
+                                       in a cycle MEMBER-Inv-LOOP, MEMBER-μ-LOOP
 A need without an answer is left to `search needs`. The skeletons are kept in target/skeletons until the code changes.
 """
 import hashlib
@@ -142,7 +143,7 @@ def answer_lines(path):
 
 def answered(crate, module, heads, proof, need, text):
     """The proof with one need's answer put in."""
-    if need.startswith(("Inv-", "μ-")):
+    if re.match(r"(?:\S+-)?(?:Inv|μ)-", need):
         proof, hits = re.subn(rf"(\n{re.escape(need)} [^=\n]*=)\s+\?\n", lambda m: f"{m.group(1)} {text}\n", proof)
     else:
         used = dict.fromkeys(re.findall(r"\{([a-z0-9-]+)\}", text))

@@ -1,30 +1,29 @@
 // The entry: what a call lends and gives, and what comes back.
-use expressions::Setting;
-use names::Peeked;
-use names::Token;
-use operand::Answer;
-use operand::Found;
-use operand::Missed;
+use layout::Answer;
+use layout::Found;
+use layout::Missed;
+use layout::decode_tokens;
+use layout::encode_diagnostics;
+use layout::encode_nodes;
+use layout::refuse_line_and_list;
+use layout::refuse_start_and_stores;
 use operand::OperandRead;
-use operand::refusal;
+use operand::OperandStep;
+use parser::OperandAnswer;
 use parser::operand_at;
-use records::Counters;
-use records::clear_nodes;
-ghost use mathlib.Core.Path.{_≡_};
-ghost use Prim.Native.Nat.{_*_, _≤_};
-ghost use lib.ListN.{length};
-ghost use Rattle.names.specs.Tokens.{tokenAt};
-ghost use Rattle.names.specs.declared.tokens.Peeked.the-variants as peeked;
-ghost use Rattle.records.specs.Stores.{cleared};
-ghost use Rattle.operand.specs.declared.entry.Answer.the-variants as answer;
 ghost use Rattle.operand.specs.Entry.{call};
-ghost use Rattle.operand.specs.Conditions.{Valid};
-ghost use Rattle.operand.specs.Promise.{EntryPromise};
+ghost use Rattle.layout.specs.Promise.{EntryPromise};
+ghost use Rattle.entry.specs.Inner.{ListAsks, StoresAsk, AnswerTold};
 
 // How many terms may be open in each other.
 const NESTING: usize = 64;
+// The numbers of the refusals of a token and of a start.
+const BAD_TOKEN: u8 = 4;
 
-// Reads the operand that begins at the token `start`. A refusal writes nothing.
+const BAD_START: u8 = 5;
+
+// Reads the operand that begins at the token `start`. A refusal writes nothing. The numbers of the reading stand in stores of the
+// call's own, in three sizes, since to clear them takes longer than to read a short list.
 pub fn parse_operand(
     line: &[u8],
     tokens: &[u8],
@@ -36,18 +35,112 @@ pub fn parse_operand(
 ) -> Answer
     ensures { λ r. ⌜ EntryPromise (call (now (line .entry)) (now (tokens .entry)) start mark (now (nodes .entry)) (now (diagnostics .entry)) used) (now (nodes .exit)) (now (diagnostics .exit)) r ⌝ }
 {
-    let n = refusal(line, tokens, start, nodes.len(), diagnostics.len(), used);
+    let n = refuse_line_and_list(line, tokens);
     if n != 0 {
         return Answer::Refused(n);
     }
-    let p = names::token_at(tokens, start);
-    match p {
-        Peeked::Is(t) => read_operand(line, tokens, start, mark, nodes, diagnostics, used, t),
-        Peeked::End => no_operand(nodes, start),
+    let count = tokens.len() / 4;
+    if count <= 16 {
+        return read_16(line, tokens, start, mark, nodes, diagnostics, used);
     }
+    if count <= 64 {
+        return read_64(line, tokens, start, mark, nodes, diagnostics, used);
+    }
+    read_255(line, tokens, start, mark, nodes, diagnostics, used)
 }
 
-// The operand whose first token is `token`.
+// The operand of a list of at most 16 tokens. Of numbers a token has four, a node and a diagnostic ten; there may be a node for each
+// token, and a diagnostic more.
+fn read_16(
+    line: &[u8],
+    tokens: &[u8],
+    start: usize,
+    mark: usize,
+    nodes: &mut [u8],
+    diagnostics: &mut [u8],
+    used: usize,
+) -> Answer
+    requires { ⌜ ListAsks (now line) (now tokens) 16 ⌝ }
+    ensures { λ r. ⌜ EntryPromise (call (now (line .entry)) (now (tokens .entry)) start mark (now (nodes .entry)) (now (diagnostics .entry)) used) (now (nodes .exit)) (now (diagnostics .exit)) r ⌝ }
+{
+    let mut list: [u16; 64] = [0; 64];
+    let mut records: [u16; 160] = [0; 160];
+    let mut reports: [u16; 170] = [0; 170];
+    read_operand(
+        line,
+        tokens,
+        start,
+        mark,
+        nodes,
+        diagnostics,
+        used,
+        &mut list,
+        &mut records,
+        &mut reports,
+    )
+}
+
+// The same of at most 64.
+fn read_64(
+    line: &[u8],
+    tokens: &[u8],
+    start: usize,
+    mark: usize,
+    nodes: &mut [u8],
+    diagnostics: &mut [u8],
+    used: usize,
+) -> Answer
+    requires { ⌜ ListAsks (now line) (now tokens) 64 ⌝ }
+    ensures { λ r. ⌜ EntryPromise (call (now (line .entry)) (now (tokens .entry)) start mark (now (nodes .entry)) (now (diagnostics .entry)) used) (now (nodes .exit)) (now (diagnostics .exit)) r ⌝ }
+{
+    let mut list: [u16; 256] = [0; 256];
+    let mut records: [u16; 640] = [0; 640];
+    let mut reports: [u16; 650] = [0; 650];
+    read_operand(
+        line,
+        tokens,
+        start,
+        mark,
+        nodes,
+        diagnostics,
+        used,
+        &mut list,
+        &mut records,
+        &mut reports,
+    )
+}
+
+// The same of the longest list.
+fn read_255(
+    line: &[u8],
+    tokens: &[u8],
+    start: usize,
+    mark: usize,
+    nodes: &mut [u8],
+    diagnostics: &mut [u8],
+    used: usize,
+) -> Answer
+    requires { ⌜ ListAsks (now line) (now tokens) 255 ⌝ }
+    ensures { λ r. ⌜ EntryPromise (call (now (line .entry)) (now (tokens .entry)) start mark (now (nodes .entry)) (now (diagnostics .entry)) used) (now (nodes .exit)) (now (diagnostics .exit)) r ⌝ }
+{
+    let mut list: [u16; 1020] = [0; 1020];
+    let mut records: [u16; 2550] = [0; 2550];
+    let mut reports: [u16; 2560] = [0; 2560];
+    read_operand(
+        line,
+        tokens,
+        start,
+        mark,
+        nodes,
+        diagnostics,
+        used,
+        &mut list,
+        &mut records,
+        &mut reports,
+    )
+}
+
+// The operand, read in stores of the call's own: the numbers of the list, of the nodes and of the diagnostics.
 fn read_operand(
     line: &[u8],
     tokens: &[u8],
@@ -56,47 +149,58 @@ fn read_operand(
     nodes: &mut [u8],
     diagnostics: &mut [u8],
     used: usize,
-    token: Token,
+    list: &mut [u16],
+    records: &mut [u16],
+    reports: &mut [u16],
 ) -> Answer
-    requires { ⌜ (Valid (call (now line) (now tokens) start mark (now nodes) (now diagnostics) used)) × (tokenAt (now tokens) start ≡ peeked.Is token) ⌝ }
+    requires { ⌜ StoresAsk (now line) (now tokens) (now list) (now records) (now reports) ⌝ }
     ensures { λ r. ⌜ EntryPromise (call (now (line .entry)) (now (tokens .entry)) start mark (now (nodes .entry)) (now (diagnostics .entry)) used) (now (nodes .exit)) (now (diagnostics .exit)) r ⌝ }
 {
-    let c = Counters {
-        at: start,
-        end: 0,
-        nodes: 0,
-        diagnostics: used,
-    };
-    let s = Setting {
-        limit: NESTING,
-        mark: mark,
-    };
-    let r = operand_at(line, tokens, nodes, diagnostics, c, s, token);
+    if !decode_tokens(line, tokens, list) {
+        return Answer::Refused(BAD_TOKEN);
+    }
+    let end = tokens.len();
+    let k = refuse_start_and_stores(end / 4, start, nodes.len(), diagnostics.len(), used);
+    if k != 0 {
+        return Answer::Refused(k);
+    }
+    let numbers = &list[0..end];
+    let read = operand_at(line, numbers, records, reports, start, mark, NESTING);
+    match read {
+        OperandAnswer::Is(r) => answered(r, records, reports, nodes, diagnostics, used),
+        // There is room, so that this never comes.
+        OperandAnswer::Unfit => Answer::Refused(BAD_START),
+    }
+}
+
+// What was read, with its records written into the lent stores.
+fn answered(
+    r: OperandStep,
+    records: &[u16],
+    reports: &[u16],
+    nodes: &mut [u8],
+    diagnostics: &mut [u8],
+    used: usize,
+) -> Answer
+    ensures { λ x. ⌜ AnswerTold r (now (records .entry)) (now (reports .entry)) (now (nodes .entry)) (now (diagnostics .entry)) (now (nodes .exit)) (now (diagnostics .exit)) used x ⌝ }
+{
     let e = r.counters;
-    let added = e.diagnostics - used;
+    let cursor = e.at as usize;
+    let n = e.nodes as usize;
+    let added = e.diagnostics as usize;
+    encode_nodes(records, n, nodes);
+    encode_diagnostics(reports, added, diagnostics, used);
     let read = r.operand;
     match read {
         OperandRead::Is(x) => Answer::Operand(Found {
             operand: x,
-            cursor: e.at,
-            nodes: e.nodes as usize,
+            cursor: cursor,
+            nodes: n,
             diagnostics: added,
         }),
         OperandRead::Not => Answer::NoOperand(Missed {
-            cursor: e.at,
+            cursor: cursor,
             diagnostics: added,
         }),
     }
-}
-
-// At the list's end there is no operand, and no node is used.
-fn no_operand(nodes: &mut [u8], cursor: usize) -> Answer
-    requires { ⌜ 3570 ≤ length (now nodes) ⌝ }
-    ensures { λ r. ⌜ (r ≡ answer.NoOperand (record { cursor = cursor; diagnostics = 0 })) × (now (nodes .exit) ≡ cleared (now (nodes .entry)) (14 * 0) (14 * 255)) ⌝ }
-{
-    clear_nodes(nodes, 0, 255);
-    Answer::NoOperand(Missed {
-        cursor: cursor,
-        diagnostics: 0,
-    })
 }

@@ -73,7 +73,7 @@ unfoldable pub turn : (ℕ → Expr → Reader Expr) → Reader Term → ℕ →
 turn again prefix min left = bump (operator min) (λ k x. prefix >>= operated again min left k) λ u. answer left
 
 -- the fuel is enough for the longest list of document 01
-pub fuel-enough : 255 ≤ fuel
+pub fuel-enough : 1023 ≤ fuel
 unfolding fuel
 fuel-enough = omega arith
 

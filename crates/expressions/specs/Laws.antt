@@ -157,7 +157,7 @@ abbrev pub Every : (Diagnostic → Type 0) → List Diagnostic → Type 0
 Every P [] = Unit {0}
 Every P (d ∷ ds) = P d × Every P ds
 
-every-append : (P : Diagnostic → Type 0) (xs ys : List Diagnostic) → Every P xs → Every P ys → Every P (xs ++ ys)
+pub every-append : (P : Diagnostic → Type 0) (xs ys : List Diagnostic) → Every P xs → Every P ys → Every P (xs ++ ys)
 every-append P [] ys f g = g
 every-append P (x ∷ xs) ys f g = (f .0, every-append P xs ys (f .1) g)
 

@@ -7,3 +7,5 @@ pub mod Examples
 pub mod Laws
 pub mod Costs
 pub mod Fuel
+pub mod Grown
+pub mod Offsets

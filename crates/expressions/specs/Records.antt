@@ -1,24 +1,24 @@
--- Node records: fourteen bytes a node, in the order in which the nodes are finished, so that a tree's root is its last record.
+-- Node records: ten numbers a node, in the order in which the nodes are finished, so that a tree's root is its last record.
 -- Assumes nothing.
 use mathlib.Core.Path.{_≡_, refl}
 use mathlib.Core.List.{List, _++_}
 use Prim.Native.Nat.{ℕ, _+_, _-_, _*_}
 use native.Mathlib.Omega.{arith}
 use lib.ListN.{length, length-append}
-use Rattle.records.specs.Nodes.{lowFirst, absent, record14, zeros, own}
+use Rattle.records.specs.Nodes.{words, absent, nodeRecord, zeros, own}
 use Rattle.expressions.specs.Trees.{Expr, number, characterLiteral, symbol, currentAddress, unary, binary, size}
 
 -- the records of a tree, the first of which has the number b
 unfoldable pub nodes : ℕ → Expr → List ℕ
-nodes b (number base v s) = record14 1 base absent absent s (lowFirst 8 v)
-nodes b (characterLiteral q o s) = record14 2 q absent absent s (own o)
-nodes b (symbol o s) = record14 3 0 absent absent s (own o)
-nodes b (currentAddress s) = record14 4 0 absent absent s zeros
-nodes b (unary o e s) = nodes b e ++ record14 5 o (b + size e - 1) absent s zeros
-nodes b (binary o l r s) = nodes b l ++ (nodes (b + size l) r ++ record14 6 o (b + size l - 1) (b + size l + size r - 1) s zeros)
+nodes b (number base v s) = nodeRecord 1 base absent absent s (words 4 v)
+nodes b (characterLiteral q o s) = nodeRecord 2 q absent absent s (own o)
+nodes b (symbol o s) = nodeRecord 3 0 absent absent s (own o)
+nodes b (currentAddress s) = nodeRecord 4 0 absent absent s zeros
+nodes b (unary o e s) = nodes b e ++ nodeRecord 5 o (b + size e - 1) absent s zeros
+nodes b (binary o l r s) = nodes b l ++ (nodes (b + size l) r ++ nodeRecord 6 o (b + size l - 1) (b + size l + size r - 1) s zeros)
 
-pub length-nodes : (b : ℕ) (e : Expr) → length (nodes b e) ≡ 14 * size e
-unfolding nodes size lowFirst
+pub length-nodes : (b : ℕ) (e : Expr) → length (nodes b e) ≡ 10 * size e
+unfolding nodes size words
 length-nodes b (number base v s) = refl
 length-nodes b (characterLiteral q o s) = refl
 length-nodes b (symbol o s) = refl

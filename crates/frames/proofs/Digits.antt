@@ -10,6 +10,7 @@ use borrow.Author.Tests.{le-leb, lt-leb}
 use lib.ListN.{length, take, drop, getD, set, length-append, length-take, take-append-drop}
 use lib.Seq.{drop-cons, set-at, append-snoc, take-suc, take-length, length-take-le}
 use Rattle.records.specs.Stores.{written}
+use Rattle.records.specs.Written.{written-fits}
 use Rattle.frames.specs.Hex.{digit, digits, value}
 use Rattle.frames.specs.Inner.{Put}
 use Rattle.frames.specs.Lengths.{digits-append, length-digits}
@@ -38,21 +39,21 @@ value-high c h = rw (le-leb 48 c (omega arith), lt-leb c 57 (omega arith), le-le
 
 -- ---- bytes written one after the other
 
-pub written-none : (O : List ℕ) (at : ℕ) → O ≡ written O at []
-unfolding written
-written-none O at = sym (ap (λ l. l ++ drop (at + 0) O) (append-nil (take at O)) ∙ ap (λ n. take at O ++ drop n O) (add-zero at) ∙ take-append-drop at O)
+pub written-none : (O : List ℕ) (at : ℕ) → at ≤ length O → O ≡ written O at []
+written-none O at h = sym (written-fits O at [] (omega arith) ∙ ap (λ l. l ++ drop (at + 0) O) (append-nil (take at O)) ∙ ap (λ n. take at O ++ drop n O) (add-zero at) ∙ take-append-drop at O)
 
 pub written-one : (O : List ℕ) (at : ℕ) (y : List ℕ) (b : ℕ) → at + length y < length O
     → set (written O at y) (at + length y) b ≡ written O at (y ++ (b ∷ []))
-unfolding written
 written-one O at y b h =
     let n = at + length y in
     let e : n + 1 ≡ at + length (y ++ (b ∷ [])) = simp length-append (omega arith) in
-    ap (λ l. set ((take at O ++ y) ++ l) n b) (drop-cons O n 0 h)
+    ap (λ l. set l n b) (written-fits O at y (omega arith))
+    ∙ ap (λ l. set ((take at O ++ y) ++ l) n b) (drop-cons O n 0 h)
     ∙ set-at (take at O ++ y) (getD O n 0) (drop (suc n) O) b n (simp (length-append, length-take) (omega arith))
     ∙ sym (append-snoc (take at O ++ y) b (drop (suc n) O))
     ∙ ap (λ l. l ++ drop (suc n) O) (append-assoc (take at O) y (b ∷ []))
     ∙ ap (λ m. (take at O ++ (y ++ (b ∷ []))) ++ drop m O) (sym (add-one n) ∙ e)
+    ∙ sym (written-fits O at (y ++ (b ∷ [])) (omega arith))
 
 -- the digits of one byte more
 pub digits-next : (bs : List ℕ) (i : ℕ) → i < length bs

@@ -7,7 +7,7 @@ use native.Mathlib.Omega.{arith}
 use lib.ListN.{length, take, set, length-append}
 use lib.Seq.{length-take-le}
 use Rattle.records.specs.Stores.{written}
-use Rattle.operand.specs.declared.entry.Found.{Found}
+use Rattle.layout.specs.declared.answer.Found.{Found}
 use Rattle.frames.specs.Hex.{digits}
 use Rattle.frames.specs.Reply.{ended}
 use Rattle.records.specs.Written.{written-more}
@@ -21,7 +21,7 @@ put-one O at b h =
     record {
       next = refl;
       out =
-          ap (λ l. set l at b) (written-none O at)
+          ap (λ l. set l at b) (written-none O at (omega arith))
           ∙ ap (λ k. set (written O at []) k b) e
           ∙ written-one O at [] b (omega arith);
     }

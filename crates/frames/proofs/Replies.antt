@@ -9,21 +9,20 @@ use lib.ListN.{length, take, drop, getD}
 use Rattle.expressions.specs.Reader.{Reading}
 use Rattle.records.specs.Nodes.{lowFirst}
 use Rattle.operand.specs.Operands.{Operand, Maybe, some, none}
-use Rattle.operand.specs.Records.{sizeM, nodesM, diagnosticRecords}
-use Rattle.operand.specs.Records as Records
-use Rattle.operand.specs.Forms.{recordOf, bytesOf, bytes-record}
+use Rattle.operand.specs.Records.{sizeM}
+use Rattle.operand.specs.Forms.{recordOf}
+use Rattle.operand.specs.Layout.{nodesLaid, diagnosticsLaid, bytesOf, answerLine}
 use Rattle.operand.specs.Entry.{Input, refusal, readingAt}
-use Rattle.operand.specs.Promise.{nesting, resultOf, resultAt, EntryPromise}
+use Rattle.layout.specs.Promise.{nesting, resultOf, resultAt, EntryPromise}
 use Rattle.operand.specs.Conditions.{Valid}
-use Rattle.operand.specs.Answers as Answers
-use Rattle.operand.specs.Answers.{Total}
-use Rattle.operand.specs.declared.entry.Answer.{Answer}
-use Rattle.operand.specs.declared.entry.Found.{Found}
-use Rattle.operand.specs.declared.entry.Missed.{Missed}
+use Rattle.layout.specs.Answers as Answers
+use Rattle.layout.specs.Answers.{Total, operand-valid, missed-valid, cursor-small}
+use Rattle.layout.specs.declared.answer.Answer.{Answer}
+use Rattle.layout.specs.declared.answer.Found.{Found}
+use Rattle.layout.specs.declared.answer.Missed.{Missed}
 use Rattle.frames.specs.Frame.{isFrame, lineLength, tokenCount, inputOf}
 use Rattle.frames.specs.Reply.{refused, bytesAt, inputBytes, frameBytes, ended}
 use Rattle.frames.specs.Lent.{lent, lent-same}
-use Rattle.layout.specs.Answered.{operand-valid, missed-valid, found-fits, cursor-small}
 use Rattle.frames.specs.Inner.{Put, foundBytes, FoundAsks, missedBytes, MissedAsks, answerBytes, AnswerAsks}
 
 -- ---- of a call that keeps the entry's promise
@@ -52,7 +51,7 @@ module _ (a : Input) (none-used : a .used ≡ 0) (N D : List ℕ) where
   s = readingAt nesting a
 
   -- the added diagnostics are the first ones
-  first-added : (r : Answer) → EntryPromise a N D r → Valid a → take (10 * Answers.diagnosticsAdded r) D ≡ diagnosticRecords (s .raised)
+  first-added : (r : Answer) → EntryPromise a N D r → Valid a → take (10 * Answers.diagnosticsAdded r) D ≡ diagnosticsLaid (s .raised)
   first-added r p v = ap (λ k. take (10 * Answers.diagnosticsAdded r) (drop (10 * k) D)) (sym none-used) ∙ Answers.added-records a N D r p v
 
   module _ (x : Found) (p : EntryPromise a N D (Answer.Operand x)) where
@@ -64,24 +63,23 @@ module _ (a : Input) (none-used : a .used ≡ 0) (N D : List ℕ) where
     found-is = p .value ∙ ap (resultAt nesting a) v
 
     pub found-bytes : foundBytes x N D ≡ inputBytes a
-    unfolding foundBytes inputBytes bytesAt resultOf Records.answerLine sizeM nodesM
+    unfolding foundBytes inputBytes bytesAt resultOf answerLine sizeM
     found-bytes = go (s .value) refl found-is ∙ ap (bytesAt a) (sym v)
       where
-        go : (w : Maybe Operand) → s .value ≡ w → Answer.Operand x ≡ resultOf s w → foundBytes x N D ≡ Records.answerLine s w
+        go : (w : Maybe Operand) → s .value ≡ w → Answer.Operand x ≡ resultOf s w → foundBytes x N D ≡ answerLine s w
         go (some y) e h =
             let q : x ≡ foundOf s y = cc in
             let len : x .diagnostics ≡ length (s .raised) = ap (λ (z : Found). z .diagnostics) q in
             joined 0 (ap (λ (z : Found). z .cursor) q) (ap (λ (z : Found). z .nodes) q)
             (low-first (x .diagnostics) (Answers.records-enough a N D (Answer.Operand x) p v) ∙ ap (lowFirst 2) len)
-            (ap (λ (z : Found). bytesOf (z .operand)) q ∙ bytes-record y)
-            (Answers.used-records a N D (Answer.Operand x) p v ∙ ap nodesM e)
+            (ap (λ (z : Found). bytesOf (z .operand)) q)
+            (Answers.used-records a N D (Answer.Operand x) p v ∙ ap nodesLaid e)
             (first-added (Answer.Operand x) p v)
         go none e h = let z : _≡_ {A = ℕ} 0 1 = cc in absurd (omega arith)
 
     pub found-asks : (O : List ℕ) (at : ℕ) → at + 17411 ≤ length O → length N ≡ 3570 → length D ≡ 5110 → FoundAsks O at x N D
     found-asks O at room n d = record {
       room = room;
-      base = found-fits a N D x p;
       cursor-small = cursor-small a N D (Answer.Operand x) p v;
       nodes-few = Answers.nodes-enough a N D (Answer.Operand x) p v;
       nodes-long = n;
@@ -98,10 +96,10 @@ module _ (a : Input) (none-used : a .used ≡ 0) (N D : List ℕ) where
     missed-is = p .value ∙ ap (resultAt nesting a) w
 
     pub missed-bytes : missedBytes x D ≡ inputBytes a
-    unfolding missedBytes inputBytes bytesAt resultOf Records.answerLine
+    unfolding missedBytes inputBytes bytesAt resultOf answerLine
     missed-bytes = go (s .value) refl missed-is ∙ ap (bytesAt a) (sym w)
       where
-        go : (m : Maybe Operand) → s .value ≡ m → Answer.NoOperand x ≡ resultOf s m → missedBytes x D ≡ Records.answerLine s m
+        go : (m : Maybe Operand) → s .value ≡ m → Answer.NoOperand x ≡ resultOf s m → missedBytes x D ≡ answerLine s m
         go (some y) e h = let z : _≡_ {A = ℕ} 0 1 = cc in absurd (omega arith)
         go none e h =
             let q : x ≡ missedOf s = cc in

@@ -100,7 +100,7 @@ module _ (I C₀ O₀ : List ℕ) (h₀ i h w : ℕ) (C O : List ℕ) (inv : ste
 
 pub finish-none : (h : ℕ) (C O : List ℕ) → h ≡ 0 → FinishTold h C O O 0
 unfolding lastLine
-finish-none h C O e = record { filled = rw (eq-eqb h 0 e); out = rw (eq-eqb h 0 e) (written-none O 0) }
+finish-none h C O e = record { filled = rw (eq-eqb h 0 e); out = rw (eq-eqb h 0 e) (written-none O 0 (omega arith)) }
 
 pub finish-line : (h : ℕ) (C O O′ : List ℕ) (r : ℕ) → (h ≡ 0 → ⊥) → Put O O′ 0 (heldLine h C) r → FinishTold h C O O′ r
 unfolding lastLine

@@ -5,10 +5,9 @@ use mathlib.Core.List.{List}
 use Prim.Native.Nat.{ℕ, _+_, _*_}
 use lib.Dec.{eqb}
 use lib.ListN.{length, take, drop, getD, replicate}
-use Rattle.records.specs.Stores.{nodeBytes}
-use Rattle.operand.specs.Entry.{Input}
+use Rattle.operand.specs.Entry.{Input, nodeStore}
 
--- the bytes of 511 diagnostic records. Shut, as `nodeBytes` is
+-- the bytes of 511 diagnostic records. Shut, as `nodeStore` is
 unfoldable pub diagnosticBytes : ℕ
 diagnosticBytes = 5110
 
@@ -32,7 +31,7 @@ inputOf B =
       tokens = take (4 * c) (drop (n + 2) B);
       start = getD B (n + 4 * c + 2) 0;
       mark = getD B (n + 4 * c + 3) 0;
-      nodes = replicate nodeBytes 0;
+      nodes = replicate nodeStore 0;
       diagnostics = replicate diagnosticBytes 0;
       used = 0;
     }

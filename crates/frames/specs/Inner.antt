@@ -6,14 +6,13 @@ use mathlib.Core.List.{List, _∷_, _++_}
 use Prim.Native.Nat.{ℕ, _+_, _*_, _/_, _%_, _≤_, _<_}
 use lib.ListN.{length, take}
 use Rattle.records.specs.Stores.{written}
-use Rattle.operand.specs.Forms.{bytesOf}
-use Rattle.operand.specs.declared.entry.Answer.{Answer}
-use Rattle.operand.specs.declared.entry.Found.{Found}
-use Rattle.operand.specs.declared.entry.Missed.{Missed}
+use Rattle.operand.specs.Layout.{bytesOf}
+use Rattle.layout.specs.declared.answer.Answer.{Answer}
+use Rattle.layout.specs.declared.answer.Found.{Found}
+use Rattle.layout.specs.declared.answer.Missed.{Missed}
 use Rattle.frames.specs.Hex.{spells, spelled}
 use Rattle.frames.specs.Frame.{lineLength, tokenCount}
 use Rattle.frames.specs.Reply.{refused}
-use Rattle.layout.specs.Bases.{BaseFits}
 use Rattle.frames.specs.Machine.{State, heldOn, carryOn, step}
 use Rattle.frames.specs.declared.answer.Framed.{Framed}
 use Rattle.frames.specs.declared.hex.Decoded.{Decoded}
@@ -43,7 +42,6 @@ foundBytes x N D =
 
 pub record FoundAsks (O : List ℕ) (at : ℕ) (x : Found) (N D : List ℕ) : Type 0 where
   pub room : at + 17411 ≤ length O
-  pub base : BaseFits (x .operand .base)
   pub cursor-small : x .cursor < 256
   pub nodes-few : 14 * x .nodes ≤ 3570
   pub nodes-long : length N ≡ 3570

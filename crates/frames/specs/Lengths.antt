@@ -13,12 +13,12 @@ use Rattle.records.specs.Nodes.{lowFirst}
 use Rattle.expressions.specs.Costs.{true-false}
 use Rattle.operand.specs.Operands.{Operand, Maybe, some, none}
 use Rattle.operand.specs.Records.{sizeM, nodesM}
-use Rattle.operand.specs.Records as Records
+use Rattle.operand.specs.Forms.{recordOf}
+use Rattle.operand.specs.Layout as Layout
 use Rattle.operand.specs.Entry.{Input, refusal}
-use Rattle.operand.specs.Promise.{nesting, nesting-some}
 use Rattle.operand.specs.Conditions as Conditions
-use Rattle.operand.specs.Lengths.{length-nodes, length-diagnostics}
-use Rattle.layout.specs.Lengths.{length-record}
+use Rattle.operand.specs.Lengths.{length-node-bytes, length-laid, length-bytes}
+use Rattle.layout.specs.Promise.{nesting, nesting-some}
 use Rattle.frames.specs.Hex.{digits, value, isDigit, spells, spelled}
 use Rattle.frames.specs.Frame.{isFrame, inputOf, lineLength}
 use Rattle.frames.specs.Reply.{refused, bytesAt, inputBytes, frameBytes, lineBytes, ended, answerLine}
@@ -38,10 +38,10 @@ digits-append (x ∷ a) b = rw (digits-append a b)
 
 -- ---- an answer
 
-answer-short : (r : Reading (Maybe Operand)) (v : Maybe Operand) → 14 * sizeM v ≤ 3570 → length (r .raised) ≤ 511 → length (Records.answerLine r v) ≤ 8705
-unfolding Records.answerLine sizeM nodesM lowFirst
-answer-short r (some x) n d = simp length-append (omega (arith, length-record x, length-nodes (some x), length-diagnostics (r .raised)))
-answer-short r none n d = omega (arith, length-diagnostics (r .raised))
+answer-short : (r : Reading (Maybe Operand)) (v : Maybe Operand) → 14 * sizeM v ≤ 3570 → length (r .raised) ≤ 511 → length (Layout.answerLine r v) ≤ 8705
+unfolding Layout.answerLine sizeM lowFirst
+answer-short r (some x) n d = simp length-append (omega (arith, length-bytes (recordOf x), length-node-bytes (nodesM (some x)) (sizeM (some x)), length-laid (r .raised)))
+answer-short r none n d = omega (arith, length-laid (r .raised))
 
 input-short : (a : Input) → length (inputBytes a) ≤ 8705
 unfolding inputBytes bytesAt

@@ -4,8 +4,7 @@ use mathlib.Core.Path.{_≡_, refl, sym, _∙_, ap}
 use mathlib.Core.List.{List}
 use Prim.Native.Nat.{ℕ, zero, suc, _+_, _*_}
 use lib.ListN.{length, take, drop, getD, replicate, length-replicate}
-use Rattle.records.specs.Stores.{nodeBytes}
-use Rattle.operand.specs.Entry.{Input, conditions, refusal}
+use Rattle.operand.specs.Entry.{Input, nodeStore, conditions, refusal}
 use Rattle.frames.specs.Frame.{diagnosticBytes, lineLength, tokenCount, inputOf}
 use Rattle.frames.specs.Reply.{bytesAt, inputBytes}
 
@@ -24,8 +23,8 @@ lent B N D =
       used = 0;
     }
 
-node-zeros : length {A = ℕ} (replicate nodeBytes 0) ≡ 3570
-unfolding nodeBytes
+node-zeros : length {A = ℕ} (replicate nodeStore 0) ≡ 3570
+unfolding nodeStore
 node-zeros = length-replicate {A = ℕ} 3570 0
 
 diagnostic-zeros : length {A = ℕ} (replicate diagnosticBytes 0) ≡ 5110

@@ -8,12 +8,12 @@ use lib.Seq.{take-at}
 use Rattle.expressions.specs.Reader.{Reading}
 use Rattle.records.specs.Nodes.{lowFirst}
 use Rattle.operand.specs.Operands.{Operand, Maybe, some, none}
-use Rattle.operand.specs.Records.{sizeM, nodesM, diagnosticRecords}
-use Rattle.operand.specs.Records as Records
+use Rattle.operand.specs.Records.{sizeO, sizeM, nodesM}
+use Rattle.operand.specs.Layout.{nodesLaid, diagnosticsLaid, operandRecord, answerLine}
 use Rattle.operand.specs.Entry.{Input, refusal, readingAt, answerOf, nodesAfter, diagnosticsAfter, outcomeOf, outcome}
 use Rattle.operand.specs.Entry as Entry
-use Rattle.operand.specs.Promise.{nesting}
-use Rattle.operand.specs.Lengths.{length-nodes, length-diagnostics}
+use Rattle.operand.specs.Lengths.{length-node-bytes, length-laid}
+use Rattle.layout.specs.Promise.{nesting}
 use Rattle.frames.specs.Reply.{refused, bytesAt, inputBytes}
 
 unfoldable pub outcomeBytes : Entry.Answer → List ℕ → List ℕ → List ℕ
@@ -21,18 +21,18 @@ outcomeBytes (Entry.operand x cursor n d mask) N D = 0 ∷ cursor ∷ n ∷ (low
 outcomeBytes (Entry.noOperand cursor d) N D = 1 ∷ cursor ∷ 0 ∷ (lowFirst 2 d ++ take (10 * d) D)
 outcomeBytes (Entry.refused k) N D = refused k
 
-first-nodes : (v : Maybe Operand) (N : List ℕ) → take (14 * sizeM v) (nodesAfter v N) ≡ nodesM v
+first-nodes : (v : Maybe Operand) (N : List ℕ) → take (14 * sizeM v) (nodesAfter v N) ≡ nodesLaid v
 unfolding nodesAfter
-first-nodes v N = take-at (nodesM v) _ (14 * sizeM v) (length-nodes v)
+first-nodes v N = take-at (nodesLaid v) _ (14 * sizeM v) (length-node-bytes (nodesM v) (sizeM v))
 
-first-diagnostics : (r : Reading (Maybe Operand)) (D : List ℕ) → take (10 * length (r .raised)) (diagnosticsAfter r 0 D) ≡ diagnosticRecords (r .raised)
+first-diagnostics : (r : Reading (Maybe Operand)) (D : List ℕ) → take (10 * length (r .raised)) (diagnosticsAfter r 0 D) ≡ diagnosticsLaid (r .raised)
 unfolding diagnosticsAfter
-first-diagnostics r D = take-at (diagnosticRecords (r .raised)) _ (10 * length (r .raised)) (length-diagnostics (r .raised))
+first-diagnostics r D = take-at (diagnosticsLaid (r .raised)) _ (10 * length (r .raised)) (length-laid (r .raised))
 
-read-bytes : (r : Reading (Maybe Operand)) (v : Maybe Operand) (N D : List ℕ) → outcomeBytes (answerOf r v) (nodesAfter v N) (diagnosticsAfter r 0 D) ≡ Records.answerLine r v
-unfolding outcomeBytes answerOf Records.answerLine sizeM nodesM
+read-bytes : (r : Reading (Maybe Operand)) (v : Maybe Operand) (N D : List ℕ) → outcomeBytes (answerOf r v) (nodesAfter v N) (diagnosticsAfter r 0 D) ≡ answerLine r v
+unfolding outcomeBytes answerOf answerLine sizeM
 read-bytes r (some x) N D =
-    ap₂ (λ n d. 0 ∷ r .cursor ∷ Records.sizeO x ∷ (lowFirst 2 (length (r .raised)) ++ (Records.operandRecord x ++ (n ++ d)))) (first-nodes (some x) N) (first-diagnostics r D)
+    ap₂ (λ n d. 0 ∷ r .cursor ∷ sizeO x ∷ (lowFirst 2 (length (r .raised)) ++ (operandRecord x ++ (n ++ d)))) (first-nodes (some x) N) (first-diagnostics r D)
 read-bytes r none N D = ap (λ d. 1 ∷ r .cursor ∷ 0 ∷ (lowFirst 2 (length (r .raised)) ++ d)) (first-diagnostics r D)
 
 pub from-outcome : (a : Input) → a .used ≡ 0 → outcomeBytes (outcome nesting a .answer) (outcome nesting a .nodes) (outcome nesting a .diagnostics) ≡ inputBytes a

@@ -4,8 +4,8 @@ use mathlib.Core.List.{List, [], _∷_, _++_}
 use Prim.Native.Nat.{ℕ, zero, suc}
 use Rattle.names.specs.Choice.{pick}
 use Rattle.operand.specs.Entry.{Input, refusal, readingAt}
-use Rattle.operand.specs.Promise.{nesting}
-use Rattle.operand.specs.Records as Records
+use Rattle.operand.specs.Layout as Layout
+use Rattle.layout.specs.Promise.{nesting}
 use Rattle.frames.specs.Hex.{digits, spells, spelled}
 use Rattle.frames.specs.Frame.{isFrame, inputOf}
 
@@ -15,7 +15,7 @@ refused n = 2 ∷ n ∷ []
 
 -- by the number of the refusal, 0 for none: the reading's bytes
 unfoldable pub bytesAt : Input → ℕ → List ℕ
-bytesAt a zero = let r = readingAt nesting a in Records.answerLine r (r .value)
+bytesAt a zero = let r = readingAt nesting a in Layout.answerLine r (r .value)
 bytesAt a (suc k) = refused (suc k)
 
 -- of an input that is a frame's

@@ -1,5 +1,6 @@
--- An operand's record as bytes, in reading order.
-pub mod Only
-pub mod Bases
-pub mod Lengths
-pub mod Answered
+-- Document 01's bytes: the entry's promise and what follows from it; how the lent bytes are read and written. In reading order.
+pub mod Promise
+pub mod Answers
+pub mod Refusals
+pub mod Coding
+pub mod Stored

@@ -8,13 +8,17 @@ use operand::Sized;
 use operand::SizedDisplacement;
 use records::Span;
 ghost use mathlib.Core.Path.{_≡_};
-ghost use mathlib.Core.List.{[], _∷_};
-ghost use Rattle.operand.specs.Forms.{sizedPart, bytesOf};
-ghost use Rattle.operand.specs.Records.{flag, spanned, basePart, indexPart};
-ghost use Rattle.layout.specs.Bases.{BaseFits, unspanned, indexBytes};
+ghost use Rattle.records.specs.Spans.{noSpan};
+ghost use Rattle.operand.specs.declared.forms.BaseRegister.the-variants as bases;
+ghost use Rattle.operand.specs.declared.forms.Index.the-variants as indexes;
+ghost use Rattle.operand.specs.declared.forms.SizedDisplacement.the-variants as sized;
+ghost use Rattle.operand.specs.Records.{flag};
+ghost use Rattle.operand.specs.Layout.{sizedPart, basePart, indexPart, bytesOf};
 
-// No node, no register.
-const ABSENT: u8 = 255;
+// No node.
+const ABSENT: u16 = 65535;
+// No register.
+const NONE: u8 = 255;
 
 fn flag(on: bool) -> u8
     ensures { λ r. ⌜ r ≡ flag on ⌝ }
@@ -25,8 +29,9 @@ fn flag(on: bool) -> u8
     0
 }
 
+// A displacement with the same bytes.
 fn sized_part(d: SizedDisplacement) -> Sized
-    ensures { λ r. ⌜ r .node ∷ r .size ∷ [] ≡ sizedPart d ⌝ }
+    ensures { λ r. ⌜ sizedPart (sized.Is r) ≡ sizedPart d ⌝ }
 {
     match d {
         SizedDisplacement::Is(x) => x,
@@ -39,7 +44,7 @@ fn sized_part(d: SizedDisplacement) -> Sized
 
 // A number that stands for a register, and no span.
 fn spanless(n: u8) -> Register
-    ensures { λ r. ⌜ r ≡ unspanned n ⌝ }
+    ensures { λ r. ⌜ r ≡ record { index = n; span = noSpan } ⌝ }
 {
     Register {
         index: n,
@@ -47,26 +52,27 @@ fn spanless(n: u8) -> Register
     }
 }
 
+// A register with the same bytes.
 fn base_part(base: BaseRegister) -> Register
-    requires { ⌜ BaseFits base ⌝ }
-    ensures { λ r. ⌜ spanned (r .index) (r .span) ≡ basePart base ⌝ }
+    ensures { λ r. ⌜ basePart (bases.Address r) ≡ basePart base ⌝ }
 {
     match base {
         BaseRegister::Address(r) => r,
         BaseRegister::ProgramCounter => spanless(32),
-        BaseRegister::SuppressedAddress(n) => spanless(24 + n),
+        BaseRegister::SuppressedAddress(n) => spanless(24 + n % 8),
         BaseRegister::SuppressedProgramCounter => spanless(33),
-        BaseRegister::Omitted => spanless(ABSENT),
+        BaseRegister::Omitted => spanless(NONE),
     }
 }
 
+// An index register with the same bytes.
 fn index_part(index: Index) -> IndexRegister
-    ensures { λ r. ⌜ indexBytes r ≡ indexPart index ⌝ }
+    ensures { λ r. ⌜ indexPart (indexes.Indexed r) ≡ indexPart index ⌝ }
 {
     match index {
         Index::Indexed(x) => x,
         Index::Unindexed => IndexRegister {
-            register: spanless(ABSENT),
+            register: spanless(NONE),
             size: 0,
             scale: 0,
             suppressed: false,
@@ -76,7 +82,6 @@ fn index_part(index: Index) -> IndexRegister
 }
 
 pub fn operand_bytes(x: OperandRecord) -> [u8; 20]
-    requires { ⌜ BaseFits (x .base) ⌝ }
     ensures { λ r. ⌜ r ≡ bytesOf x ⌝ }
 {
     let x_displacement = x.displacement;
@@ -90,23 +95,23 @@ pub fn operand_bytes(x: OperandRecord) -> [u8; 20]
     let suppressed = flag(index.suppressed);
     [
         x.form,
-        x.span.start,
-        x.span.end,
-        displacement.node,
+        (x.span.start % 256) as u8,
+        (x.span.end % 256) as u8,
+        (displacement.node % 256) as u8,
         displacement.size,
         base.index,
-        base.span.start,
-        base.span.end,
+        (base.span.start % 256) as u8,
+        (base.span.end % 256) as u8,
         index.register.index,
-        index.register.span.start,
-        index.register.span.end,
+        (index.register.span.start % 256) as u8,
+        (index.register.span.end % 256) as u8,
         index.size,
         index.scale,
         suppressed,
-        index.span.start,
-        index.span.end,
+        (index.span.start % 256) as u8,
+        (index.span.end % 256) as u8,
         x.indirection,
-        outer.node,
+        (outer.node % 256) as u8,
         outer.size,
         x.special,
     ]

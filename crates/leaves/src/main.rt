@@ -73,7 +73,7 @@ fn show_size(suffix: &[u8]) {
     }
 }
 
-fn show_number(detail: u8, text: &[u8]) {
+fn show_number(detail: u16, text: &[u8]) {
     let number = names::parse_number(detail, text);
     match number {
         Number::Value(v) => put_number(v),

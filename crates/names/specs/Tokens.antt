@@ -1,4 +1,4 @@
--- The token list: four bytes a token, its kind, detail, start and end.
+-- The token list: four numbers a token, its kind, detail, start and end.
 -- Assumes nothing.
 use mathlib.Core.Bool.{Bool}
 use mathlib.Core.List.{List}

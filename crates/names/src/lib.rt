@@ -22,5 +22,6 @@ pub use sizes::suffix_run;
 pub use tokens::Peeked;
 pub use tokens::Token;
 pub use tokens::detail_defined;
+pub use tokens::lent_token_at;
 pub use tokens::text_of;
 pub use tokens::token_at;

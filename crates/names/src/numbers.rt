@@ -93,7 +93,7 @@ fn parse_digits(base: NumberBase, digits: &[u8]) -> Number
 }
 
 // What a number token of this detail and text is worth.
-pub fn parse_number(detail: u8, text: &[u8]) -> Number
+pub fn parse_number(detail: u16, text: &[u8]) -> Number
     ensures { λ r. ⌜ r ≡ numberOf detail (now (text .entry)) ⌝ }
 {
     match detail {

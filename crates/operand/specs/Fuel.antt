@@ -6,6 +6,7 @@ use Prim.Native.Nat.{ℕ, zero, suc, _+_, _≤_, _<_}
 use native.Mathlib.Omega.{arith}
 use Rattle.names.specs.Places.{Place, stands}
 use Rattle.names.specs.declared.tokens.Token.{Token}
+use Rattle.expressions.specs.declared.reading.Setting.{Setting}
 use Rattle.expressions.specs.Reader.{Reader, Reading, after, answer, bind, _>>=_, run}
 use Rattle.expressions.specs.Expressions.{fuel}
 use Rattle.expressions.specs.Fuel.{Alike, same-alike, flip, bind-alike, bump-alike, bump-past}
@@ -21,16 +22,16 @@ answer-bind : {A B : Type 0} {at : ℕ → Place} {i l : ℕ} {p : Reader B} {f 
 unfolding run
 answer-bind {at = at} {i = i} {l = l} {f = f} b h = record { same = ap (λ r. after (r .raised) (run (f (r .value)) at (r .cursor) (r .end))) (h .same) }
 
-module _ (at : ℕ → Place) (count : ℕ) (ends : (j : ℕ) (k : Token) (x : List ℕ) → at j ≡ stands k x → j < count) (o : ℕ) where
+module _ (at : ℕ → Place) (count : ℕ) (ends : (j : ℕ) (k : Token) (x : List ℕ) → at j ≡ stands k x → j < count) (s : Setting) where
   -- past the tokens the list ends
   list-past : (g : ℕ) (items : List RegisterListItem) (r : Register) (i l : ℕ) → count ≤ i
-      → Alike at i l (listItem r >>= nextItem (listLoop g o) o items) (listed o (items ++ (single r ∷ [])))
+      → Alike at i l (listItem r >>= nextItem (listLoop g s) s items) (listed s (items ++ (single r ∷ [])))
   unfolding listItem nextItem
   list-past g items r i l h =
       then (answer-bind (some (single r)) (bump-past (λ k x e. omega (arith, ends i k x e)))) (bump-past (λ k x e. omega (arith, ends i k x e)))
 
   list-fuel : (f g : ℕ) (items : List RegisterListItem) (r : Register) (i l : ℕ) → count ≤ f + i → count ≤ g + i
-      → Alike at i l (listLoop f o items r) (listLoop g o items r)
+      → Alike at i l (listLoop f s items r) (listLoop g s items r)
   unfolding listLoop nextItem
   list-fuel zero zero items r i l a b = same-alike
   list-fuel zero (suc g) items r i l a b = flip (list-past g items r i l (omega arith))
@@ -44,7 +45,7 @@ module _ (at : ℕ → Place) (count : ℕ) (ends : (j : ℕ) (k : Token) (x : L
 
 -- the list loop satisfies its own equation, for every list that has no more tokens than the fuel
 pub list-equation : (at : ℕ → Place) (count : ℕ) → ((j : ℕ) (k : Token) (x : List ℕ) → at j ≡ stands k x → j < count) → count ≤ fuel
-    → (o : ℕ) (items : List RegisterListItem) (r : Register) (i l : ℕ)
-    → run (listLoop fuel o items r) at i l ≡ run (listItem r >>= nextItem (listLoop fuel o) o items) at i l
+    → (s : Setting) (items : List RegisterListItem) (r : Register) (i l : ℕ)
+    → run (listLoop fuel s items r) at i l ≡ run (listItem r >>= nextItem (listLoop fuel s) s items) at i l
 unfolding listLoop
-list-equation at count ends few o items r i l = list-fuel at count ends o fuel (suc fuel) items r i l (omega arith) (omega arith) .same
+list-equation at count ends few s items r i l = list-fuel at count ends s fuel (suc fuel) items r i l (omega arith) (omega arith) .same

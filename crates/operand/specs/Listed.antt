@@ -3,12 +3,12 @@
 use mathlib.Core.Path.{_≡_, refl, sym, _∙_, ap}
 use mathlib.Core.Bool.{Bool, true, false}
 use mathlib.Core.List.{List, [], _∷_}
-use Prim.Native.Nat.{ℕ, zero, suc, _+_, _-_, _*_, _/_, _≤_, _<_}
+use Prim.Native.Nat.{ℕ, _+_, _*_, _≤_, _<_}
 use native.Mathlib.Omega.{arith}
 use native.Mathlib.Numerals.{add-one}
-use borrow.Author.Tests.{leb-false, leb-true}
+use borrow.Author.Tests.{leb-false}
 use lib.Dec.{leb}
-use lib.ListN.{length, getD, drop, length-drop, drop-of-length-le}
+use lib.ListN.{length, getD, drop, length-drop}
 use lib.Seq.{drop-cons}
 use Rattle.names.specs.Choice.{pick, both}
 use Rattle.names.specs.Tokens.{count, tokenFrom, tokenAt}
@@ -29,15 +29,7 @@ module _ (T : List ℕ) (i : ℕ) where
       go true q g = let z : _≡_ {A = ℕ} 0 1 = cc in absurd (omega arith)
       go false q g = (leb-false (count T) i q, cc)
 
-  token-past : tokenAt T i ≡ End → count T ≤ i
-  unfolding tokenAt
-  token-past h = go (leb (count T) i) refl h
-    where
-      go : (b : Bool) → leb (count T) i ≡ b → pick b End (Is (tokenFrom T i)) ≡ End → count T ≤ i
-      go true q g = leb-true (count T) i q
-      go false q g = let z : _≡_ {A = ℕ} 0 1 = cc in absurd (omega arith)
-
-  four : i < count T → drop (4 * i) T ≡ getD T (4 * i) 0 ∷ getD T (4 * i + 1) 0 ∷ getD T (4 * i + 2) 0 ∷ getD T (4 * i + 3) 0 ∷ drop (4 * (i + 1)) T
+  pub four : i < count T → drop (4 * i) T ≡ getD T (4 * i) 0 ∷ getD T (4 * i + 1) 0 ∷ getD T (4 * i + 2) 0 ∷ getD T (4 * i + 3) 0 ∷ drop (4 * (i + 1)) T
   four h =
       from T (4 * i) (4 * i + 1) refl (omega arith)
       ∙ ap (λ l. getD T (4 * i) 0 ∷ l) (from T (4 * i + 1) (4 * i + 2) (omega arith) (omega arith))
@@ -55,10 +47,10 @@ module _ (L : List ℕ) (p : ℕ) where
   few (k ∷ d ∷ s ∷ e ∷ ts) h = absurd (omega arith)
 
   module _ (T : List ℕ) (i : ℕ) where
-    pub tokens-end : tokenAt T i ≡ End → goodTokens L p (drop (4 * i) T) ≡ true
-    tokens-end h = few (drop (4 * i) T) (simp length-drop (omega (arith, token-past T i h)))
+    pub tokens-end : count T ≤ i → goodTokens L p (drop (4 * i) T) ≡ true
+    tokens-end h = few (drop (4 * i) T) (simp length-drop (omega arith))
 
-    tokens-from : i < count T → goodTokens L p (drop (4 * i) T) ≡ both (goodToken L p (getD T (4 * i) 0) (getD T (4 * i + 1) 0) (getD T (4 * i + 2) 0) (getD T (4 * i + 3) 0)) (goodTokens L (getD T (4 * i + 3) 0) (drop (4 * (i + 1)) T))
+    pub tokens-from : i < count T → goodTokens L p (drop (4 * i) T) ≡ both (goodToken L p (getD T (4 * i) 0) (getD T (4 * i + 1) 0) (getD T (4 * i + 2) 0) (getD T (4 * i + 3) 0)) (goodTokens L (getD T (4 * i + 3) 0) (drop (4 * (i + 1)) T))
     unfolding goodTokens
     tokens-from h = rw (four T i h)
 

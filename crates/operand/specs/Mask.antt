@@ -1,4 +1,4 @@
--- The sixteen-bit mask of a register list: bit 0 for D0 up to bit 15 for A7. A falling range adds none; without a list it is 0.
+-- The sixteen-bit mask of a register list: bit 0 for D0 up to bit 15 for A7. A falling range adds none.
 -- Assumes nothing.
 use mathlib.Core.Path.{_≡_, refl, sym, _∙_, ap, ap₂}
 use mathlib.Core.Bool.{Bool, true, false}
@@ -11,8 +11,7 @@ use lib.Bits.{bitOr, or-shr, or-step}
 use lib.Dec.{eqb, leb, ltb, eqb·suc-zero, eqb·zero-suc, eqb·suc-suc}
 use lib.Pow.{pow-pos}
 use Rattle.names.specs.Choice.{both, either}
-use Rattle.operand.specs.Operands.{RegisterListItem, single, range, Operand, Maybe, some, none}
-use Rattle.operand.specs.Operands as O
+use Rattle.operand.specs.Operands.{RegisterListItem, single, range}
 use Rattle.operand.specs.Records.{flag}
 
 -- n bits from the bit r on
@@ -27,26 +26,6 @@ itemBits (range r q s) = bitsFrom (r .index) (q .index + 1 - r .index)
 unfoldable pub mask : List RegisterListItem → ℕ
 mask [] = 0
 mask (x ∷ xs) = bitOr (itemBits x) (mask xs)
-
-unfoldable pub maskO : Operand → ℕ
-maskO (O.immediate e l s) = 0
-maskO (O.dataRegisterDirect r s) = 0
-maskO (O.addressRegisterDirect r s) = 0
-maskO (O.specialRegister n s) = 0
-maskO (O.indirect r s) = 0
-maskO (O.postincrement r s) = 0
-maskO (O.predecrement r s) = 0
-maskO (O.displacement e r s) = 0
-maskO (O.index d r x s) = 0
-maskO (O.pcDisplacement e s) = 0
-maskO (O.pcIndex d x s) = 0
-maskO (O.fullIndex d b x n e s) = 0
-maskO (O.absolute e n s) = 0
-maskO (O.registerList items s) = mask items
-
-unfoldable pub maskM : Maybe Operand → ℕ
-maskM (some x) = maskO x
-maskM none = 0
 
 -- ---- the mask's rule
 

@@ -39,7 +39,7 @@ pub struct Registers {
 
 // An expression and its size, 0 for none.
 pub struct Sized {
-    pub node: u8,
+    pub node: u16,
     pub size: u8,
 }
 
@@ -105,7 +105,7 @@ pub struct DisplacementStep {
 
 // The end of a parenthesis.
 pub enum Close {
-    Is(u8),
+    Is(u16),
     Not,
 }
 

@@ -1,11 +1,6 @@
-// Operands: the definition of a reading in specs/, the types of its answer, and the refusals.
-mod entry;
+// Operands: the definition of a reading in specs/, and the types that the code and it share.
 mod forms;
-mod refusals;
 
-pub use entry::Answer;
-pub use entry::Found;
-pub use entry::Missed;
 pub use forms::BaseRegister;
 pub use forms::Close;
 pub use forms::CloseStep;
@@ -27,4 +22,3 @@ pub use forms::SizedDisplacement;
 pub use forms::SuffixRead;
 pub use forms::SuffixStep;
 pub use forms::Suffixed;
-pub use refusals::refusal;

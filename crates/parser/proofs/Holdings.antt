@@ -12,23 +12,25 @@ use Rattle.records.specs.declared.counters.Counters.{Counters}
 use Rattle.terms.specs.declared.terms.Parsed.the-variants as parsed
 use Rattle.terms.specs.declared.terms.Step.{Step}
 use Rattle.expressions.specs.Expressions.{Term, read, reported, absent, parseExpression, expressionFrom}
-use Rattle.expressions.specs.Costs.{size-pos}
 use Rattle.terms.specs.Answers.{what-reported, what-absent}
-use Rattle.terms.specs.Promises.{ExpressionPromise, Stands, LeftStands, FromPromise}
+use Rattle.terms.specs.Promises.{ExpressionFits, FromFits}
+use Rattle.terms.specs.Left.{Stands}
 use Rattle.expressions.specs.Reader.{Reader, answer, _>>=_, run}
 use Rattle.terms.specs.Terms.{sizeT}
 use Rattle.expressions.specs.Trees.{Expr, withSpan, size}
+use Rattle.expressions.specs.declared.reading.Setting.{Setting}
 use Rattle.operand.specs.Operands.{Displacement, displaced, undisplaced, Operand, Maybe, some, none}
 use Rattle.operand.specs.Operand.{finishExpressionOperand}
 use Rattle.operand.specs.Records.{sizeD, nodesD}
 use Rattle.operand.specs.Forms.{sizedOf, operandRead}
-use Rattle.parser.specs.Steps.{NodeRoom, Told, HeldBy, Kept, Unsized, Stored}
-use Rattle.parser.specs.Behind.{TreeRoom, TreeTold}
+use Rattle.records.specs.Rooms.{NodeRoom}
+use Rattle.parser.specs.Steps.{Told, HeldBy, Kept, Unsized, Stored}
+use Rattle.parser.specs.Behind.{TreeTold}
 use Rattle.operand.specs.declared.forms.SizedDisplacement.{SizedDisplacement}
 use Rattle.operand.specs.declared.forms.OperandRead.{OperandRead}
 use Rattle.operand.specs.declared.forms.OperandStep.{OperandStep}
 use Rattle.parser.proofs.Paths.{answered, bound, reheld}
-use Rattle.parser.proofs.Trees.{TreeRead, term-told, from-room, from-told}
+use Rattle.parser.proofs.Trees.{TreeRead, term-told, from-told}
 
 -- ---- an operand's nodes
 
@@ -49,13 +51,13 @@ unfolding operandRead HeldBy
 nothing-stored N h = answered (h .0) (h .1) tt
 
 -- the displacement's records are all that stand in N
-stored-as : (y : Displacement) (n : ℕ) (N : List ℕ) → take (14 * n) N ≡ nodesD 0 y → n ≡ sizeD y → (x : Maybe Operand) (m : ℕ) → (m ≡ n) × HeldBy (nodesD 0 y) (sizeD y) x → HeldBy (take (14 * m) N) m x
+stored-as : (y : Displacement) (n : ℕ) (N : List ℕ) → take (10 * n) N ≡ nodesD 0 y → n ≡ sizeD y → (x : Maybe Operand) (m : ℕ) → (m ≡ n) × HeldBy (nodesD 0 y) (sizeD y) x → HeldBy (take (10 * m) N) m x
 unfolding HeldBy
-stored-as y n N b s (some x) m h = (h .1 .0 ∙ sym b ∙ ap (λ z. take (14 * z) N) (sym (h .0)), h .1 .1 ∙ sym s ∙ sym (h .0))
+stored-as y n N b s (some x) m h = (h .1 .0 ∙ sym b ∙ ap (λ z. take (10 * z) N) (sym (h .0)), h .1 .1 ∙ sym s ∙ sym (h .0))
 stored-as y n N b s none m h = tt
 
 stored-told : (y : Displacement) (n : ℕ) (N : List ℕ) {p : Reader (Maybe Operand)} {L T D D′ : List ℕ} {c : Counters} {v : OperandRead} {r : Counters}
-    → take (14 * n) N ≡ nodesD 0 y → n ≡ sizeD y → Told operandRead (Kept n y) p L T D D′ c v r → Told operandRead (Stored N) p L T D D′ c v r
+    → take (10 * n) N ≡ nodesD 0 y → n ≡ sizeD y → Told operandRead (Kept n y) p L T D D′ c v r → Told operandRead (Stored N) p L T D D′ c v r
 stored-told y n N {r = r} b s h = reheld (λ x q. stored-as y n N b s x (r .nodes) q) h
 
 -- a tree's are
@@ -68,7 +70,7 @@ tree-stored N {n} {e} h t = stored-told (displaced e 0) n N (h .bytes) (omega (a
 pub unstored-told : (N : List ℕ) {n : ℕ} {p : Reader (Maybe Operand)} {L T D D′ : List ℕ} {c : Counters} {v : OperandRead} {r : Counters}
     → n ≡ 0 → Told operandRead (Kept n undisplaced) p L T D D′ c v r → Told operandRead (Stored N) p L T D D′ c v r
 unfolding nodesD sizeD
-unstored-told N {n} e h = stored-told undisplaced n N (ap (λ z. take (14 * z) N) e) e h
+unstored-told N {n} e h = stored-told undisplaced n N (ap (λ z. take (10 * z) N) e) e h
 
 -- the size of a displacement is in no node
 pub kept-sized : (e : Expr) (k : ℕ) {p : Reader (Maybe Operand)} {L T D D′ : List ℕ} {n m : ℕ} {c : Counters} {v : OperandRead} {r : Counters} → m ≡ n
@@ -78,18 +80,9 @@ kept-sized e k w h = reheld (λ a q. (q .0 ∙ w, q .1)) h
 
 -- ---- a tree that stands in the records
 
-pub left-stands : {N : List ℕ} {n : ℕ} {e : Expr} → Stands N n [] 0 e → LeftStands N n
-left-stands {e = e} h = record { before = []; first = 0; tree = e; stands = h }
-
-pub left-some : {N : List ℕ} {n : ℕ} → LeftStands N n → 0 < n
-left-some h = omega (arith, h .stands .total, size-pos (h .tree))
-
 -- by another number of records
 pub stands-from : {N : List ℕ} {n m : ℕ} {e : Expr} → n ≡ m → Stands N n [] 0 e → Stands N m [] 0 e
 stands-from {N} {e = e} q h = subst (λ z. Stands N z [] 0 e) q h
-
-pub left-from : {N : List ℕ} {n m : ℕ} → n ≡ m → LeftStands N n → LeftStands N m
-left-from {N} q h = subst (λ z. LeftStands N z) q h
 
 pub stands-size : {N : List ℕ} {n : ℕ} {e : Expr} → Stands N n [] 0 e → n ≡ size e
 stands-size h = omega (arith, h .total)
@@ -109,10 +102,7 @@ module _ {L T N D N′ D′ : List ℕ} {c : Counters} {limit : ℕ} {s : Span} 
   pub tree-stands : c .nodes ≡ 0 → Stands N′ (r .nodes) [] 0 (t .tree)
   tree-stands z = record { bytes = rw z at (t .bytes); total = omega (arith, t .total, z) }
 
-  pub tree-room : TreeRoom T D′ r
-  tree-room = record { room = t .room .room; some = t .some; few = t .few }
-
-module _ (L : List ℕ) {T N D N₁ D₁ : List ℕ} {c : Counters} (limit : ℕ) {m : Step} (h : NodeRoom T N D c) (p : ExpressionPromise L T N D N₁ D₁ c limit m) where
+module _ (L : List ℕ) {T N D N₁ D₁ : List ℕ} {c : Counters} (limit : ℕ) {m : Step} (h : NodeRoom T N c 0 0 1) (p : ExpressionFits L T N D N₁ D₁ c limit m) where
   -- no expression has no node
   pub absent-nodes : m .parsed ≡ parsed.Absent → c .nodes ≡ 0 → m .counters .nodes ≡ 0
   unfolding sizeT
@@ -133,13 +123,10 @@ module _ (L : List ℕ) {T N D N₁ D₁ : List ℕ} {c : Counters} (limit : ℕ
 
 -- ---- a group that goes on
 
-module _ (L : List ℕ) {T N D N′ D′ : List ℕ} {c : Counters} (group : Span) (limit : ℕ) {m : Chain} (h : NodeRoom T N D c) (p : FromPromise L T N D N′ D′ c group limit m) where
-  pub group-room : length N′ ≡ length N → length D′ ≡ length D → TreeRoom T D′ (m .counters)
-  group-room n d = let k = from-room L group limit h p n d in record { room = k .room; some = p .some; few = omega (arith, k .nodesFit, k .room .within) }
-
-  pub group-told : (e : Expr) → Stands N (c .nodes) [] 0 e → (o : ℕ) {D₂ : List ℕ} {r : OperandStep} → TreeTold (λ x. finishExpressionOperand o x) L T D′ D₂ (m .counters) (m .span) r
-      → Told operandRead (Stored N′) (expressionFrom limit (withSpan e group) >>= finishExpressionOperand o) L T D D₂ c (r .operand) (r .counters)
-  group-told e s o g =
-      let f = from-told L group limit h p s in
+module _ (L : List ℕ) {T N D N′ D′ : List ℕ} {c : Counters} (group : Span) (limit : ℕ) {m : Chain} (h : NodeRoom T N c 1 0 1) (p : FromFits L T N D N′ D′ c group limit m) where
+  pub group-told : (e : Expr) → Stands N (c .nodes) [] 0 e → (s : Setting) {D₂ : List ℕ} {r : OperandStep} → TreeTold (λ x. finishExpressionOperand s x) L T D′ D₂ (m .counters) (m .span) r
+      → Told operandRead (Stored N′) (expressionFrom limit (withSpan e group) >>= finishExpressionOperand s) L T D D₂ c (r .operand) (r .counters)
+  group-told e st s g =
+      let f = from-told L group limit h p st in
       let k : Stands N′ (m .counters .nodes) [] 0 (run (expressionFrom limit (withSpan e group)) (place L T) (c .at) (c .end) .value) = record { bytes = f .held .0; total = f .held .1 } in
       bound f refl (tree-stored N′ k (g .told _ (stands-size k) (f .what)))

@@ -7,7 +7,7 @@ use Prim.Native.Nat.{ℕ, _+_, _-_, _*_}
 use native.Mathlib.Omega.{arith}
 use lib.ListN.{length, take}
 use Rattle.names.specs.Tokens.{tokenAt}
-use Rattle.names.specs.Places.{textOf, place}
+use Rattle.names.specs.Places.{textOf, place, live}
 use Rattle.names.specs.declared.tokens.Token.{Token}
 use Rattle.names.specs.declared.tokens.Peeked.the-variants as peeked
 use Rattle.records.specs.declared.counters.Counters.{Counters}
@@ -22,13 +22,14 @@ use Rattle.records.specs.Counting.{stepped}
 use Rattle.records.specs.Spans.{span}
 use Rattle.expressions.specs.Trees.{Expr, spanE, size}
 use Rattle.operand.specs.Operands.{Displacement, displaced, undisplaced, Maybe, some, none}
-use Rattle.operand.specs.Operand.{anIndex, steppedOver, parseIndexRegister, outerIndexed, outerIndex, sized, parseSizedDisplacement, Inner, Outer, inner, outer, parseInner, parseOuter, memoryIndirect}
+use Rattle.operand.specs.Operand.{anIndex, steppedOver, parseIndexRegister, outerIndexed, outerIndex, sized, parseSizedDisplacement, Inner, Outer, inner, outer, parseInner, parseOuter, memoryIndirect, closeIndirect}
 use Rattle.operand.specs.Records.{sizeD, nodesD, sizeO, nodesO}
 use Rattle.operand.specs.Forms.{sizedOf, displacementRead, recordOf, operandRead}
-use Rattle.parser.specs.Steps.{Room, NodeRoom, Told, Same, HeldBy, Stored}
+use Rattle.records.specs.Rooms.{Room, NodeRoom}
+use Rattle.parser.specs.Steps.{Told, Same, HeldBy, Stored}
 use Rattle.operand.specs.Costs.{Left}
 use Rattle.operand.specs.Costs as cost
-use Rattle.parser.specs.Brackets.{StoredD, StoredPart, SizedTold, DisplacementTold, innerOf, innerRead, innerD, InnerTold, outerOf, outerRead, outerD, OuterTold, StoredBoth, closeIndirect, ClosedTold}
+use Rattle.parser.specs.Brackets.{StoredD, StoredPart, SizedTold, DisplacementTold, innerOf, innerRead, innerD, InnerTold, outerOf, outerRead, outerD, OuterTold, StoredBoth, ClosedTold}
 use Rattle.operand.specs.declared.forms.Registers.{Registers}
 use Rattle.operand.specs.declared.forms.Index.{Index}
 use Rattle.operand.specs.declared.forms.IndexRegister.{IndexRegister}
@@ -61,7 +62,7 @@ stored-none N c = record { bytes = sym (append-nil _); total = omega arith }
 
 -- no node more
 pub stored-on : {N N′ : List ℕ} {n : ℕ} {y : Displacement} {c c₁ : Counters} → StoredD N N′ n y c → c₁ .nodes ≡ c .nodes → StoredD N N′ n y c₁
-stored-on {N′ = N′} st h = record { bytes = ap (λ m. take (14 * m) N′) h ∙ st .bytes; total = h ∙ st .total }
+stored-on {N′ = N′} st h = record { bytes = ap (λ m. take (10 * m) N′) h ∙ st .bytes; total = h ∙ st .total }
 
 -- from the first on, whatever the store held before
 pub stored-first : {N N′ : List ℕ} {n : ℕ} {y : Displacement} {c : Counters} → n ≡ 0 → StoredD N N′ n y c → StoredD [] N′ 0 y c
@@ -72,39 +73,39 @@ stored-first {N} {N′} {y = y} {c = c} e st =
 -- ---- room
 
 -- behind a token
-pub node-step : {T N D : List ℕ} {c c₁ : Counters} {k : Token} → NodeRoom T N D c → tokenAt T (c .at) ≡ peeked.Is k → c₁ ≡ stepped c k → NodeRoom T N D c₁
-node-step h t e = record { room = room-step (h .room) t e; nodesFit = omega (arith, h .nodesFit, ap (λ z. z .nodes) e, ap (λ z. z .at) e); nodesLong = h .nodesLong }
+pub node-step : {T N : List ℕ} {c c₁ : Counters} {k : Token} {n : ℕ} → NodeRoom T N c n 0 1 → tokenAt T (c .at) ≡ peeked.Is k → c₁ ≡ stepped c k → NodeRoom T N c₁ n 0 1
+node-step {T} {c = c} {k = k} h t e = let l = live T (c .at) k t in rw e (omega (arith, h, l))
 
 -- behind a reader that has answered a displacement, or what holds one
 part-room : {A B : Type 0} {f : Maybe A → B} {p : Reader (Maybe A)} {L T N D N₁ D₁ : List ℕ} {c : Counters} {v : B} {c₁ : Counters} (g : A → Displacement) (least far : ℕ) {x : A}
     → Law p (place L T) (Left (place L T) 0 (all-clean (place L T)) (λ z. sizeD (g z)) least 0 far (c .at) 0 0) (c .at) (c .end) 0 0
-    → run p (place L T) (c .at) (c .end) .value ≡ some x → NodeRoom T N D c → Told f (StoredPart g N N₁ (c .nodes)) p L T D D₁ c v c₁ → length N₁ ≡ length N → length D₁ ≡ length D → NodeRoom T N₁ D₁ c₁
-part-room g least far law w h t n d =
+    → run p (place L T) (c .at) (c .end) .value ≡ some x → NodeRoom T N c 0 0 1 → Told f (StoredPart g N N₁ (c .nodes)) p L T D D₁ c v c₁ → length N₁ ≡ length N → NodeRoom T N₁ c₁ 0 0 1
+part-room g least far law w h t n =
     let q = rw w at (law-run law) in
     record {
-      room = left-room (λ z. sizeD (g z)) least 0 far law w (h .room) t d;
+      room = left-room (λ z. sizeD (g z)) least 0 far law w (h .room) t;
       nodesFit = omega (arith, q .1, held-some t w .total, t .at, h .nodesFit);
-      nodesLong = omega (arith, h .nodesLong);
+      nodesLong = omega (arith, q .1, held-some t w .total, t .at, h .nodesLong);
     }
 
-pub displacement-room : (s : Setting) (o : ℕ) {L T N D N₁ D₁ : List ℕ} {c : Counters} {r : DisplacementStep} {y : Displacement} → NodeRoom T N D c → DisplacementTold (parseSizedDisplacement s o) L T N D N₁ D₁ c r
-    → run (parseSizedDisplacement s o) (place L T) (c .at) (c .end) .value ≡ some y → length N₁ ≡ length N → length D₁ ≡ length D → NodeRoom T N₁ D₁ (r .counters)
-displacement-room s o {L} {T} {c = c} h t w n d = part-room (λ y. y) 0 0 (cost.displacement-cost (place L T) 0 (all-clean (place L T)) s o (c .at) (c .end) 0 0) w h (t .told) n d
+pub displacement-room : (s : Setting) {L T N D N₁ D₁ : List ℕ} {c : Counters} {r : DisplacementStep} {y : Displacement} → NodeRoom T N c 0 0 1 → DisplacementTold (parseSizedDisplacement s) L T N D N₁ D₁ c r
+    → run (parseSizedDisplacement s) (place L T) (c .at) (c .end) .value ≡ some y → length N₁ ≡ length N → NodeRoom T N₁ (r .counters) 0 0 1
+displacement-room s {L} {T} {c = c} h t w n = part-room (λ y. y) 0 0 (cost.displacement-cost (place L T) 0 (all-clean (place L T)) s (c .at) (c .end) 0 0) w h (t .told) n
 
-pub inner-room : (s : Setting) (o : ℕ) {L T N D N₁ D₁ : List ℕ} {c : Counters} {r : InnerStep} {x : Inner} → NodeRoom T N D c → InnerTold (parseInner s o) L T N D N₁ D₁ c r
-    → run (parseInner s o) (place L T) (c .at) (c .end) .value ≡ some x → length N₁ ≡ length N → length D₁ ≡ length D → NodeRoom T N₁ D₁ (r .counters)
-inner-room s o {L} {T} {c = c} h t w n d = part-room innerD 0 1 (cost.inner-cost (place L T) 0 (all-clean (place L T)) s o (c .at) (c .end) 0 0) w h (t .told) n d
+pub inner-room : (s : Setting) {L T N D N₁ D₁ : List ℕ} {c : Counters} {r : InnerStep} {x : Inner} → NodeRoom T N c 0 0 1 → InnerTold (parseInner s) L T N D N₁ D₁ c r
+    → run (parseInner s) (place L T) (c .at) (c .end) .value ≡ some x → length N₁ ≡ length N → NodeRoom T N₁ (r .counters) 0 0 1
+inner-room s {L} {T} {c = c} h t w n = part-room innerD 0 1 (cost.inner-cost (place L T) 0 (all-clean (place L T)) s (c .at) (c .end) 0 0) w h (t .told) n
 
-pub outer-room : (s : Setting) (o : ℕ) (i : Index) {L T N D N₁ D₁ : List ℕ} {c : Counters} {r : OuterStep} {x : Outer} → NodeRoom T N D c → OuterTold (parseOuter s o i) L T N D N₁ D₁ c r
-    → run (parseOuter s o i) (place L T) (c .at) (c .end) .value ≡ some x → length N₁ ≡ length N → length D₁ ≡ length D → NodeRoom T N₁ D₁ (r .counters)
-outer-room s o i {L} {T} {c = c} h t w n d = part-room outerD 0 0 (cost.outer-cost (place L T) 0 (all-clean (place L T)) s o i (c .at) (c .end) 0 0) w h (t .told) n d
+pub outer-room : (s : Setting) (i : Index) {L T N D N₁ D₁ : List ℕ} {c : Counters} {r : OuterStep} {x : Outer} → NodeRoom T N c 0 0 1 → OuterTold (parseOuter s i) L T N D N₁ D₁ c r
+    → run (parseOuter s i) (place L T) (c .at) (c .end) .value ≡ some x → length N₁ ≡ length N → NodeRoom T N₁ (r .counters) 0 0 1
+outer-room s i {L} {T} {c = c} h t w n = part-room outerD 0 0 (cost.outer-cost (place L T) 0 (all-clean (place L T)) s i (c .at) (c .end) 0 0) w h (t .told) n
 
 -- behind a reader that has written no node
-pub same-room : {A B : Type 0} {f : A → B} {p : Reader A} {L T N D D₁ : List ℕ} {c : Counters} {v : B} {c₁ : Counters} → NodeRoom T N D c → Told f (Same (c .nodes)) p L T D D₁ c v c₁ → Room T D₁ c₁ → NodeRoom T N D₁ c₁
+pub same-room : {A B : Type 0} {f : A → B} {p : Reader A} {L T N D D₁ : List ℕ} {c : Counters} {v : B} {c₁ : Counters} → NodeRoom T N c 0 0 1 → Told f (Same (c .nodes)) p L T D D₁ c v c₁ → Room T c₁ 0 1 → NodeRoom T N c₁ 0 0 1
 same-room {p = p} {L = L} {T = T} {c = c} h t q = record {
   room = q;
   nodesFit = omega (arith, h .nodesFit, t .held, t .at, laws.forward p (place L T) (c .at) (c .end));
-  nodesLong = h .nodesLong;
+  nodesLong = omega (arith, h .nodesLong, t .held, t .at, laws.forward p (place L T) (c .at) (c .end));
 }
 
 -- ---- a displacement
@@ -116,7 +117,7 @@ pub sized-told : (e : Expr) (k : ℕ) {L T D N N′ : List ℕ} {n : ℕ} {c c�
 unfolding displacementRead sizedOf sizeD nodesD
 sized-told e k {N′ = N′} st h w u =
     answered (w ∙ ap (λ m. DisplacementRead.Is (SizedDisplacement.Is (record { node = m - 1; size = k }))) (h ∙ st .total)) u
-    (record { bytes = ap (λ m. take (14 * m) N′) h ∙ st .bytes; total = h ∙ st .total })
+    (record { bytes = ap (λ m. take (10 * m) N′) h ∙ st .bytes; total = h ∙ st .total })
 
 -- behind a tree that was read
 pub displacement-read : {L T N D N₁ D₁ D₂ : List ℕ} {c : Counters} {limit : ℕ} {s : Span} {c₁ : Counters} {r : DisplacementStep} (k : TreeRead L T N D N₁ D₁ c limit s c₁) → SizedTold (s .start) L T D₁ D₂ c₁ r
@@ -180,21 +181,21 @@ pub outer-hit : {L T N D N′ D′ : List ℕ} {c c₁ : Counters} {r : OuterSte
     → OuterTold (y k (textOf L (k .start) (k .end))) L T N D N′ D′ c₁ r → OuterTold (bump t y n) L T N D N′ D′ c r
 outer-hit {L} {T} {N} {D} {N′} {D′} {r = r} {y = y} {k = k} h q e g =
     let w = subst (λ z. OuterTold (y k (textOf L (k .start) (k .end))) L T N D N′ D′ z r) e g in
-    record { told = hit h q refl (w .told); past = w .past }
+    record { told = hit h q refl (w .told) }
 
 -- from counters that count n nodes
 pub outer-from : {p : Reader (Maybe Outer)} {L T N D N′ D′ : List ℕ} {c : Counters} {r : OuterStep} {n : ℕ} → c .nodes ≡ n → OuterTold p L T N D N′ D′ c r → Told (outerRead n) (StoredPart outerD N N′ n) p L T D D′ c (r .outer) (r .counters)
 outer-from {p} {L} {T} {N} {D} {N′} {D′} {c} {r} e h = subst (λ n. Told (outerRead n) (StoredPart outerD N N′ n) p L T D D′ c (r .outer) (r .counters)) e (h .told)
 
 -- an index, where there is one between the brackets and where there is none
-module _ {E : Type 0} {f : Maybe Outer → E} {Q : Maybe Outer → Counters → Type 0} (s : Setting) (o : ℕ) {L T D D′ : List ℕ} {c : Counters} {v : E} {r : Counters} {i : Index} where
-  pub outer-twice : {x : IndexRegister} → i ≡ Index.Indexed x → Told f Q (steppedOver o 9 9) L T D D′ c v r → Told f Q (outerIndex s o i) L T D D′ c v r
+module _ {E : Type 0} {f : Maybe Outer → E} {Q : Maybe Outer → Counters → Type 0} (s : Setting) {L T D D′ : List ℕ} {c : Counters} {v : E} {r : Counters} {i : Index} where
+  pub outer-twice : {x : IndexRegister} → i ≡ Index.Indexed x → Told f Q (steppedOver s 9 9) L T D D′ c v r → Told f Q (outerIndex s i) L T D D′ c v r
   unfolding outerIndex
-  outer-twice e h = subst (λ z. Told f Q (outerIndex s o z) L T D D′ c v r) (sym e) h
+  outer-twice e h = subst (λ z. Told f Q (outerIndex s z) L T D D′ c v r) (sym e) h
 
-  pub outer-once : i ≡ Index.Unindexed → Told f Q (parseIndexRegister s o 9 >>= outerIndexed s o) L T D D′ c v r → Told f Q (outerIndex s o i) L T D D′ c v r
+  pub outer-once : i ≡ Index.Unindexed → Told f Q (parseIndexRegister s 9 >>= outerIndexed s) L T D D′ c v r → Told f Q (outerIndex s i) L T D D′ c v r
   unfolding outerIndex
-  outer-once e h = subst (λ z. Told f Q (outerIndex s o z) L T D D′ c v r) (sym e) h
+  outer-once e h = subst (λ z. Told f Q (outerIndex s z) L T D D′ c v r) (sym e) h
 
 -- an index stands at the cursor, or none
 abbrev maybeIndex : Setting → Reader (Maybe Outer) → Reader (Maybe Outer) → Reader (Maybe Outer)
@@ -202,10 +203,10 @@ maybeIndex s p q = here λ i l. peek 0 (anIndex s i) (λ t z. p) λ u. q
 
 module _ (s : Setting) (p q : Reader (Maybe Outer)) {L T N D N′ D′ : List ℕ} {c : Counters} {r : OuterStep} where
   pub outer-index-here : holds (anIndex s (c .at)) (place L T (c .at)) ≡ true → OuterTold p L T N D N′ D′ c r → OuterTold (maybeIndex s p q) L T N D N′ D′ c r
-  outer-index-here e h = record { told = hereby (passed (subst (λ j. holds (anIndex s (c .at)) (place L T j) ≡ true) (omega arith) e) (λ k x. h .told)); past = h .past }
+  outer-index-here e h = record { told = hereby (passed (subst (λ j. holds (anIndex s (c .at)) (place L T j) ≡ true) (omega arith) e) (λ k x. h .told)) }
 
   pub outer-no-index : holds (anIndex s (c .at)) (place L T (c .at)) ≡ false → OuterTold q L T N D N′ D′ c r → OuterTold (maybeIndex s p q) L T N D N′ D′ c r
-  outer-no-index e h = record { told = hereby (unseen (subst (λ j. holds (anIndex s (c .at)) (place L T j) ≡ false) (omega arith) e) (h .told)); past = h .past }
+  outer-no-index e h = record { told = hereby (unseen (subst (λ j. holds (anIndex s (c .at)) (place L T j) ≡ false) (omega arith) e) (h .told)) }
 
 -- the definition's, by the code's
 pub record OuterAs (n : ℕ) (m : Maybe Outer) (u : OuterPart) : Type 0 where
@@ -224,22 +225,22 @@ outer-not n (some x) h = let z : _≡_ {A = ℕ} 0 1 = cc in absurd (omega arith
 outer-not n none h = refl
 
 -- behind the inner part x
-pub outer-of : (s : Setting) (o : ℕ) (x : Inner) {n : InnerPart} {L T N D N′ D′ : List ℕ} {c : Counters} {r : OuterStep} → innerOf 0 x ≡ n
-    → OuterTold (parseOuter s o (n .registers .index)) L T N D N′ D′ c r → OuterTold (parseOuter s o (x .registers .index)) L T N D N′ D′ c r
+pub outer-of : (s : Setting) (x : Inner) {n : InnerPart} {L T N D N′ D′ : List ℕ} {c : Counters} {r : OuterStep} → innerOf 0 x ≡ n
+    → OuterTold (parseOuter s (n .registers .index)) L T N D N′ D′ c r → OuterTold (parseOuter s (x .registers .index)) L T N D N′ D′ c r
 unfolding innerOf
-outer-of s o x {n} {L} {T} {N} {D} {N′} {D′} {c} {r} e h = subst (λ (z : InnerPart). OuterTold (parseOuter s o (z .registers .index)) L T N D N′ D′ c r) (sym e) h
+outer-of s x {n} {L} {T} {N} {D} {N′} {D′} {c} {r} e h = subst (λ (z : InnerPart). OuterTold (parseOuter s (z .registers .index)) L T N D N′ D′ c r) (sym e) h
 
 -- ---- the operand
 
 -- the parenthesis closes at e
-pub operand-closed : (o e : ℕ) {L T N D : List ℕ} {c c₁ : Counters} {n : InnerPart} {u : OuterPart} {v : OperandRead} {r : Counters} (x : Inner) (y : Outer) → innerOf 0 x ≡ n
+pub operand-closed : (s : Setting) (e : ℕ) {L T N D : List ℕ} {c c₁ : Counters} {n : InnerPart} {u : OuterPart} {v : OperandRead} {r : Counters} (x : Inner) (y : Outer) → innerOf 0 x ≡ n
     → outerOf (sizeD (x .displacement)) y ≡ u → StoredBoth N (x .displacement) (y .displacement) c → c₁ .nodes ≡ c .nodes
-    → v ≡ OperandRead.Is (record { form = 12; span = span o e; displacement = n .displacement; base = n .registers .base; index = u .index; indirection = u .indirection; outer = u .displacement; special = 0; mask = 0 })
-    → r ≡ c₁ → Told operandRead (Stored N) (memoryIndirect o x y (some e)) L T D D c₁ v r
+    → v ≡ OperandRead.Is (record { form = 12; span = span (s .start) e; displacement = n .displacement; base = n .registers .base; index = u .index; indirection = u .indirection; outer = u .displacement; special = 0; mask = 0 })
+    → r ≡ c₁ → Told operandRead (Stored N) (memoryIndirect s x y (some e)) L T D D c₁ v r
 unfolding memoryIndirect operandRead recordOf HeldBy nodesO sizeO innerOf outerOf
-operand-closed o e {N = N} {n = n} {u = u} x y a b st h w q =
-    answered (w ∙ ap₂ (λ (i : InnerPart) (j : OuterPart). OperandRead.Is (record { form = 12; span = span o e; displacement = i .displacement; base = i .registers .base; index = j .index; indirection = j .indirection; outer = j .displacement; special = 0; mask = 0 })) (sym a) (sym b)) q
-    (sym (ap (λ m. take (14 * m) N) h ∙ st .bytes), sym (h ∙ st .total))
+operand-closed s e {N = N} {n = n} {u = u} x y a b st h w q =
+    answered (w ∙ ap₂ (λ (i : InnerPart) (j : OuterPart). OperandRead.Is (record { form = 12; span = span (s .start) e; displacement = i .displacement; base = i .registers .base; index = j .index; indirection = j .indirection; outer = j .displacement; special = 0; mask = 0 })) (sym a) (sym b)) q
+    (sym (ap (λ m. take (10 * m) N) h ∙ st .bytes), sym (h ∙ st .total))
 
 -- both displacements
 stored-both : {N N′ : List ℕ} {d e : Displacement} {c c₁ : Counters} → StoredD [] N 0 d c → StoredD N N′ (c .nodes) e c₁ → StoredBoth N′ d e c₁
@@ -248,9 +249,9 @@ stored-both {d = d} {e = e} {c = c} h g =
     record { bytes = g .bytes ∙ ap₂ (λ x y. x ++ nodesD y e) (h .bytes) q; total = g .total ∙ ap (λ x. x + sizeD e) q }
 
 -- behind both parts
-pub operand-behind : (x : Inner) (y : Outer) {o : ℕ} {k : Token} {n : InnerPart} {u : OuterPart} {L T N N′ D D′ : List ℕ} {c c₁ : Counters} {r : OperandStep} → innerOf 0 x ≡ n → outerOf (c .nodes) y ≡ u
-    → StoredD [] N 0 (x .displacement) c → StoredD N N′ (c .nodes) (y .displacement) c₁ → ClosedTold o k T D D′ c₁ n u r
-    → Told operandRead (Stored N′) (closeIndirect o k x y) L T D D′ c₁ (r .operand) (r .counters)
+pub operand-behind : (x : Inner) (y : Outer) {s : Setting} {k : Token} {n : InnerPart} {u : OuterPart} {L T N N′ D D′ : List ℕ} {c c₁ : Counters} {r : OperandStep} → innerOf 0 x ≡ n → outerOf (c .nodes) y ≡ u
+    → StoredD [] N 0 (x .displacement) c → StoredD N N′ (c .nodes) (y .displacement) c₁ → ClosedTold s k T D D′ c₁ n u r
+    → Told operandRead (Stored N′) (closeIndirect s k x y) L T D D′ c₁ (r .operand) (r .counters)
 operand-behind x y {L = L} {N′ = N′} {c = c} a b st g h =
     let q : sizeD (x .displacement) ≡ c .nodes = omega (arith, st .total) in
     h .told L N′ x y a (ap (λ m. outerOf m y) q ∙ b) (stored-both st g)

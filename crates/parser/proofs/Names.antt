@@ -9,9 +9,9 @@ use borrow.Author.Tests.{le-leb, lt-leb, leb-true, leb-false}
 use lib.Dec.{eqb, leb}
 use Rattle.names.specs.Choice.{pick, both, either}
 use Rattle.names.specs.Kinds
-use Rattle.names.specs.Letters.{lowered}
+use Rattle.names.specs.Letters.{bytes, lowered, same}
 use Rattle.names.specs.Places.{textOf, place, there, nowhere}
-use Rattle.names.specs.Registers.{pair, register, registerOf, suppressedOf}
+use Rattle.names.specs.Registers.{pair, register, registerOf, suppressing, suppressed, suppressedOf}
 use Rattle.names.specs.Reserved.{isRegister}
 use Rattle.names.specs.Tokens.{tokenAt}
 use Rattle.names.specs.declared.tokens.Token.{Token}
@@ -26,7 +26,7 @@ use Rattle.expressions.specs.declared.reading.Setting.{Setting}
 use Rattle.operand.specs.Operand.{isAddress, isSuppressed, isSuppressedRegister, aRegister, anAddressRegister, aProgramCounter, unmarked, anIndex, aBaseOrAnIndex, indexOf, suppressedIndex, registerFrom}
 use Rattle.records.specs.declared.spans.Span.{Span}
 use Rattle.operand.specs.declared.forms.Register.{Register}
-use Rattle.parser.specs.Tests.{addressOf, regAt, suppressedAt}
+use Rattle.parser.specs.Tests.{addressOf, regAt, suppressedAt, suppressedReg}
 
 -- ---- choices
 
@@ -185,6 +185,46 @@ suppressed-is s i t x r h = go (eqb (s .mark) i) (eqb (t .kind) Kinds.identifier
     go false true e = e
     go false false e = absurd (true-false (sym (ap isSuppressed e)))
 
+-- a name that spells a suppressed register spells no register
+no-both : (y : List ℕ) {r : ℕ} → suppressed y ≡ Suppressed.Register r → register y ≡ Reg.Not
+unfolding suppressed suppressing register
+no-both [] h = refl
+no-both (c ∷ []) h = refl
+no-both (c ∷ d ∷ []) {r} h = go (eqb c 122) (same (d ∷ []) (bytes "pc")) h
+  where
+    go : (a b : Bool) → pick a (pick b Suppressed.ProgramCounter Suppressed.Not) Suppressed.Not ≡ Suppressed.Register r → pair c d ≡ Reg.Not
+    go true true e = let z : _≡_ {A = ℕ} 0 1 = cc in absurd (omega arith)
+    go true false e = let z : _≡_ {A = ℕ} 0 1 = cc in absurd (omega arith)
+    go false b e = let z : _≡_ {A = ℕ} 0 1 = cc in absurd (omega arith)
+no-both (c ∷ d ∷ e ∷ es) h = refl
+
+-- as the code asks it: the register that is an index
+index-of : (z : Suppressed) {r : ℕ} → suppressedReg z ≡ Reg.Is r → z ≡ Suppressed.Register r
+unfolding suppressedReg
+index-of (Suppressed.Register n) h = cc
+index-of Suppressed.ProgramCounter h = let z : _≡_ {A = ℕ} 0 1 = cc in absurd (omega arith)
+index-of Suppressed.Not h = let z : _≡_ {A = ℕ} 0 1 = cc in absurd (omega arith)
+
+no-index-of : (z : Suppressed) → suppressedReg z ≡ Reg.Not → isSuppressedRegister z ≡ false
+unfolding suppressedReg isSuppressedRegister
+no-index-of (Suppressed.Register n) h = let z : _≡_ {A = ℕ} 0 1 = cc in absurd (omega arith)
+no-index-of Suppressed.ProgramCounter h = refl
+no-index-of Suppressed.Not h = refl
+
+module _ (s : Setting) (i : ℕ) (t : Token) (x : List ℕ) where
+  pub suppressed-miss : suppressedReg (suppressedAt s i t x) ≡ Reg.Not → unmarked s i isSuppressedRegister t x ≡ false
+  unfolding isSuppressedRegister
+  suppressed-miss h = unmarked-is s i isSuppressedRegister t x refl ∙ no-index-of (suppressedAt s i t x) h
+
+  module _ {r : ℕ} (h : suppressedReg (suppressedAt s i t x) ≡ Reg.Is r) where
+    pub suppressed-hit : unmarked s i isSuppressedRegister t x ≡ true
+    unfolding isSuppressedRegister
+    suppressed-hit = unmarked-is s i isSuppressedRegister t x refl ∙ ap isSuppressedRegister (index-of (suppressedAt s i t x) h)
+
+    pub suppressed-no-register : aRegister t x ≡ false
+    unfolding aRegister registerOf suppressedOf
+    suppressed-no-register = rw (no-both (lowered x) (suppressed-is s i t x r (index-of (suppressedAt s i t x) h))) (both-no (eqb (t .kind) Kinds.identifier))
+
 -- ---- an index, a base or an index
 
 module _ (s : Setting) (i : ℕ) (t : Token) (x : List ℕ) where
@@ -201,7 +241,7 @@ module _ (s : Setting) (i : ℕ) (t : Token) (x : List ℕ) where
 pub register-as : (t : Token) (x : List ℕ) {r : ℕ} {s : Span} → regAt t x ≡ Reg.Is r → s ≡ spanOf t → record { index = r; span = s } ≡ registerFrom t x
 register-as t x {r} e h = ap (λ z. record { index = r; span = z }) h ∙ sym (reg-from t x r e)
 
-pub suppressed-as : (s : Setting) (i : ℕ) (t : Token) (x : List ℕ) {r : ℕ} {z : Span} → suppressedAt s i t x ≡ Suppressed.Register r → z ≡ spanOf t
+pub suppressed-as : (s : Setting) (i : ℕ) (t : Token) (x : List ℕ) {r : ℕ} {z : Span} → suppressedReg (suppressedAt s i t x) ≡ Reg.Is r → z ≡ spanOf t
     → _≡_ {A = Register} (record { index = r; span = z }) (record { index = suppressedIndex (suppressedOf x); span = spanOf t })
 unfolding suppressedIndex
-suppressed-as s i t x {r} e h = ap (λ z. record { index = r; span = z }) h ∙ rw (suppressed-is s i t x r e)
+suppressed-as s i t x {r} e h = ap (λ z. record { index = r; span = z }) h ∙ rw (suppressed-is s i t x r (index-of (suppressedAt s i t x) e))

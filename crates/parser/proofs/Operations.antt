@@ -29,6 +29,7 @@ use Rattle.expressions.specs.Reader.{is, Reading, Reader, answer, raise, choose
 use Rattle.records.specs.Counting.{stepped}
 use Rattle.records.specs.Spans.{span, noSpan, spanOf}
 use Rattle.expressions.specs.Trees.{Expr, spanE, size}
+use Rattle.expressions.specs.declared.reading.Setting.{Setting}
 use Rattle.operand.specs.Operands.{displaced, undisplaced, some}
 use Rattle.operand.specs.Operands as O
 use Rattle.operand.specs.Operand.{name, aRegister, registerFrom, over, predecrementClose, parsePredecrement, registerDirect, parseRegisterOperand, immediateSize, absoluteSize, specialIndex}
@@ -36,7 +37,7 @@ use Rattle.operand.specs.Records.{flag, sizeD, nodesD, sizeO, nodesO}
 use Rattle.operand.specs.Forms.{recordOf, operandRead, suffixRead}
 use Rattle.parser.specs.Steps.{Raised, Told, Same, Kept, Stored}
 use Rattle.parser.specs.Tests.{regAt}
-use Rattle.parser.specs.Behind.{registerOperand, immediateStep, absoluteStep, SizeAt}
+use Rattle.parser.specs.Behind.{immediateStep, absoluteStep, SizeAt}
 use Rattle.operand.specs.declared.forms.Register.{Register}
 use Rattle.operand.specs.declared.forms.Suffixed.{Suffixed}
 use Rattle.operand.specs.declared.forms.SuffixRead.{SuffixRead}
@@ -107,38 +108,38 @@ module _ (e : Expr) {n : ℕ} (h : n ≡ size e) {L T D : List ℕ} {c : Counter
   unfolding recordOf nodesO sizeO nodesD sizeD
   immediate-told l {s} {t} {z} w u = operand-told (O.immediate e l (span s z)) (displaced e 0) (ap (λ y. y .operand) w, ap (λ y. y .counters) w) (rw (u, tree-is e (k ∙ h) refl)) k refl refl
 
-  absolute-told : {o t z m : ℕ} → r ≡ absoluteStep c o t m → t ≡ z → Told operandRead (Kept n (displaced e 0)) (answer (some (O.absolute e m (span o z)))) L T D D c (r .operand) (r .counters)
+  absolute-told : {b t z m : ℕ} → r ≡ absoluteStep c b t m → t ≡ z → Told operandRead (Kept n (displaced e 0)) (answer (some (O.absolute e m (span b z)))) L T D D c (r .operand) (r .counters)
   unfolding recordOf nodesO sizeO nodesD sizeD
-  absolute-told {o} {t} {z} {m} w u = operand-told (O.absolute e m (span o z)) (displaced e 0) (ap (λ y. y .operand) w, ap (λ y. y .counters) w) (rw (u, tree-is e (k ∙ h) refl)) k refl refl
+  absolute-told {b} {t} {z} {m} w u = operand-told (O.absolute e m (span b z)) (displaced e 0) (ap (λ y. y .operand) w, ap (λ y. y .counters) w) (rw (u, tree-is e (k ∙ h) refl)) k refl refl
 
-  module _ (o : ℕ) where
-    pub absolute-bare : {t : ℕ} → r ≡ absoluteStep c o t 0 → t ≡ spanE e .end → Told operandRead (Kept n (displaced e 0)) (absoluteSize o e bare) L T D D c (r .operand) (r .counters)
+  module _ (s : Setting) where
+    pub absolute-bare : {t : ℕ} → r ≡ absoluteStep c (s .start) t 0 → t ≡ spanE e .end → Told operandRead (Kept n (displaced e 0)) (absoluteSize s e bare) L T D D c (r .operand) (r .counters)
     unfolding absoluteSize
     absolute-bare w u = absolute-told w u
 
-    pub absolute-sized : (x : Suffixed) → r ≡ absoluteStep c o (x .span .end) (x .size) → Told operandRead (Kept n (displaced e 0)) (absoluteSize o e (suffixed (x .size) (x .span))) L T D D c (r .operand) (r .counters)
+    pub absolute-sized : (x : Suffixed) → r ≡ absoluteStep c (s .start) (x .span .end) (x .size) → Told operandRead (Kept n (displaced e 0)) (absoluteSize s e (suffixed (x .size) (x .span))) L T D D c (r .operand) (r .counters)
     unfolding absoluteSize
     absolute-sized x w = absolute-told w refl
 
     module _ (hash : Token) where
-      pub immediate-bare : {t : ℕ} → r ≡ immediateStep c (hash .start) t 0 → t ≡ spanE e .end → Told operandRead (Kept n (displaced e 0)) (immediateSize o hash e bare) L T D D c (r .operand) (r .counters)
+      pub immediate-bare : {t : ℕ} → r ≡ immediateStep c (hash .start) t 0 → t ≡ spanE e .end → Told operandRead (Kept n (displaced e 0)) (immediateSize s hash e bare) L T D D c (r .operand) (r .counters)
       unfolding immediateSize flag
       immediate-bare w u = immediate-told false w u
 
       module _ (x : Suffixed) where
-        pub immediate-long : x .size ≡ 3 → r ≡ immediateStep c (hash .start) (x .span .end) 1 → Told operandRead (Kept n (displaced e 0)) (immediateSize o hash e (suffixed (x .size) (x .span))) L T D D c (r .operand) (r .counters)
+        pub immediate-long : x .size ≡ 3 → r ≡ immediateStep c (hash .start) (x .span .end) 1 → Told operandRead (Kept n (displaced e 0)) (immediateSize s hash e (suffixed (x .size) (x .span))) L T D D c (r .operand) (r .counters)
         unfolding immediateSize flag
         immediate-long g w = chosen (eqb (x .size) 3) _ (eq-eqb _ 3 g) (immediate-told true w refl)
 
-        pub immediate-unknown : x .size ≡ 0 → r ≡ immediateStep c (hash .start) (x .span .end) 0 → Told operandRead (Kept n (displaced e 0)) (immediateSize o hash e (suffixed (x .size) (x .span))) L T D D c (r .operand) (r .counters)
+        pub immediate-unknown : x .size ≡ 0 → r ≡ immediateStep c (hash .start) (x .span .end) 0 → Told operandRead (Kept n (displaced e 0)) (immediateSize s hash e (suffixed (x .size) (x .span))) L T D D c (r .operand) (r .counters)
         unfolding immediateSize flag
         immediate-unknown g w = unchosen (eqb (x .size) 3) _ (ne-eqb (x .size) 3 (λ u. omega (arith, g, u))) (chosen (eqb (x .size) 0) _ (eq-eqb _ 0 g) (immediate-told false w refl))
 
-        pub immediate-wrong : {D′ : List ℕ} {m : Counters} → (x .size ≡ 3 → ⊥) → (x .size ≡ 0 → ⊥) → Raised D D′ c (malformedOperand 1 1 (span o (c .end)) noSpan) m → (r .operand ≡ OperandRead.Not) × (r .counters ≡ m)
-            → Told operandRead (Kept n (displaced e 0)) (immediateSize o hash e (suffixed (x .size) (x .span))) L T D D′ c (r .operand) (r .counters)
+        pub immediate-wrong : {D′ : List ℕ} {m : Counters} → (x .size ≡ 3 → ⊥) → (x .size ≡ 0 → ⊥) → Raised D D′ c (malformedOperand 1 1 (span (s .start) (c .end)) noSpan) m → (r .operand ≡ OperandRead.Not) × (r .counters ≡ m)
+            → Told operandRead (Kept n (displaced e 0)) (immediateSize s hash e (suffixed (x .size) (x .span))) L T D D′ c (r .operand) (r .counters)
         unfolding immediateSize operandRead
         immediate-wrong a b g w =
-            unchosen (eqb (x .size) 3) _ (ne-eqb _ 3 a) (unchosen (eqb (x .size) 0) _ (ne-eqb _ 0 b) (failed-malformed o 1 1 g (w .0) (w .1) (kept-none (displaced e 0) (raised-same g ∙ k))))
+            unchosen (eqb (x .size) 3) _ (ne-eqb _ 3 a) (unchosen (eqb (x .size) 0) _ (ne-eqb _ 0 b) (failed-malformed s 1 1 g (w .0) (w .1) (kept-none (displaced e 0) (raised-same g ∙ k))))
 
 -- ---- a name
 
@@ -150,9 +151,8 @@ pub unnamed-register : (t : Token) (x : List ℕ) → (t .kind ≡ Kinds.identif
 unfolding aRegister
 unnamed-register t x h = unnamed (λ y. isRegister (registerOf y)) t x h
 
-pub register-read : (o : ℕ) (t : Token) (x : List ℕ) {n : ℕ} {s : Span} → regAt t x ≡ Reg.Is n → s ≡ spanOf t → registerOperand o (record { index = n; span = s }) ≡ parseRegisterOperand o t x
-unfolding registerOperand parseRegisterOperand registerFrom
-register-read o t x {n} e w = ap (registerOperand o) (register-at-base w (reg-from t x n e))
+pub register-read : (s : Setting) (t : Token) (x : List ℕ) {n : ℕ} {w : Span} → regAt t x ≡ Reg.Is n → w ≡ spanOf t → parseRegisterOperand s (record { index = n; span = w }) ≡ parseRegisterOperand s (registerFrom t x)
+register-read s t x {n} e w = ap (parseRegisterOperand s) (register-at-base w (reg-from t x n e))
 
 module _ (t : Token) (x : List ℕ) (k : t .kind ≡ Kinds.identifier) where
   pub special-is : {n : ℕ} → specialOf x ≡ SpecialRegister.Is n → name (λ y. isSpecial (specialOf y)) t x ≡ true
@@ -174,15 +174,13 @@ pub token-from : (T : List ℕ) {i j : ℕ} {k : Token} → i ≡ j → tokenAt 
 token-from T e h = ap (tokenAt T) e ∙ h
 
 -- behind its three tokens
-pub predecrement-told : (o : ℕ) {minus k t : Token} {n : ℕ} {s : Span} {L T D D′ : List ℕ} {c c₁ c₂ c₃ : Counters} {r : OperandStep} (N : List ℕ) → c .nodes ≡ 0
+pub predecrement-told : (s : Setting) {minus k t : Token} {L T D D′ : List ℕ} {c c₁ c₂ c₃ : Counters} {r : OperandStep} (N : List ℕ) → c .nodes ≡ 0
     → tokenAt T (c .at) ≡ peeked.Is minus → tokenAt T (c .at + 1) ≡ peeked.Is k → tokenAt T (c .at + 2) ≡ peeked.Is t → c₁ ≡ stepped c minus → c₂ ≡ stepped c₁ k → c₃ ≡ stepped c₂ t
-    → regAt t (textOf L (t .start) (t .end)) ≡ Reg.Is n → s ≡ spanOf t
-    → Told operandRead (Kept (c₃ .nodes) undisplaced) (predecrementClose o minus k t (record { index = n; span = s })) L T D D′ c₃ (r .operand) (r .counters)
-    → Told operandRead (Stored N) (parsePredecrement o minus k t (textOf L (t .start) (t .end))) L T D D′ c (r .operand) (r .counters)
+    → Told operandRead (Kept (c₃ .nodes) undisplaced) (predecrementClose s minus k t (registerFrom t (textOf L (t .start) (t .end)))) L T D D′ c₃ (r .operand) (r .counters)
+    → Told operandRead (Stored N) (parsePredecrement s minus k t (textOf L (t .start) (t .end))) L T D D′ c (r .operand) (r .counters)
 unfolding parsePredecrement over
-predecrement-told o {minus} {k} {t} {n} {L = L} {T = T} {c₃ = c₃} N z a b d e₁ e₂ e₃ g w h =
+predecrement-told s {T = T} {c₃ = c₃} N z a b d e₁ e₂ e₃ h =
     let at₁ = ap (λ y. y .at) e₁ in
     let at₂ = ap (λ y. y .at) e₂ in
     let none : c₃ .nodes ≡ 0 = ap (λ y. y .nodes) e₃ ∙ ap (λ y. y .nodes) e₂ ∙ ap (λ y. y .nodes) e₁ ∙ z in
-    let q = renamed (ap (predecrementClose o minus k t) (register-at-base w (reg-from t (textOf L (t .start) (t .end)) n g))) h in
-    hit a refl e₁ (hit (token-from T at₁ b) refl e₂ (hit (token-from T (omega (arith, at₁, at₂)) d) refl e₃ (unstored-told N none q)))
+    hit a refl e₁ (hit (token-from T at₁ b) refl e₂ (hit (token-from T (omega (arith, at₁, at₂)) d) refl e₃ (unstored-told N none h)))

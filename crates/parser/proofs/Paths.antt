@@ -16,11 +16,12 @@ use Rattle.records.specs.declared.counters.Counters.{Counters}
 use Rattle.records.specs.Diagnostics.{diagnosticRecord, malformedOperand, malformedOpen}
 use Rattle.expressions.specs.Laws.{holds, met-one, met-yes, met-no}
 use Rattle.expressions.specs.Reader.{Test, Reading, reading, after, Reader, answer, here, raise, bump, peek, _>>=_, choose, run}
-use Rattle.records.specs.Stores.{written, added, PushTold}
+use Rattle.records.specs.Stores.{written, added}
 use Rattle.records.specs.Written.{added-append}
 use Rattle.records.specs.Counting.{stepped}
 use Rattle.records.specs.Spans.{span, spanOf, noSpan}
 use Rattle.parser.specs.Steps.{Raised, RaisedOver, over, ended, Told, Same}
+use Rattle.expressions.specs.declared.reading.Setting.{Setting}
 use Rattle.operand.specs.Operands.{Maybe, some, none}
 use Rattle.operand.specs.Operand.{malformed, unclosed, notAnAddressRegister, steppedOver}
 
@@ -35,9 +36,6 @@ unfolding holds
 fails-end t p h = rw h
 
 -- ---- a diagnostic that is raised
-
-pub pushed : {D D′ : List ℕ} {c : Counters} {x : Diagnostic} {d : ℕ} → PushTold D D′ (c .diagnostics) x d → Raised D D′ c x (record { at = c .at; end = c .end; nodes = c .nodes; diagnostics = d })
-pushed {c = c} h = record { counters = ap (λ d. record { at = c .at; end = c .end; nodes = c .nodes; diagnostics = d }) (h .next); more = h .more }
 
 -- by another name
 pub raised-as : {D D′ : List ℕ} {c : Counters} {x y : Diagnostic} {r : Counters} → x ≡ y → Raised D D′ c x r → Raised D D′ c y r
@@ -209,26 +207,26 @@ pub failed : {A E : Type 0} {f : Maybe A → E} {Q : Maybe A → Counters → Ty
     → Raised D D′ c x m → v ≡ f none → r ≡ m → Q none m → Told f Q (raise x (answer none)) L T D D′ c v r
 failed h w e q = raised h (answered w e q)
 
-pub failed-malformed : {A E : Type 0} {f : Maybe A → E} {Q : Maybe A → Counters → Type 0} (o shape problem : ℕ) {L T D D′ : List ℕ} {c m : Counters} {v : E} {r : Counters}
-    → Raised D D′ c (malformedOperand shape problem (span o (c .end)) noSpan) m → v ≡ f none → r ≡ m → Q none m → Told f Q (malformed o shape problem) L T D D′ c v r
+pub failed-malformed : {A E : Type 0} {f : Maybe A → E} {Q : Maybe A → Counters → Type 0} (s : Setting) (shape problem : ℕ) {L T D D′ : List ℕ} {c m : Counters} {v : E} {r : Counters}
+    → Raised D D′ c (malformedOperand shape problem (span (s .start) (c .end)) noSpan) m → v ≡ f none → r ≡ m → Q none m → Told f Q (malformed s shape problem) L T D D′ c v r
 unfolding malformed
-failed-malformed o shape problem h w e q = hereby (failed h w e q)
+failed-malformed s shape problem h w e q = hereby (failed h w e q)
 
-pub failed-unclosed : {A E : Type 0} {f : Maybe A → E} {Q : Maybe A → Counters → Type 0} (o : ℕ) (k : Token) (shape problem : ℕ) {L T D D′ : List ℕ} {c m : Counters} {v : E} {r : Counters}
-    → Raised D D′ c (malformedOpen shape problem (span o (c .end)) (spanOf k)) m → v ≡ f none → r ≡ m → Q none m → Told f Q (unclosed o k shape problem) L T D D′ c v r
+pub failed-unclosed : {A E : Type 0} {f : Maybe A → E} {Q : Maybe A → Counters → Type 0} (s : Setting) (k : Token) (shape problem : ℕ) {L T D D′ : List ℕ} {c m : Counters} {v : E} {r : Counters}
+    → Raised D D′ c (malformedOpen shape problem (span (s .start) (c .end)) (spanOf k)) m → v ≡ f none → r ≡ m → Q none m → Told f Q (unclosed s k shape problem) L T D D′ c v r
 unfolding unclosed
-failed-unclosed o k shape problem h w e q = hereby (failed h w e q)
+failed-unclosed s k shape problem h w e q = hereby (failed h w e q)
 
-pub failed-register : {A E : Type 0} {f : Maybe A → E} {Q : Maybe A → Counters → Type 0} (o shape : ℕ) (k : Token) {L T D D′ : List ℕ} {c m : Counters} {v : E} {r : Counters}
-    → Raised D D′ c (malformedOperand shape 2 (span o (c .end)) (spanOf k)) m → v ≡ f none → r ≡ m → Q none m → Told f Q (notAnAddressRegister o shape k) L T D D′ c v r
+pub failed-register : {A E : Type 0} {f : Maybe A → E} {Q : Maybe A → Counters → Type 0} (s : Setting) (shape : ℕ) (k : Token) {L T D D′ : List ℕ} {c m : Counters} {v : E} {r : Counters}
+    → Raised D D′ c (malformedOperand shape 2 (span (s .start) (c .end)) (spanOf k)) m → v ≡ f none → r ≡ m → Q none m → Told f Q (notAnAddressRegister s shape k) L T D D′ c v r
 unfolding notAnAddressRegister
-failed-register o shape k h w e q = hereby (failed h w e q)
+failed-register s shape k h w e q = hereby (failed h w e q)
 
-pub failed-over : {A E : Type 0} {f : Maybe A → E} {Q : Maybe A → Counters → Type 0} (o shape problem : ℕ) {L T D D′ : List ℕ} {c m : Counters} {v : E} {r : Counters}
-    → RaisedOver T D D′ c (λ l. malformedOperand shape problem (span o l) noSpan) m → v ≡ f none → r ≡ m → Q none m → Told f Q (steppedOver o shape problem) L T D D′ c v r
+pub failed-over : {A E : Type 0} {f : Maybe A → E} {Q : Maybe A → Counters → Type 0} (s : Setting) (shape problem : ℕ) {L T D D′ : List ℕ} {c m : Counters} {v : E} {r : Counters}
+    → RaisedOver T D D′ c (λ l. malformedOperand shape problem (span (s .start) l) noSpan) m → v ≡ f none → r ≡ m → Q none m → Told f Q (steppedOver s shape problem) L T D D′ c v r
 unfolding steppedOver
-failed-over o shape problem (over t e h) w u q = hit e refl refl (failed-malformed o shape problem h w u q)
-failed-over o shape problem (ended e h) w u q = done e (failed-malformed o shape problem h w u q)
+failed-over s shape problem (over t e h) w u q = hit e refl refl (failed-malformed s shape problem h w u q)
+failed-over s shape problem (ended e h) w u q = done e (failed-malformed s shape problem h w u q)
 
 -- a failed reader has written no node
 pub raised-same : {D D′ : List ℕ} {c : Counters} {x : Diagnostic} {r : Counters} → Raised D D′ c x r → r .nodes ≡ c .nodes

@@ -25,14 +25,15 @@ use Rattle.records.specs.Spans.{span, spanOf}
 use Rattle.records.specs.declared.counters.Counters.{Counters}
 use Rattle.records.specs.Diagnostics.{registerExpectedInRegisterList}
 use Rattle.expressions.specs.Laws.{holds}
-use Rattle.records.specs.Nodes.{record14, lowFirst}
+use Rattle.records.specs.Nodes.{nodeRecord, words}
 use Rattle.records.specs.Stores.{PutTold}
 use Rattle.records.specs.Counting.{stepped}
 use Rattle.terms.specs.Terms.{NodeTold}
 use Rattle.operand.specs.Operands.{single, Maybe, some, none}
 use Rattle.operand.specs.Operand.{aRegister, indexOf, registerFrom, registerExpected, ranged, listItem}
 use Rattle.operand.specs.Mask.{bitsFrom}
-use Rattle.parser.specs.Steps.{Room, Raised, Told}
+use Rattle.records.specs.Rooms.{Room}
+use Rattle.parser.specs.Steps.{Raised, Told}
 use Rattle.parser.specs.Tests.{regAt}
 use Rattle.parser.specs.Items.{expectedAt, RegisterTold, found, missing, itemOf, itemRead, RangedTold, rising, falling, singleStep, ItemHeld, ItemTold, itemBytes}
 use Rattle.operand.specs.declared.forms.Register.{Register}
@@ -80,11 +81,11 @@ none-at-end L T i h = rw (nowhere L T i h)
 -- ---- a register behind a sign
 
 -- a diagnostic for each token that is passed
-pub room-on : {T D D₁ : List ℕ} {c c₁ : Counters} → Room T D c → length D₁ ≡ length D → c₁ .at ≤ count T → c₁ .diagnostics + c .at ≤ c .diagnostics + c₁ .at → Room T D₁ c₁
-room-on h e w q = record { few = h .few; within = w; room = omega arith; suffixes = h .suffixes }
+pub room-on : {T : List ℕ} {c c₁ : Counters} → Room T c 0 1 → c₁ .at ≤ count T → c₁ .diagnostics + c .at ≤ c .diagnostics + c₁ .at → Room T c₁ 0 1
+room-on h w q = omega (arith, h, w, q)
 
-pub room-behind : {T D : List ℕ} {c c₁ : Counters} {t : Token} → Room T D c → tokenAt T (c .at) ≡ peeked.Is t → c₁ ≡ stepped c t → Room T D c₁
-room-behind {T} {c = c} {t = t} h g e = let n = live T (c .at) t g in rw e (record { few = h .few; within = omega arith; room = omega arith; suffixes = h .suffixes })
+pub room-behind : {T : List ℕ} {c c₁ : Counters} {t : Token} → Room T c 0 1 → tokenAt T (c .at) ≡ peeked.Is t → c₁ ≡ stepped c t → Room T c₁ 0 1
+room-behind {T} {c = c} {t = t} h g e = let n = live T (c .at) t g in rw e (omega (arith, h, n))
 
 pub record FoundAt (T : List ℕ) (c : Counters) (q : Register) (r : Counters) : Type 0 where
   pub on : r .at ≡ c .at + 1
@@ -155,27 +156,27 @@ bits-end bits i to h = let e : to + 1 - i ≡ 0 = omega arith in rw e (or-zero-r
 
 -- ---- an item's node
 
-low-cons : (n a r : ℕ) → a < 256 → lowFirst (suc n) (a + 256 * r) ≡ a ∷ lowFirst n r
-unfolding lowFirst
-low-cons n a r h = let e : (a + 256 * r) % 256 ≡ a = omega arith in let f : (a + 256 * r) / 256 ≡ r = omega arith in rw (e, f)
+low-cons : (n a r : ℕ) → a < 65536 → words (suc n) (a + 65536 * r) ≡ a ∷ words n r
+unfolding words
+low-cons n a r h = let e : (a + 65536 * r) % 65536 ≡ a = omega arith in let f : (a + 65536 * r) / 65536 ≡ r = omega arith in rw (e, f)
 
-low-four : (a b c d : ℕ) → a < 256 → b < 256 → c < 256 → d < 256 → lowFirst 8 (a + 256 * b + 65536 * (c + 256 * d)) ≡ a ∷ b ∷ c ∷ d ∷ 0 ∷ 0 ∷ 0 ∷ 0 ∷ []
-unfolding lowFirst
+low-four : (a b c d : ℕ) → a < 65536 → b < 65536 → c < 65536 → d < 65536 → words 4 (a + 65536 * b + 4294967296 * (c + 65536 * d)) ≡ a ∷ b ∷ c ∷ d ∷ []
+unfolding words
 low-four a b c d h i j k =
-    let e : a + 256 * b + 65536 * (c + 256 * d) ≡ a + 256 * (b + 256 * (c + 256 * (d + 256 * 0))) = omega arith in
-    ap (lowFirst 8) e
-    ∙ low-cons 7 a _ h
-    ∙ ap (λ l. a ∷ l) (low-cons 6 b _ i ∙ ap (λ l. b ∷ l) (low-cons 5 c _ j ∙ ap (λ l. c ∷ l) (low-cons 4 d 0 k)))
+    let e : a + 65536 * b + 4294967296 * (c + 65536 * d) ≡ a + 65536 * (b + 65536 * (c + 65536 * (d + 65536 * 0))) = omega arith in
+    ap (words 4) e
+    ∙ low-cons 3 a _ h
+    ∙ ap (λ l. a ∷ l) (low-cons 2 b _ i ∙ ap (λ l. b ∷ l) (low-cons 1 c _ j ∙ ap (λ l. c ∷ l) (low-cons 0 d 0 k)))
 
-pub node-told : {N N′ : List ℕ} {c : Counters} (x : Item) {r : ℕ} → x .from .span .start < 256 → x .from .span .end < 256 → x .to .span .start < 256 → x .to .span .end < 256
-    → PutTold N N′ (c .nodes) (record14 (x .kind) 0 (x .from .index) (x .to .index) (x .span) (lowFirst 8 (x .from .span .start + 256 * x .from .span .end + 65536 * (x .to .span .start + 256 * x .to .span .end)))) r
+pub node-told : {N N′ : List ℕ} {c : Counters} (x : Item) {r : ℕ} → x .from .span .start < 65536 → x .from .span .end < 65536 → x .to .span .start < 65536 → x .to .span .end < 65536
+    → PutTold N N′ (c .nodes) (nodeRecord (x .kind) 0 (x .from .index) (x .to .index) (x .span) (words 4 (x .from .span .start + 65536 * x .from .span .end + 4294967296 * (x .to .span .start + 65536 * x .to .span .end)))) r
     → NodeTold N N′ c (itemBytes x) (record { at = c .at; end = c .end; nodes = r; diagnostics = c .diagnostics })
 unfolding itemBytes
 node-told {N} {N′} {c} x {r} h i j k p = record {
   at = refl;
   end = refl;
   seen = refl;
-  put = subst (λ z. PutTold N N′ (c .nodes) (record14 (x .kind) 0 (x .from .index) (x .to .index) (x .span) z) r) (low-four _ _ _ _ h i j k) p;
+  put = subst (λ z. PutTold N N′ (c .nodes) (nodeRecord (x .kind) 0 (x .from .index) (x .to .index) (x .span) z) r) (low-four _ _ _ _ h i j k) p;
 }
 
 -- ---- an item

@@ -22,7 +22,8 @@ use Rattle.operand.specs.Operand.{parseIndexRegister, parseBaseAndIndexRegister
 use Rattle.operand.specs.Costs.{Left}
 use Rattle.operand.specs.Costs as cost
 use Rattle.operand.specs.Forms.{indexRead, registersRead, closeRead, suffixRead}
-use Rattle.parser.specs.Steps.{Room, Told}
+use Rattle.records.specs.Rooms.{Room}
+use Rattle.parser.specs.Steps.{Told}
 use Rattle.operand.specs.declared.forms.IndexRegister.{IndexRegister}
 use Rattle.operand.specs.declared.forms.IndexRead.{IndexRead}
 use Rattle.operand.specs.declared.forms.Registers.{Registers}
@@ -76,41 +77,36 @@ suffix-not bare h = refl
 -- ---- room
 
 -- behind a token
-pub room-step : {T D : List ℕ} {c c₁ : Counters} {k : Token} → Room T D c → tokenAt T (c .at) ≡ peeked.Is k → c₁ ≡ stepped c k → Room T D c₁
-room-step {T} {D} {c} {c₁} {k} h t e = record {
-  few = h .few;
-  within = omega (arith, live T (c .at) k t, ap (λ z. z .at) e);
-  room = omega (arith, h .room, ap (λ z. z .at) e, ap (λ z. z .diagnostics) e);
-  suffixes = h .suffixes;
-}
+pub room-step : {T : List ℕ} {c c₁ : Counters} {k : Token} {n : ℕ} → Room T c n 1 → tokenAt T (c .at) ≡ peeked.Is k → c₁ ≡ stepped c k → Room T c₁ n 1
+room-step {T} {c} {k = k} h t e = let l = live T (c .at) k t in rw e (omega (arith, h, l))
 
 -- behind a reader that has raised no more than it has consumed
-room-behind : {A B : Type 0} {f : A → B} {Q : A → Counters → Type 0} {p : Reader A} {L T D D₁ : List ℕ} {c : Counters} {v : B} {c₁ : Counters}
-    → Room T D c → Told f Q p L T D D₁ c v c₁ → length (run p (place L T) (c .at) (c .end) .raised) + c .at ≤ run p (place L T) (c .at) (c .end) .cursor → length D₁ ≡ length D → Room T D₁ c₁
-room-behind {p = p} {L = L} {T = T} {c = c} h t q e = record {
+room-behind : {A B : Type 0} {f : A → B} {Q : A → Counters → Type 0} {p : Reader A} {L T D D₁ : List ℕ} {c : Counters} {v : B} {c₁ : Counters} {n : ℕ}
+    → Room T c n 1 → Told f Q p L T D D₁ c v c₁ → length (run p (place L T) (c .at) (c .end) .raised) + c .at ≤ run p (place L T) (c .at) (c .end) .cursor → Room T c₁ 0 1
+room-behind {p = p} {L = L} {T = T} {c = c} h t q = record {
   few = h .few;
   within = omega (arith, t .at, laws.within p (place L T) (count T) (c .at) (c .end) (λ j k x g. below L T j k x g) (h .within));
-  room = omega (arith, h .room, t .at, t .seen);
-  suffixes = h .suffixes;
+  stand = omega arith;
+  seenFit = omega (arith, h .seenFit, t .at, t .seen);
 }
 
-pub suffix-room : (from : ℕ) {Q : Suffix → Counters → Type 0} {L T D D₁ : List ℕ} {c : Counters} {v : SuffixRead} {c₁ : Counters}
-    → Room T D c → Told suffixRead Q (takeSizeSuffix from) L T D D₁ c v c₁ → length D₁ ≡ length D → Room T D₁ c₁
-suffix-room from {L = L} {T = T} {c = c} h t e =
-    room-behind h t (omega (arith, law-run (suffix-cost (place L T) 0 (all-clean (place L T)) from (c .at) (c .end) 0 0) .0)) e
+pub suffix-room : (from : ℕ) {Q : Suffix → Counters → Type 0} {L T D D₁ : List ℕ} {c : Counters} {v : SuffixRead} {c₁ : Counters} {n : ℕ}
+    → Room T c n 1 → Told suffixRead Q (takeSizeSuffix from) L T D D₁ c v c₁ → Room T c₁ 0 1
+suffix-room from {L = L} {T = T} {c = c} h t =
+    room-behind h t (omega (arith, law-run (suffix-cost (place L T) 0 (all-clean (place L T)) from (c .at) (c .end) 0 0) .0))
 
 -- behind a reader that has answered something
-pub left-room : {A B : Type 0} {f : Maybe A → B} {Q : Maybe A → Counters → Type 0} {p : Reader (Maybe A)} {L T D D₁ : List ℕ} {c : Counters} {v : B} {c₁ : Counters} (g : A → ℕ) (least given far : ℕ) {x : A}
+pub left-room : {A B : Type 0} {f : Maybe A → B} {Q : Maybe A → Counters → Type 0} {p : Reader (Maybe A)} {L T D D₁ : List ℕ} {c : Counters} {v : B} {c₁ : Counters} (g : A → ℕ) (least given far : ℕ) {x : A} {n : ℕ}
     → Law p (place L T) (Left (place L T) 0 (all-clean (place L T)) g least given far (c .at) 0 0) (c .at) (c .end) 0 0
-    → run p (place L T) (c .at) (c .end) .value ≡ some x → Room T D c → Told f Q p L T D D₁ c v c₁ → length D₁ ≡ length D → Room T D₁ c₁
-left-room g least given far law w h t e = let q = rw w at (law-run law) in room-behind h t (omega (arith, q .2)) e
+    → run p (place L T) (c .at) (c .end) .value ≡ some x → Room T c n 1 → Told f Q p L T D D₁ c v c₁ → Room T c₁ 0 1
+left-room g least given far law w h t = let q = rw w at (law-run law) in room-behind h t (omega (arith, q .2))
 
-pub index-room : (s : Setting) (o shape : ℕ) {Q : Maybe IndexRegister → Counters → Type 0} {L T D D₁ : List ℕ} {c : Counters} {v : IndexRead} {c₁ : Counters} {x : IndexRegister}
-    → Room T D c → Told indexRead Q (parseIndexRegister s o shape) L T D D₁ c v c₁ → v ≡ IndexRead.Is x → length D₁ ≡ length D → Room T D₁ c₁
-index-room s o shape {L = L} {T = T} {c = c} h t w e =
-    left-room (cost.nil (place L T) 0 (all-clean (place L T))) 1 0 0 (cost.index-cost (place L T) 0 (all-clean (place L T)) s o shape (c .at) (c .end) 0 0) (index-is _ (sym (t .what) ∙ w)) h t e
+pub index-room : (s : Setting) (shape : ℕ) {Q : Maybe IndexRegister → Counters → Type 0} {L T D D₁ : List ℕ} {c : Counters} {v : IndexRead} {c₁ : Counters} {x : IndexRegister}
+    → Room T c 0 1 → Told indexRead Q (parseIndexRegister s shape) L T D D₁ c v c₁ → v ≡ IndexRead.Is x → Room T c₁ 0 1
+index-room s shape {L = L} {T = T} {c = c} h t w =
+    left-room (cost.nil (place L T) 0 (all-clean (place L T))) 1 0 0 (cost.index-cost (place L T) 0 (all-clean (place L T)) s shape (c .at) (c .end) 0 0) (index-is _ (sym (t .what) ∙ w)) h t
 
-pub registers-room : (s : Setting) (o shape : ℕ) {Q : Maybe Registers → Counters → Type 0} {L T D D₁ : List ℕ} {c : Counters} {v : RegistersRead} {c₁ : Counters} {x : Registers}
-    → Room T D c → Told registersRead Q (parseBaseAndIndexRegisters s o shape) L T D D₁ c v c₁ → v ≡ RegistersRead.Is x → length D₁ ≡ length D → Room T D₁ c₁
-registers-room s o shape {L = L} {T = T} {c = c} h t w e =
-    left-room (cost.nil (place L T) 0 (all-clean (place L T))) 1 0 1 (cost.registers-cost (place L T) 0 (all-clean (place L T)) s o shape (c .at) (c .end) 0 0) (registers-is _ (sym (t .what) ∙ w)) h t e
+pub registers-room : (s : Setting) (shape : ℕ) {Q : Maybe Registers → Counters → Type 0} {L T D D₁ : List ℕ} {c : Counters} {v : RegistersRead} {c₁ : Counters} {x : Registers}
+    → Room T c 0 1 → Told registersRead Q (parseBaseAndIndexRegisters s shape) L T D D₁ c v c₁ → v ≡ RegistersRead.Is x → Room T c₁ 0 1
+registers-room s shape {L = L} {T = T} {c = c} h t w =
+    left-room (cost.nil (place L T) 0 (all-clean (place L T))) 1 0 1 (cost.registers-cost (place L T) 0 (all-clean (place L T)) s shape (c .at) (c .end) 0 0) (registers-is _ (sym (t .what) ∙ w)) h t

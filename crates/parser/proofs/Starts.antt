@@ -222,12 +222,12 @@ isBase (BaseRegister.SuppressedAddress r) = true
 isBase BaseRegister.SuppressedProgramCounter = true
 isBase BaseRegister.Omitted = false
 
-module _ {E : Type 0} {f : Maybe Registers → E} {Q : Maybe Registers → Counters → Type 0} {L T D D′ : List ℕ} {c : Counters} {v : E} {r : Counters} (s : Setting) (o shape : ℕ) where
+module _ {E : Type 0} {f : Maybe Registers → E} {Q : Maybe Registers → Counters → Type 0} {L T D D′ : List ℕ} {c : Counters} {v : E} {r : Counters} (s : Setting) (shape : ℕ) where
   module _ {k : Token} (h : tokenAt T (c .at) ≡ peeked.Is k) where
     base-or-none : {c₁ : Counters} → c₁ ≡ stepped c k
-        → ((b : BaseRegister) → baseAt s (place L T) (c .at) k (textOf L (k .start) (k .end)) ≡ b → isBase b ≡ true → Told f Q (afterBaseRegister s o shape b) L T D D′ c₁ v r)
-        → (baseAt s (place L T) (c .at) k (textOf L (k .start) (k .end)) ≡ BaseRegister.Omitted → Told f Q (noBase s o shape) L T D D′ c v r)
-        → Told f Q (parseBaseAndIndexRegisters s o shape) L T D D′ c v r
+        → ((b : BaseRegister) → baseAt s (place L T) (c .at) k (textOf L (k .start) (k .end)) ≡ b → isBase b ≡ true → Told f Q (afterBaseRegister s shape b) L T D D′ c₁ v r)
+        → (baseAt s (place L T) (c .at) k (textOf L (k .start) (k .end)) ≡ BaseRegister.Omitted → Told f Q (noBase s shape) L T D D′ c v r)
+        → Told f Q (parseBaseAndIndexRegisters s shape) L T D D′ c v r
     unfolding parseBaseAndIndexRegisters
     base-or-none e y n =
         let w = base-tests s (c .at) k (textOf L (k .start) (k .end)) (place L T) in
@@ -243,14 +243,14 @@ module _ {E : Type 0} {f : Maybe Registers → E} {Q : Maybe Registers → Count
         (λ u. n (w ∙ rw (a, b, d, g, u))))))))
 
     pub base-read : {b : BaseRegister} {c₁ : Counters} → baseAt s (place L T) (c .at) k (textOf L (k .start) (k .end)) ≡ b → (b ≡ BaseRegister.Omitted → ⊥) → c₁ ≡ stepped c k
-        → Told f Q (afterBaseRegister s o shape b) L T D D′ c₁ v r → Told f Q (parseBaseAndIndexRegisters s o shape) L T D D′ c v r
+        → Told f Q (afterBaseRegister s shape b) L T D D′ c₁ v r → Told f Q (parseBaseAndIndexRegisters s shape) L T D D′ c v r
     base-read {c₁ = c₁} e n w g =
-        base-or-none w (λ b q p. subst (λ z. Told f Q (afterBaseRegister s o shape z) L T D D′ c₁ v r) (sym e ∙ q) g) (λ q. absurd (n (sym e ∙ q)))
+        base-or-none w (λ b q p. subst (λ z. Told f Q (afterBaseRegister s shape z) L T D D′ c₁ v r) (sym e ∙ q) g) (λ q. absurd (n (sym e ∙ q)))
 
-    pub base-none : baseAt s (place L T) (c .at) k (textOf L (k .start) (k .end)) ≡ BaseRegister.Omitted → Told f Q (noBase s o shape) L T D D′ c v r
-        → Told f Q (parseBaseAndIndexRegisters s o shape) L T D D′ c v r
+    pub base-none : baseAt s (place L T) (c .at) k (textOf L (k .start) (k .end)) ≡ BaseRegister.Omitted → Told f Q (noBase s shape) L T D D′ c v r
+        → Told f Q (parseBaseAndIndexRegisters s shape) L T D D′ c v r
     base-none e g = base-or-none {c₁ = stepped c k} refl (λ b q p. absurd (true-false (sym p ∙ ap isBase (sym q ∙ e)))) (λ q. g)
 
-  pub base-end : tokenAt T (c .at) ≡ peeked.End → Told f Q (noBase s o shape) L T D D′ c v r → Told f Q (parseBaseAndIndexRegisters s o shape) L T D D′ c v r
+  pub base-end : tokenAt T (c .at) ≡ peeked.End → Told f Q (noBase s shape) L T D D′ c v r → Told f Q (parseBaseAndIndexRegisters s shape) L T D D′ c v r
   unfolding parseBaseAndIndexRegisters
   base-end h g = hereby (done h (done h (whether (λ k x. g) (done h (done h g)))))

@@ -15,7 +15,7 @@ use Rattle.names.specs.declared.numbers.Number.{Number}
 use Rattle.names.specs.declared.sizes.SizeSuffix.{SizeSuffix}
 use Rattle.names.specs.declared.tokens.Token.{Token}
 use Rattle.records.specs.Spans.{span, spanOf}
-use Rattle.records.specs.Diagnostics.{diagnostic, numberTooLarge}
+use Rattle.records.specs.Diagnostics.{diagnostic, runStart, numberTooLarge}
 use Rattle.expressions.specs.Expressions.{suffixed, known, suffixRun, valued}
 use Rattle.expressions.specs.Reader.{raise, answer}
 use Rattle.records.specs.declared.spans.Span.{Span}
@@ -53,12 +53,12 @@ module _ (L T D D′ : List ℕ) (c : Counters) (from : ℕ) (t : Token) {run : 
       unchosen (leb 2 (length (runOf (textOf L (t .start) (t .end))))) _ (rw (sym e) (lt-leb 2 (length run) n))
       (rw z (answered (v ∙ rw h) w refl))
 
-  pub suffix-unknown : length run < 2 → s ≡ spanOf t → sizeOf (runOf (textOf L (t .start) (t .end))) ≡ SizeSuffix.Not → {x : Diagnostic} {m : Counters} → x ≡ diagnostic 2 0 0 s (span (t .start + 1) (t .end)) → Raised D D′ c x m → Unknown r m s
+  pub suffix-unknown : length run < 2 → s ≡ spanOf t → sizeOf (runOf (textOf L (t .start) (t .end))) ≡ SizeSuffix.Not → {x : Diagnostic} {m : Counters} → {w : Span} → w ≡ span (runStart s) (s .end) → x ≡ diagnostic 2 0 0 s w → Raised D D′ c x m → Unknown r m s
       → Told suffixRead (Same (c .nodes)) (suffixRun from t (runOf (textOf L (t .start) (t .end)))) L T D D′ c (r .suffix) (r .counters)
   unfolding suffixRun known
-  suffix-unknown n h z w g u =
+  suffix-unknown n h z q w g u =
       unchosen (leb 2 (length (runOf (textOf L (t .start) (t .end))))) _ (rw (sym e) (lt-leb 2 (length run) n))
-      (rw z (unknown-told t h (w ∙ rw h) g u))
+      (rw z (unknown-told t h (w ∙ rw (q, h)) g u))
 
 -- ---- a scale
 

@@ -21,6 +21,7 @@ use Rattle.expressions.specs.Laws.{holds}
 use Rattle.records.specs.declared.spans.Span.{Span}
 use Rattle.records.specs.declared.diagnostics.Diagnostic.{Diagnostic}
 use Rattle.records.specs.declared.counters.Counters.{Counters}
+use Rattle.expressions.specs.declared.reading.Setting.{Setting}
 use Rattle.operand.specs.Operands.{Displacement, displaced, undisplaced, Operand, Maybe, some, none}
 use Rattle.operand.specs.Operands as O
 use Rattle.operand.specs.Operand.{baseShape, indexedOperand, closedBase, closedCounter, fullIndexed}
@@ -74,58 +75,58 @@ operand-told x y a e k p q = answered (a .0 ∙ ap OperandRead.Is e) (a .1) (k, 
 
 module _ {L T D : List ℕ} {c : Counters} {n : ℕ} {u : OperandRecord} {r : OperandStep} {d : SizedDisplacement} (y : Displacement) (e : sizedOf 0 y ≡ d) (k : c .nodes ≡ n) (a : Answers r u c) where
   -- an index written suppressed makes it a full index
-  pub indexed-full : (o f : ℕ) (base : BaseRegister) (x : IndexRegister) (plain : IndexRegister → Span → Operand) → x .suppressed ≡ true → u ≡ formOf 12 (span o f) d base (Index.Indexed x)
-      → Told operandRead (Kept n y) (indexedOperand o y base plain x (some f)) L T D D c (r .operand) (r .counters)
+  pub indexed-full : (t : Setting) (f : ℕ) (base : BaseRegister) (x : IndexRegister) (plain : IndexRegister → Span → Operand) → x .suppressed ≡ true → u ≡ formOf 12 (span (t .start) f) d base (Index.Indexed x)
+      → Told operandRead (Kept n y) (indexedOperand t y base plain x (some f)) L T D D c (r .operand) (r .counters)
   unfolding indexedOperand recordOf sizeO nodesO sizedOf nodesD sizeD
-  indexed-full o f base x plain s w =
-      let full = O.fullIndex y base (Index.Indexed x) 0 undisplaced (span o f) in
-      renamed (ap (λ b. answer (some (pick b full (plain x (span o f))))) (sym s)) (operand-told full y a (w ∙ rw (sym e)) k (append-nil (nodesD 0 y)) (omega arith))
+  indexed-full t f base x plain s w =
+      let full = O.fullIndex y base (Index.Indexed x) 0 undisplaced (span (t .start) f) in
+      renamed (ap (λ b. answer (some (pick b full (plain x (span (t .start) f))))) (sym s)) (operand-told full y a (w ∙ rw (sym e)) k (append-nil (nodesD 0 y)) (omega arith))
 
-  pub indexed-plain : (o f form : ℕ) (base : BaseRegister) (x : IndexRegister) (plain : IndexRegister → Span → Operand) → x .suppressed ≡ false → u ≡ formOf form (span o f) d base (Index.Indexed x) → Plain form d base y plain
-      → Told operandRead (Kept n y) (indexedOperand o y base plain x (some f)) L T D D c (r .operand) (r .counters)
+  pub indexed-plain : (t : Setting) (f form : ℕ) (base : BaseRegister) (x : IndexRegister) (plain : IndexRegister → Span → Operand) → x .suppressed ≡ false → u ≡ formOf form (span (t .start) f) d base (Index.Indexed x) → Plain form d base y plain
+      → Told operandRead (Kept n y) (indexedOperand t y base plain x (some f)) L T D D c (r .operand) (r .counters)
   unfolding indexedOperand
-  indexed-plain o f form base x plain s w g =
-      let h = g x (span o f) in
-      let full = O.fullIndex y base (Index.Indexed x) 0 undisplaced (span o f) in
-      renamed (ap (λ b. answer (some (pick b full (plain x (span o f))))) (sym s)) (operand-told (plain x (span o f)) y a (w ∙ sym (h .0)) k (h .1) (h .2))
+  indexed-plain t f form base x plain s w g =
+      let h = g x (span (t .start) f) in
+      let full = O.fullIndex y base (Index.Indexed x) 0 undisplaced (span (t .start) f) in
+      renamed (ap (λ b. answer (some (pick b full (plain x (span (t .start) f))))) (sym s)) (operand-told (plain x (span (t .start) f)) y a (w ∙ sym (h .0)) k (h .1) (h .2))
 
 -- ---- a base alone
 
-module _ {L T D : List ℕ} {c : Counters} {n : ℕ} {u : OperandRecord} {r : OperandStep} {d : SizedDisplacement} (o : ℕ) (q : Register) (close : Token) where
-  pub base-displaced : (y : Displacement) {x : Sized} → sizedOf 0 y ≡ d → Unsized y → d ≡ SizedDisplacement.Is x → c .nodes ≡ n → Answers r u c → u ≡ formOf 8 (span o (close .end)) d (BaseRegister.Address q) Index.Unindexed
-      → Told operandRead (Kept n y) (closedBase o q y close) L T D D c (r .operand) (r .counters)
+module _ {L T D : List ℕ} {c : Counters} {n : ℕ} {u : OperandRecord} {r : OperandStep} {d : SizedDisplacement} (t₀ : Setting) (q : Register) (close : Token) where
+  pub base-displaced : (y : Displacement) {x : Sized} → sizedOf 0 y ≡ d → Unsized y → d ≡ SizedDisplacement.Is x → c .nodes ≡ n → Answers r u c → u ≡ formOf 8 (span (t₀ .start) (close .end)) d (BaseRegister.Address q) Index.Unindexed
+      → Told operandRead (Kept n y) (closedBase t₀ q y close) L T D D c (r .operand) (r .counters)
   unfolding closedBase recordOf sizeO nodesO nodesD sizeD Unsized
-  base-displaced (displaced e m) h z i k a w = operand-told (O.displacement e q (span o (close .end))) (displaced e m) a (w ∙ rw (sym h, z)) k refl refl
+  base-displaced (displaced e m) h z i k a w = operand-told (O.displacement e q (span (t₀ .start) (close .end))) (displaced e m) a (w ∙ rw (sym h, z)) k refl refl
   base-displaced undisplaced h z i k a w = absurd (not-displaced (h ∙ i))
 
-  pub base-indirect : (y : Displacement) → sizedOf 0 y ≡ d → d ≡ SizedDisplacement.Not → c .nodes ≡ n → Answers r u c → u ≡ formOf 5 (span o (close .end)) d (BaseRegister.Address q) Index.Unindexed → holds (is Kinds.plus) (place L T (c .at)) ≡ false
-      → Told operandRead (Kept n y) (closedBase o q y close) L T D D c (r .operand) (r .counters)
+  pub base-indirect : (y : Displacement) → sizedOf 0 y ≡ d → d ≡ SizedDisplacement.Not → c .nodes ≡ n → Answers r u c → u ≡ formOf 5 (span (t₀ .start) (close .end)) d (BaseRegister.Address q) Index.Unindexed → holds (is Kinds.plus) (place L T (c .at)) ≡ false
+      → Told operandRead (Kept n y) (closedBase t₀ q y close) L T D D c (r .operand) (r .counters)
   unfolding closedBase recordOf sizeO nodesO nodesD sizeD
   base-indirect (displaced e m) h i k a w g = absurd (not-undisplaced e m (h ∙ i))
-  base-indirect undisplaced h i k a w g = missed g (operand-told (O.indirect q (span o (close .end))) undisplaced a (w ∙ rw i) k refl refl)
+  base-indirect undisplaced h i k a w g = missed g (operand-told (O.indirect q (span (t₀ .start) (close .end))) undisplaced a (w ∙ rw i) k refl refl)
 
-  pub base-postincrement : (y : Displacement) {t : Token} {c₁ : Counters} → sizedOf 0 y ≡ d → d ≡ SizedDisplacement.Not → c₁ .nodes ≡ n → Answers r u c → u ≡ formOf 6 (span o (t .end)) d (BaseRegister.Address q) Index.Unindexed
+  pub base-postincrement : (y : Displacement) {t : Token} {c₁ : Counters} → sizedOf 0 y ≡ d → d ≡ SizedDisplacement.Not → c₁ .nodes ≡ n → Answers r u c → u ≡ formOf 6 (span (t₀ .start) (t .end)) d (BaseRegister.Address q) Index.Unindexed
       → tokenAt T (c₁ .at) ≡ peeked.Is t → t .kind ≡ Kinds.plus → c ≡ stepped c₁ t
-      → Told operandRead (Kept n y) (closedBase o q y close) L T D D c₁ (r .operand) (r .counters)
+      → Told operandRead (Kept n y) (closedBase t₀ q y close) L T D D c₁ (r .operand) (r .counters)
   unfolding closedBase recordOf sizeO nodesO nodesD sizeD
   base-postincrement (displaced e m) h i k a w g f s = absurd (not-undisplaced e m (h ∙ i))
   base-postincrement undisplaced {t} h i k a w g f s =
-      hit g (eq-eqb (t .kind) Kinds.plus f) s (operand-told (O.postincrement q (span o (t .end))) undisplaced a (w ∙ rw i) (ap (λ z. z .nodes) s ∙ k) refl refl)
+      hit g (eq-eqb (t .kind) Kinds.plus f) s (operand-told (O.postincrement q (span (t₀ .start) (t .end))) undisplaced a (w ∙ rw i) (ap (λ z. z .nodes) s ∙ k) refl refl)
 
 -- ---- the program counter alone
 
-module _ {L T : List ℕ} {c : Counters} {n : ℕ} {r : OperandStep} {d : SizedDisplacement} (o : ℕ) (close : Token) where
-  pub counter-displaced : {D : List ℕ} {u : OperandRecord} (y : Displacement) {x : Sized} → sizedOf 0 y ≡ d → Unsized y → d ≡ SizedDisplacement.Is x → c .nodes ≡ n → Answers r u c → u ≡ formOf 10 (span o (close .end)) d BaseRegister.ProgramCounter Index.Unindexed
-      → Told operandRead (Kept n y) (closedCounter o y close) L T D D c (r .operand) (r .counters)
+module _ {L T : List ℕ} {c : Counters} {n : ℕ} {r : OperandStep} {d : SizedDisplacement} (t₀ : Setting) (close : Token) where
+  pub counter-displaced : {D : List ℕ} {u : OperandRecord} (y : Displacement) {x : Sized} → sizedOf 0 y ≡ d → Unsized y → d ≡ SizedDisplacement.Is x → c .nodes ≡ n → Answers r u c → u ≡ formOf 10 (span (t₀ .start) (close .end)) d BaseRegister.ProgramCounter Index.Unindexed
+      → Told operandRead (Kept n y) (closedCounter t₀ y close) L T D D c (r .operand) (r .counters)
   unfolding closedCounter recordOf sizeO nodesO nodesD sizeD Unsized
-  counter-displaced (displaced e m) h z i k a w = operand-told (O.pcDisplacement e (span o (close .end))) (displaced e m) a (w ∙ rw (sym h, z)) k refl refl
+  counter-displaced (displaced e m) h z i k a w = operand-told (O.pcDisplacement e (span (t₀ .start) (close .end))) (displaced e m) a (w ∙ rw (sym h, z)) k refl refl
   counter-displaced undisplaced h z i k a w = absurd (not-displaced (h ∙ i))
 
-  pub counter-alone : {D D′ : List ℕ} {m : Counters} (y : Displacement) → sizedOf 0 y ≡ d → d ≡ SizedDisplacement.Not → Raised D D′ c (malformedOperand 7 4 (span o (c .end)) noSpan) m → r .operand ≡ OperandRead.Not → r .counters ≡ m → c .nodes ≡ n
-      → Told operandRead (Kept n y) (closedCounter o y close) L T D D′ c (r .operand) (r .counters)
+  pub counter-alone : {D D′ : List ℕ} {m : Counters} (y : Displacement) → sizedOf 0 y ≡ d → d ≡ SizedDisplacement.Not → Raised D D′ c (malformedOperand 7 4 (span (t₀ .start) (c .end)) noSpan) m → r .operand ≡ OperandRead.Not → r .counters ≡ m → c .nodes ≡ n
+      → Told operandRead (Kept n y) (closedCounter t₀ y close) L T D D′ c (r .operand) (r .counters)
   unfolding closedCounter operandRead HeldBy
   counter-alone (displaced e m) h i g a b k = absurd (not-undisplaced e m (h ∙ i))
-  counter-alone undisplaced h i g a b k = failed-malformed o 7 4 g a b (raised-same g ∙ k, tt)
+  counter-alone undisplaced h i g a b k = failed-malformed t₀ 7 4 g a b (raised-same g ∙ k, tt)
 
 -- ---- from a call
 
@@ -134,7 +135,7 @@ pub kept-from : {p : Reader (Maybe Operand)} {L T D D′ : List ℕ} {n m : ℕ}
 kept-from y e h = reheld (λ a q. (q .0 ∙ e, q .1)) h
 
 -- the shape is that of the definition's displacement
-pub unclosed-shape : {D D′ : List ℕ} {c m : Counters} {sh shape : ℕ} (problem o : ℕ) (z : Span) → sh ≡ shape → Raised D D′ c (malformedOpen sh problem (span o (c .end)) z) m → Raised D D′ c (malformedOpen shape problem (span o (c .end)) z) m
+pub unclosed-shape : {D D′ : List ℕ} {c m : Counters} {sh shape : ℕ} (problem : ℕ) (o : ℕ) (z : Span) → sh ≡ shape → Raised D D′ c (malformedOpen sh problem (span o (c .end)) z) m → Raised D D′ c (malformedOpen shape problem (span o (c .end)) z) m
 unclosed-shape {c = c} problem o z e h = raised-as (ap (λ w. malformedOpen w problem (span o (c .end)) z) e) h
 
 pub register-shape : {D D′ : List ℕ} {c m : Counters} {sh shape : ℕ} (o : ℕ) (z : Span) → sh ≡ shape → Raised D D′ c (malformedOperand sh 2 (span o (c .end)) z) m → Raised D D′ c (malformedOperand shape 2 (span o (c .end)) z) m
@@ -154,10 +155,10 @@ pub no-operand-held : {D D′ : List ℕ} {c : Counters} {x : Diagnostic} {m : C
 unfolding HeldBy
 no-operand-held y h = (raised-same h, tt)
 
-pub full-index-told : {L T D : List ℕ} {c : Counters} {n : ℕ} {u : OperandRecord} {r : OperandStep} {d : SizedDisplacement} (y : Displacement) (o f : ℕ) (x : Registers) → sizedOf 0 y ≡ d → c .nodes ≡ n → Answers r u c → u ≡ formOf 12 (span o f) d (x .base) (x .index)
-    → Told operandRead (Kept n y) (fullIndexed o y x (some f)) L T D D c (r .operand) (r .counters)
+pub full-index-told : {L T D : List ℕ} {c : Counters} {n : ℕ} {u : OperandRecord} {r : OperandStep} {d : SizedDisplacement} (y : Displacement) (t : Setting) (f : ℕ) (x : Registers) → sizedOf 0 y ≡ d → c .nodes ≡ n → Answers r u c → u ≡ formOf 12 (span (t .start) f) d (x .base) (x .index)
+    → Told operandRead (Kept n y) (fullIndexed t y x (some f)) L T D D c (r .operand) (r .counters)
 unfolding fullIndexed recordOf sizeO nodesO sizedOf nodesD sizeD
-full-index-told y o f x e k a w = operand-told (O.fullIndex y (x .base) (x .index) 0 undisplaced (span o f)) y a (w ∙ rw (sym e)) k (append-nil (nodesD 0 y)) (omega arith)
+full-index-told y t f x e k a w = operand-told (O.fullIndex y (x .base) (x .index) 0 undisplaced (span (t .start) f)) y a (w ∙ rw (sym e)) k (append-nil (nodesD 0 y)) (omega arith)
 
 pub no-operand-behind : {D D′ : List ℕ} {c : Counters} {x : Diagnostic} {m : Counters} {n : ℕ} (y : Displacement) → c .nodes ≡ n → Raised D D′ c x m → Kept n y none m
 unfolding HeldBy

@@ -19,10 +19,9 @@ use Rattle.records.specs.declared.counters.Counters.{Counters}
 use Rattle.expressions.specs.Expressions.{fuel}
 use Rattle.expressions.specs.Laws.{holds}
 use Rattle.expressions.specs.Reader.{is, _>>=_, run}
-use Rattle.records.specs.Stores.{nodeBytes}
-use Rattle.operand.specs.Clearing.{all-records}
 use Rattle.records.specs.Counting.{stepped}
 use Rattle.terms.specs.Terms.{NodeTold}
+use Rattle.expressions.specs.declared.reading.Setting.{Setting}
 use Rattle.operand.specs.Operands.{RegisterListItem, single, range, Operand, Maybe, some, none}
 use Rattle.operand.specs.Operand.{registerFrom, registerExpected, listItem, listed, nextItem, listLoop, parseRegisterList}
 use Rattle.operand.specs.Records.{itemRecord, itemRecords, sizeO, nodesO}
@@ -30,7 +29,8 @@ use Rattle.operand.specs.Mask.{bitsFrom, itemBits}
 use Rattle.operand.specs.Mask as M
 use Rattle.operand.specs.Forms.{recordOf, operandRead}
 use Rattle.operand.specs.Fuel.{list-equation}
-use Rattle.parser.specs.Steps.{Room, Told, HeldBy, Stored, OperandTold}
+use Rattle.records.specs.Rooms.{Room}
+use Rattle.parser.specs.Steps.{Told, HeldBy, Stored, OperandTold}
 use Rattle.parser.specs.Items.{RegisterTold, found, missing, itemOf, itemRead, Behind, ItemHeld, ItemTold, itemBytes, slashed, listStep, ListAsks}
 use Rattle.operand.specs.declared.forms.Register.{Register}
 use Rattle.operand.specs.declared.forms.OperandRead.{OperandRead}
@@ -113,69 +113,68 @@ no-slash L T i e = go (tokenAt T i) refl e
 
 -- ---- the loop
 
-few-fuel : (n : ℕ) → n ≤ 255 → n ≤ fuel
+few-fuel : (n : ℕ) → n ≤ 1023 → n ≤ fuel
 unfolding fuel
 few-fuel n h = omega arith
 
-looped : {Q : Maybe Operand → Counters → Type 0} {L T D D′ : List ℕ} {c : Counters} {v : OperandRead} {s : Counters} (o : ℕ) (items : List RegisterListItem) (r : Register) → count T ≤ 255
-    → Told operandRead Q (listItem r >>= nextItem (listLoop fuel o) o items) L T D D′ c v s → Told operandRead Q (listLoop fuel o items r) L T D D′ c v s
-looped {L = L} {T = T} {c = c} o items r few h =
-    retold (list-equation (place L T) (count T) (λ j k x g. below L T j k x g) (few-fuel (count T) few) o items r (c .at) (c .end)) refl h
+looped : {Q : Maybe Operand → Counters → Type 0} {L T D D′ : List ℕ} {c : Counters} {v : OperandRead} {s : Counters} (t₀ : Setting) (items : List RegisterListItem) (r : Register) → count T ≤ 1023
+    → Told operandRead Q (listItem r >>= nextItem (listLoop fuel t₀) t₀ items) L T D D′ c v s → Told operandRead Q (listLoop fuel t₀ items r) L T D D′ c v s
+looped {L = L} {T = T} {c = c} t₀ items r few h =
+    retold (list-equation (place L T) (count T) (λ j k x g. below L T j k x g) (few-fuel (count T) few) t₀ items r (c .at) (c .end)) refl h
 
 -- before a turn that begins with the register r: what the rest of the list tells, the whole tells
-pub record Going (L T N₀ D₀ N D : List ℕ) (c : Counters) (o : ℕ) (first : Register) (mask : ℕ) (e : Counters) (r : Register) : Type 0 where
+pub record Going (L T N₀ D₀ N D : List ℕ) (c : Counters) (t₀ : Setting) (first : Register) (mask : ℕ) (e : Counters) (r : Register) : Type 0 where
   pub items : List RegisterListItem
   pub joined : mask ≡ M.mask items
   pub total : e .nodes ≡ length items
-  pub bytes : take (14 * e .nodes) N ≡ itemRecords items
-  pub past : drop nodeBytes N ≡ drop nodeBytes N₀
+  pub bytes : take (10 * e .nodes) N ≡ itemRecords items
   pub long : length N ≡ length N₀
   pub wide : length D ≡ length D₀
   pub few : e .nodes < e .at
-  pub room : Room T D e
+  pub spent : e .nodes + c .at ≤ e .at
+  pub room : Room T e 0 1
   pub small : r .index < 16
-  pub whole : (N′ D′ : List ℕ) (v : OperandRead) (s : Counters) → Told operandRead (Stored N′) (listLoop fuel o items r) L T D D′ e v s
-      → Told operandRead (Stored N′) (listLoop fuel o [] first) L T D₀ D′ c v s
+  pub whole : (N′ D′ : List ℕ) (v : OperandRead) (s : Counters) → Told operandRead (Stored N′) (listLoop fuel t₀ items r) L T D D′ e v s
+      → Told operandRead (Stored N′) (listLoop fuel t₀ [] first) L T D₀ D′ c v s
 
-pub started : {L T N D : List ℕ} {c : Counters} {o : ℕ} {first : Register} → ListAsks T N D c first → Going L T N D N D c o first 0 c first
+pub started : {L T N D : List ℕ} {c : Counters} {t₀ : Setting} {first : Register} → ListAsks T N c first → Going L T N D N D c t₀ first 0 c first
 unfolding M.mask itemRecords
 started h = record {
   items = [];
   joined = refl;
   total = h .none;
   bytes = rw (h .none);
-  past = refl;
   long = refl;
   wide = refl;
   few = omega arith;
+  spent = omega (arith, h .none);
   room = h .room;
   small = h .small;
   whole = λ N′ D′ v s t. t;
 }
 
 -- behind an item, whose node is put
-pub record Reached (L T N₀ D₀ N D : List ℕ) (c : Counters) (o : ℕ) (first : Register) (mask : ℕ) (e : Counters) : Type 0 where
+pub record Reached (L T N₀ D₀ N D : List ℕ) (c : Counters) (t₀ : Setting) (first : Register) (mask : ℕ) (e : Counters) : Type 0 where
   pub items : List RegisterListItem
   pub item : RegisterListItem
   pub joined : mask ≡ M.mask (items ++ (item ∷ []))
   pub total : e .nodes ≡ length (items ++ (item ∷ []))
-  pub bytes : take (14 * e .nodes) N ≡ itemRecords (items ++ (item ∷ []))
-  pub past : drop nodeBytes N ≡ drop nodeBytes N₀
+  pub bytes : take (10 * e .nodes) N ≡ itemRecords (items ++ (item ∷ []))
   pub few : e .nodes ≤ e .at
-  pub room : Room T D e
-  pub whole : (N′ D′ : List ℕ) (v : OperandRead) (s : Counters) → Told operandRead (Stored N′) (nextItem (listLoop fuel o) o items (some item)) L T D D′ e v s
-      → Told operandRead (Stored N′) (listLoop fuel o [] first) L T D₀ D′ c v s
+  pub spent : e .nodes + c .at ≤ e .at + 1
+  pub room : Room T e 0 1
+  pub whole : (N′ D′ : List ℕ) (v : OperandRead) (s : Counters) → Told operandRead (Stored N′) (nextItem (listLoop fuel t₀) t₀ items (some item)) L T D D′ e v s
+      → Told operandRead (Stored N′) (listLoop fuel t₀ [] first) L T D₀ D′ c v s
 
-module _ {L T N₀ D₀ N D D₁ : List ℕ} {c : Counters} {o : ℕ} {first : Register} {mask : ℕ} {e : Counters} {r : Register} (w : Going L T N₀ D₀ N D c o first mask e r) {i : ItemStep} (h : ItemTold L T D D₁ e r i) where
-  pub ends-none : {s : OperandStep} → i .item ≡ ItemRead.Not → (s .operand ≡ OperandRead.Not) × (s .counters ≡ i .counters) → OperandTold (parseRegisterList o first) L T N₀ D₀ N D₁ c s
+module _ {L T N₀ D₀ N D D₁ : List ℕ} {c : Counters} {t₀ : Setting} {first : Register} {mask : ℕ} {e : Counters} {r : Register} (w : Going L T N₀ D₀ N D c t₀ first mask e r) {i : ItemStep} (h : ItemTold L T D D₁ e r i) where
+  pub ends-none : {s : OperandStep} → i .item ≡ ItemRead.Not → (s .operand ≡ OperandRead.Not) × (s .counters ≡ i .counters) → OperandTold (parseRegisterList t₀ first) L T D₀ N D₁ c s
   unfolding parseRegisterList nextItem operandRead HeldBy
   ends-none k g = record {
-    told = w .whole N D₁ _ _ (looped o (w .items) r (w .room .few) (bound h (item-none _ (sym k ∙ h .what)) (answered (g .0) (g .1) tt)));
-    past = w .past;
+    told = w .whole N D₁ _ _ (looped t₀ (w .items) r (w .room .few) (bound h (item-none _ (sym k ∙ h .what)) (answered (g .0) (g .1) tt)));
   }
 
   pub reached : {y : Item} {N₁ : List ℕ} {bits : ℕ} {g : Counters} → i .item ≡ ItemRead.Is y → length D₁ ≡ length D → NodeTold N N₁ (i .counters) (itemBytes y) g
-      → bits ≡ bitsFrom (y .from .index) (y .to .index + 1 - y .from .index) → Reached L T N₀ D₀ N₁ D₁ c o first (bitOr mask bits) g
+      → bits ≡ bitsFrom (y .from .index) (y .to .index + 1 - y .from .index) → Reached L T N₀ D₀ N₁ D₁ c t₀ first (bitOr mask bits) g
   reached {y} {N₁} {bits} {g} k d n b =
       let x = item-is _ y (sym k ∙ h .what) in
       let q = item-behind r h k in
@@ -186,27 +185,26 @@ module _ {L T N₀ D₀ N D D₁ : List ℕ} {c : Counters} {o : ℕ} {first : R
         joined = ap₂ bitOr (w .joined) (b ∙ ap (λ z. bitsFrom (z .from .index) (z .to .index + 1 - z .from .index)) (sym (x .same)) ∙ item-bits (x .item)) ∙ sym (mask-more (w .items) (x .item));
         total = rw length-append (omega (arith, w .total));
         bytes = n .put .bytes
-            ∙ ap₂ _++_ (ap (λ m. take (14 * m) N) (q .same) ∙ w .bytes) (ap itemBytes (sym (x .same)) ∙ item-bytes (x .item))
+            ∙ ap₂ _++_ (ap (λ m. take (10 * m) N) (q .same) ∙ w .bytes) (ap itemBytes (sym (x .same)) ∙ item-bytes (x .item))
             ∙ sym (records-more (w .items) (x .item));
-        past = subst (λ z. drop z N₁ ≡ drop z N) all-records (n .put .past 255 (omega (arith, w .few, w .room .within, w .room .few, q .same))) ∙ w .past;
         few = omega (arith, w .few, n .at);
-        room = room-on (w .room) d (omega (arith, n .at)) (omega (arith, n .at, n .seen));
-        whole = λ N′ D′ v s t. w .whole N′ D′ v s (looped o (w .items) r (w .room .few) (bound h (x .is-some)
-            (retold (ap₂ (λ a z. run (nextItem (listLoop fuel o) o (w .items) (some (x .item))) (place L T) a z) (sym (n .at)) (sym (n .end))) (n .seen) t)));
+        spent = omega (arith, w .spent, n .at);
+        room = room-on (w .room) (omega (arith, n .at)) (omega (arith, n .at, n .seen));
+        whole = λ N′ D′ v s t. w .whole N′ D′ v s (looped t₀ (w .items) r (w .room .few) (bound h (x .is-some)
+            (retold (ap₂ (λ a z. run (nextItem (listLoop fuel t₀) t₀ (w .items) (some (x .item))) (place L T) a z) (sym (n .at)) (sym (n .end))) (n .seen) t)));
       }
 
-module _ {L T N₀ D₀ N D : List ℕ} {c : Counters} {o : ℕ} {first : Register} {mask : ℕ} {e : Counters} (w : Reached L T N₀ D₀ N D c o first mask e) where
-  pub ends : {s : OperandStep} → peeked.End ≡ slashed (tokenAt T (e .at)) → s ≡ listStep o e mask → OperandTold (parseRegisterList o first) L T N₀ D₀ N D c s
+module _ {L T N₀ D₀ N D : List ℕ} {c : Counters} {t₀ : Setting} {first : Register} {mask : ℕ} {e : Counters} (w : Reached L T N₀ D₀ N D c t₀ first mask e) where
+  pub ends : {s : OperandStep} → peeked.End ≡ slashed (tokenAt T (e .at)) → s ≡ listStep (t₀ .start) e mask → OperandTold (parseRegisterList t₀ first) L T D₀ N D c s
   unfolding parseRegisterList nextItem listed operandRead recordOf HeldBy nodesO sizeO
   ends h g = record {
     told = w .whole N D _ _ (missed (no-slash L T (e .at) h)
-        (hereby (answered (ap (λ z. z .operand) g ∙ ap (λ m. listStep o e m .operand) (w .joined)) (ap (λ z. z .counters) g) (sym (w .bytes), sym (w .total)))));
-    past = w .past;
+        (hereby (answered (ap (λ z. z .operand) g ∙ ap (λ m. listStep (t₀ .start) e m .operand) (w .joined)) (ap (λ z. z .counters) g) (sym (w .bytes), sym (w .total)))));
   }
 
   module _ {D₁ : List ℕ} {t : Token} {c₁ : Counters} {u : RegisterStep} (h : peeked.Is t ≡ slashed (tokenAt T (e .at))) (k : c₁ ≡ stepped e t) where
     pub ends-expected : {s : OperandStep} → RegisterTold L T D D₁ c₁ 47 u → u .register ≡ RegisterRead.Not → (s .operand ≡ OperandRead.Not) × (s .counters ≡ u .counters)
-        → OperandTold (parseRegisterList o first) L T N₀ D₀ N D₁ c s
+        → OperandTold (parseRegisterList t₀ first) L T D₀ N D₁ c s
     unfolding parseRegisterList nextItem operandRead HeldBy
     ends-expected (found t₂ n h₂ g a b d) r z = let y : _≡_ {A = ℕ} 0 1 = cc in absurd (omega arith)
     ends-expected {s} (missing g a f) r z =
@@ -214,10 +212,9 @@ module _ {L T N₀ D₀ N D : List ℕ} {c : Counters} {o : ℕ} {first : Regist
         record {
           told = w .whole N D₁ _ _ (hit (p .0) (p .1) k (missed g
               (subst (λ j. Told operandRead (Stored N) (registerExpected 47) L T D D₁ c₁ (s .operand) j) (sym (z .1)) (expected 47 f (z .0) tt))));
-          past = w .past;
         }
 
-    pub again : {q : Register} → RegisterTold L T D D₁ c₁ 47 u → u .register ≡ RegisterRead.Is q → length N ≡ length N₀ → length D₁ ≡ length D₀ → Going L T N₀ D₀ N D₁ c o first mask (u .counters) q
+    pub again : {q : Register} → RegisterTold L T D D₁ c₁ 47 u → u .register ≡ RegisterRead.Is q → length N ≡ length N₀ → length D₁ ≡ length D₀ → Going L T N₀ D₀ N D₁ c t₀ first mask (u .counters) q
     unfolding nextItem
     again {q} (found t₂ n h₂ g a b d) r l m =
         let p = slash-is (tokenAt T (e .at)) t h in
@@ -233,15 +230,15 @@ module _ {L T N₀ D₀ N D : List ℕ} {c : Counters} {o : ℕ} {first : Regist
           items = w .items ++ (w .item ∷ []);
           joined = w .joined;
           total = nodes ∙ w .total;
-          bytes = ap (λ m. take (14 * m) N) nodes ∙ w .bytes;
-          past = w .past;
+          bytes = ap (λ m. take (10 * m) N) nodes ∙ w .bytes;
           long = l;
           wide = m;
           few = omega (arith, w .few);
-          room = room-on (w .room) (ap length d) (v .within) (omega arith);
+          spent = omega (arith, w .spent);
+          room = room-on (w .room) (v .within) (omega arith);
           small = v .small;
           whole = λ N′ D′ x s f. w .whole N′ D′ x s (hit (p .0) (p .1) k (hit h₂ (y .passes) b
-              (subst (λ E. Told operandRead (Stored N′) (listLoop fuel o (w .items ++ (w .item ∷ [])) (registerFrom t₂ (textOf L (t₂ .start) (t₂ .end)))) L T E D′ (u .counters) x s) d
-              (subst (λ j. Told operandRead (Stored N′) (listLoop fuel o (w .items ++ (w .item ∷ [])) j) L T D₁ D′ (u .counters) x s) z f))));
+              (subst (λ E. Told operandRead (Stored N′) (listLoop fuel t₀ (w .items ++ (w .item ∷ [])) (registerFrom t₂ (textOf L (t₂ .start) (t₂ .end)))) L T E D′ (u .counters) x s) d
+              (subst (λ j. Told operandRead (Stored N′) (listLoop fuel t₀ (w .items ++ (w .item ∷ [])) j) L T D₁ D′ (u .counters) x s) z f))));
         }
     again (missing g a f) r l m = let z : _≡_ {A = ℕ} 0 1 = cc in absurd (omega arith)

@@ -3,20 +3,18 @@
 use mathlib.Core.Path.{_≡_}
 use mathlib.Core.List.{List, [], _++_}
 use Prim.Native.Nat.{ℕ, _+_, _*_}
-use lib.ListN.{take, drop}
+use lib.ListN.{take}
 use Rattle.names.specs.declared.tokens.Token.{Token}
 use Rattle.expressions.specs.declared.reading.Setting.{Setting}
 use Rattle.records.specs.declared.counters.Counters.{Counters}
 use Rattle.expressions.specs.Expressions.{takeSizeSuffix}
 use Rattle.expressions.specs.Reader.{Reader, _>>=_}
-use Rattle.records.specs.Stores.{nodeBytes}
 use Rattle.expressions.specs.Trees.{Expr}
 use Rattle.operand.specs.Operands.{Displacement, displaced, Operand, Maybe, some, none}
-use Rattle.operand.specs.Operand.{sized, parseSizedDisplacement, parseBaseAndIndexRegisters, Inner, Outer, innerRegisters, innerDisplaced, outerDisplaced, parseOuter, expectClose, memoryIndirect, outerClosed}
+use Rattle.operand.specs.Operand.{sized, Inner, Outer, closeIndirect, afterInner}
 use Rattle.operand.specs.Records.{sizeD, nodesD}
 use Rattle.operand.specs.Forms.{sizedOf, displacementRead, operandRead}
 use Rattle.parser.specs.Steps.{Told, Stored}
-use Rattle.operand.specs.declared.forms.Index.{Index}
 use Rattle.operand.specs.declared.forms.SizedDisplacement.{SizedDisplacement}
 use Rattle.operand.specs.declared.forms.DisplacementStep.{DisplacementStep}
 use Rattle.operand.specs.declared.forms.OperandStep.{OperandStep}
@@ -31,7 +29,7 @@ use Rattle.parser.specs.declared.outer.OuterStep.{OuterStep}
 
 -- the records of a displacement stand from node n on, behind those of N
 pub record StoredD (N N′ : List ℕ) (n : ℕ) (y : Displacement) (c : Counters) : Type 0 where
-  pub bytes : take (14 * c .nodes) N′ ≡ take (14 * n) N ++ nodesD n y
+  pub bytes : take (10 * c .nodes) N′ ≡ take (10 * n) N ++ nodesD n y
   pub total : c .nodes ≡ n + sizeD y
 
 -- the same of an answer, whose displacement is g
@@ -48,7 +46,6 @@ pub record SizedTold (start : ℕ) (L T D D′ : List ℕ) (c : Counters) (r : D
 
 pub record DisplacementTold (p : Reader (Maybe Displacement)) (L T N D N′ D′ : List ℕ) (c : Counters) (r : DisplacementStep) : Type 0 where
   pub told : Told (displacementRead (c .nodes)) (StoredPart (λ y. y) N N′ (c .nodes)) p L T D D′ c (r .displacement) (r .counters)
-  pub past : drop nodeBytes N′ ≡ drop nodeBytes N
 
 -- ---- what stands between the brackets
 
@@ -70,18 +67,6 @@ pub record InnerBehind (p : Displacement → Reader (Maybe Inner)) (L T D D′ :
 
 pub record InnerTold (p : Reader (Maybe Inner)) (L T N D N′ D′ : List ℕ) (c : Counters) (r : InnerStep) : Type 0 where
   pub told : Told (innerRead (c .nodes)) (StoredPart innerD N N′ (c .nodes)) p L T D D′ c (r .inner) (r .counters)
-  pub past : drop nodeBytes N′ ≡ drop nodeBytes N
-
--- the registers, behind the displacement y
-abbrev pub registersBehind : Setting → ℕ → Displacement → Reader (Maybe Inner)
-registersBehind s o y = parseBaseAndIndexRegisters s o 9 >>= innerRegisters y
-
-abbrev pub displacedInner : Setting → ℕ → Displacement → Reader (Maybe Inner)
-displacedInner s o y = innerDisplaced s o (some y)
-
--- a displacement, and what follows it
-abbrev pub innerDisplacement : Setting → ℕ → Reader (Maybe Inner)
-innerDisplacement s o = parseSizedDisplacement s o >>= innerDisplaced s o
 
 -- ---- what stands behind them
 
@@ -97,28 +82,19 @@ outerD x = x .displacement
 
 pub record OuterTold (p : Reader (Maybe Outer)) (L T N D N′ D′ : List ℕ) (c : Counters) (r : OuterStep) : Type 0 where
   pub told : Told (outerRead (c .nodes)) (StoredPart outerD N N′ (c .nodes)) p L T D D′ c (r .outer) (r .counters)
-  pub past : drop nodeBytes N′ ≡ drop nodeBytes N
-
-abbrev pub outerDisplacement : Setting → ℕ → Index → ℕ → Reader (Maybe Outer)
-outerDisplacement s o x n = parseSizedDisplacement s o >>= outerDisplaced x n
 
 -- ---- the operand
 
 -- both displacements' trees, from node 0 on
 pub record StoredBoth (N : List ℕ) (d e : Displacement) (c : Counters) : Type 0 where
-  pub bytes : take (14 * c .nodes) N ≡ nodesD 0 d ++ nodesD (sizeD d) e
+  pub bytes : take (10 * c .nodes) N ≡ nodesD 0 d ++ nodesD (sizeD d) e
   pub total : c .nodes ≡ sizeD d + sizeD e
 
--- the parenthesis
-abbrev pub closeIndirect : ℕ → Token → Inner → Outer → Reader (Maybe Operand)
-closeIndirect o k n u = expectClose o k 9 >>= memoryIndirect o n u
-
-pub record ClosedTold (o : ℕ) (k : Token) (T D D′ : List ℕ) (c : Counters) (n : InnerPart) (u : OuterPart) (r : OperandStep) : Type 0 where
+pub record ClosedTold (s : Setting) (k : Token) (T D D′ : List ℕ) (c : Counters) (n : InnerPart) (u : OuterPart) (r : OperandStep) : Type 0 where
   pub told : (L N : List ℕ) (x : Inner) (y : Outer) → innerOf 0 x ≡ n → outerOf (sizeD (x .displacement)) y ≡ u → StoredBoth N (x .displacement) (y .displacement) c
-      → Told operandRead (Stored N) (closeIndirect o k x y) L T D D′ c (r .operand) (r .counters)
+      → Told operandRead (Stored N) (closeIndirect s k x y) L T D D′ c (r .operand) (r .counters)
 
 -- behind the bracket that closes the inner part n
-pub record BehindTold (s : Setting) (o : ℕ) (k : Token) (L T N D N′ D′ : List ℕ) (c : Counters) (n : InnerPart) (r : OperandStep) : Type 0 where
+pub record BehindTold (s : Setting) (k : Token) (L T N D N′ D′ : List ℕ) (c : Counters) (n : InnerPart) (r : OperandStep) : Type 0 where
   pub told : (x : Inner) → innerOf 0 x ≡ n → StoredD [] N 0 (x .displacement) c
-      → Told operandRead (Stored N′) (parseOuter s o (x .registers .index) >>= outerClosed o k x) L T D D′ c (r .operand) (r .counters)
-  pub past : drop nodeBytes N′ ≡ drop nodeBytes N
+      → Told operandRead (Stored N′) (afterInner s k x) L T D D′ c (r .operand) (r .counters)

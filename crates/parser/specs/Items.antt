@@ -3,7 +3,7 @@
 use mathlib.Core.Path.{_≡_}
 use mathlib.Core.Bool.{false}
 use mathlib.Core.List.{List, [], _∷_}
-use Prim.Native.Nat.{ℕ, _+_, _≤_, _<_}
+use Prim.Native.Nat.{ℕ, _+_, _*_, _≤_, _<_}
 use lib.Dec.{eqb}
 use lib.ListN.{length}
 use Rattle.names.specs.Choice.{pick}
@@ -19,11 +19,12 @@ use Rattle.records.specs.declared.spans.Span.{Span}
 use Rattle.records.specs.declared.counters.Counters.{Counters}
 use Rattle.records.specs.Diagnostics.{registerExpectedInRegisterList, registerRangeOutOfOrder}
 use Rattle.expressions.specs.Laws.{holds}
-use Rattle.records.specs.Nodes.{record14}
+use Rattle.records.specs.Nodes.{nodeRecord}
 use Rattle.records.specs.Counting.{stepped}
 use Rattle.operand.specs.Operands.{RegisterListItem, single, range, Maybe, some, none}
 use Rattle.operand.specs.Operand.{aRegister, listItem}
-use Rattle.parser.specs.Steps.{Room, Raised, Told}
+use Rattle.records.specs.Rooms.{Room}
+use Rattle.parser.specs.Steps.{Raised, Told}
 use Rattle.parser.specs.Tests.{regAt}
 use Rattle.operand.specs.declared.forms.Register.{Register}
 use Rattle.operand.specs.declared.forms.BaseRegister.{BaseRegister}
@@ -91,8 +92,8 @@ ItemTold L T D D′ c r s = Told itemRead (ItemHeld T c) (listItem r) L T D D′
 -- the bytes of its node
 unfoldable pub itemBytes : Item → List ℕ
 itemBytes x =
-    record14 (x .kind) 0 (x .from .index) (x .to .index) (x .span)
-    (x .from .span .start ∷ x .from .span .end ∷ x .to .span .start ∷ x .to .span .end ∷ 0 ∷ 0 ∷ 0 ∷ 0 ∷ [])
+    nodeRecord (x .kind) 0 (x .from .index) (x .to .index) (x .span)
+    (x .from .span .start ∷ x .from .span .end ∷ x .to .span .start ∷ x .to .span .end ∷ [])
 
 -- ---- the list
 
@@ -102,15 +103,15 @@ slashed (peeked.Is t) = pick (eqb (t .kind) Kinds.slash) (peeked.Is t) peeked.En
 slashed peeked.End = peeked.End
 
 abbrev pub listStep : ℕ → Counters → ℕ → OperandStep
-listStep o c mask = record {
-  operand = OperandRead.Is (record { form = 14; span = span o (c .end); displacement = SizedDisplacement.Is (record { node = 0; size = 0 }); base = BaseRegister.Omitted; index = Index.Unindexed; indirection = 0; outer = SizedDisplacement.Not; special = 0; mask = mask });
+listStep s c mask = record {
+  operand = OperandRead.Is (record { form = 14; span = span s (c .end); displacement = SizedDisplacement.Is (record { node = 0; size = 0 }); base = BaseRegister.Omitted; index = Index.Unindexed; indirection = 0; outer = SizedDisplacement.Not; special = 0; mask = mask });
   counters = c;
 }
 
 -- from no node on, behind the first register
-pub record ListAsks (T N D : List ℕ) (c : Counters) (first : Register) : Type 0 where
-  pub room : Room T D c
-  pub long : 3570 ≤ length N
+pub record ListAsks (T N : List ℕ) (c : Counters) (first : Register) : Type 0 where
+  pub room : Room T c 0 1
+  pub long : 10 * count T + 10 ≤ length N + 10 * c .at
   pub none : c .nodes ≡ 0
   pub behind : 0 < c .at
   pub small : first .index < 16

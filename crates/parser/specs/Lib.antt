@@ -4,3 +4,4 @@ pub mod Tests
 pub mod Items
 pub mod Brackets
 pub mod Behind
+pub mod Reading

@@ -1,48 +1,28 @@
--- What the functions ask and tell: the answer, the counters and the diagnostics, by the reading that the definition gives.
+-- What the functions tell: the answer, the counters and the diagnostics, by the reading that the definition gives.
 -- Assumes nothing.
 use mathlib.Core.Path.{_≡_}
 use mathlib.Core.List.{List, [], _++_}
-use Prim.Native.Nat.{ℕ, _+_, _*_, _≤_, _<_}
-use lib.ListN.{length, take, drop}
-use Rattle.names.specs.Kinds
-use Rattle.names.specs.Tokens.{count, tokenAt}
+use Prim.Native.Nat.{ℕ, _+_, _*_}
+use lib.ListN.{length, take}
+use Rattle.names.specs.Tokens.{tokenAt}
 use Rattle.names.specs.Places.{place}
 use Rattle.names.specs.declared.tokens.Token.{Token}
 use Rattle.names.specs.declared.tokens.Peeked.the-variants as peeked
 use Rattle.records.specs.declared.diagnostics.Diagnostic.{Diagnostic}
 use Rattle.records.specs.declared.counters.Counters.{Counters}
 use Rattle.records.specs.Diagnostics.{diagnosticRecord}
-use Rattle.expressions.specs.Reader.{is, Reading, Reader, answer, bump, run, _>>=_}
-use Rattle.records.specs.Stores.{written, nodeBytes, added}
+use Rattle.expressions.specs.Reader.{Reader, run}
+use Rattle.records.specs.Stores.{written, added}
 use Rattle.records.specs.Counting.{stepped}
 use Rattle.operand.specs.Operands.{Displacement, displaced, undisplaced, Operand, Maybe, some, none}
-use Rattle.operand.specs.Operand.{registers, expectClose, indexedOperand, closedIndex, indexAlone, parseIndexRegister}
-use Rattle.operand.specs.Records.{sizeD, nodesD, sizeO, nodesO, sizeM}
-use Rattle.operand.specs.Entry.{nodesAfter}
+use Rattle.operand.specs.Records.{sizeD, nodesD, sizeO, nodesO}
 use Rattle.operand.specs.Forms.{sizedOf, formOf, recordOf, operandRead}
 use Rattle.records.specs.declared.spans.Span.{Span}
-use Rattle.expressions.specs.declared.reading.Setting.{Setting}
 use Rattle.operand.specs.declared.forms.IndexRegister.{IndexRegister}
 use Rattle.operand.specs.declared.forms.BaseRegister.{BaseRegister}
 use Rattle.operand.specs.declared.forms.Index.{Index}
-use Rattle.operand.specs.declared.forms.Registers.{Registers}
 use Rattle.operand.specs.declared.forms.SizedDisplacement.{SizedDisplacement}
 use Rattle.operand.specs.declared.forms.OperandStep.{OperandStep}
-
--- ---- what they ask
-
--- a diagnostic for each token that is left, and one more. The run of a size suffix begins behind its first byte, which is a place of the line
-pub record Room (T D : List ℕ) (c : Counters) : Type 0 where
-  pub few : count T ≤ 255
-  pub within : c .at ≤ count T
-  pub room : 10 * c .diagnostics + 10 * count T + 10 ≤ length D + 10 * c .at
-  pub suffixes : (i : ℕ) (t : Token) → tokenAt T i ≡ peeked.Is t → t .kind ≡ Kinds.sizeSuffix → t .start < 255
-
--- and a node for each token that is left
-pub record NodeRoom (T N D : List ℕ) (c : Counters) : Type 0 where
-  pub room : Room T D c
-  pub nodesFit : c .nodes + count T ≤ 255 + c .at
-  pub nodesLong : 3570 ≤ length N
 
 -- ---- what they tell
 
@@ -72,7 +52,7 @@ Same n a r = r .nodes ≡ n
 
 -- ---- operands
 
--- the nodes of an operand are n records, of these bytes
+-- the nodes of an operand are n records, of these numbers
 unfoldable pub HeldBy : List ℕ → ℕ → Maybe Operand → Type 0
 HeldBy b n (some x) = (nodesO x ≡ b) × (sizeO x ≡ n)
 HeldBy b n none = Unit {0}
@@ -103,38 +83,12 @@ pub record IndexedTold (p : Displacement → (IndexRegister → Span → Operand
   pub told : (y : Displacement) → sizedOf 0 y ≡ d → (plain : IndexRegister → Span → Operand) → Plain form d base y plain
       → Told operandRead (Kept (c .nodes) y) (p y plain) L T D D′ c (r .operand) (r .counters)
 
--- the parenthesis behind the index x
-abbrev pub closeIndex : ℕ → Token → ℕ → BaseRegister → IndexRegister → Displacement → (IndexRegister → Span → Operand) → Reader (Maybe Operand)
-closeIndex o k shape base x y plain = expectClose o k shape >>= indexedOperand o y base plain x
-
--- an index and the parenthesis
-abbrev pub baseAndIndex : Setting → ℕ → Token → ℕ → BaseRegister → Displacement → (IndexRegister → Span → Operand) → Reader (Maybe Operand)
-baseAndIndex s o k shape base y plain = parseIndexRegister s o shape >>= closedIndex o k shape (indexedOperand o y base plain)
-
--- an index, with this base
-abbrev pub withIndex : Setting → ℕ → ℕ → BaseRegister → Reader (Maybe Registers)
-withIndex s o shape base = parseIndexRegister s o shape >>= indexAlone base
-
--- a comma and an index, or neither
-abbrev pub commaAndIndex : Setting → ℕ → ℕ → BaseRegister → Reader (Maybe Registers)
-commaAndIndex s o shape base = bump (is Kinds.comma) (λ c y. withIndex s o shape base) λ u. answer (some (registers base Index.Unindexed))
-
 -- ---- operands with nodes
 
 -- the operand's nodes are the records that count
 abbrev pub Stored : List ℕ → Maybe Operand → Counters → Type 0
-Stored N′ x r = HeldBy (take (14 * r .nodes) N′) (r .nodes) x
+Stored N′ x r = HeldBy (take (10 * r .nodes) N′) (r .nodes) x
 
 -- a reader of an operand, from no node on. The records behind those that count are free, and without an operand how many count
-pub record OperandTold (p : Reader (Maybe Operand)) (L T N D N′ D′ : List ℕ) (c : Counters) (r : OperandStep) : Type 0 where
+pub record OperandTold (p : Reader (Maybe Operand)) (L T D N′ D′ : List ℕ) (c : Counters) (r : OperandStep) : Type 0 where
   pub told : Told operandRead (Stored N′) p L T D D′ c (r .operand) (r .counters)
-  pub past : drop nodeBytes N′ ≡ drop nodeBytes N
-
--- ---- what the public function tells
-
--- the reading s, from no node and d diagnostics on: the answer, the counters and every byte of both stores
-pub record OperandPromise (s : Reading (Maybe Operand)) (N D N′ D′ : List ℕ) (d : ℕ) (r : OperandStep) : Type 0 where
-  pub operand : r .operand ≡ operandRead (s .value)
-  pub counters : r .counters ≡ record { at = s .cursor; end = s .end; nodes = sizeM (s .value); diagnostics = d + length (s .raised) }
-  pub nodes : N′ ≡ nodesAfter (s .value) N
-  pub diagnostics : D′ ≡ added D d (s .raised)

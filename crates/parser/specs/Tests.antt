@@ -32,6 +32,12 @@ addressOf Reg.Not = Reg.Not
 unfoldable pub suppressedAt : Setting → ℕ → Token → List ℕ → Suppressed
 suppressedAt s i t x = pick (eqb (s .mark) i) Suppressed.Not (pick (eqb (t .kind) Kinds.identifier) (suppressedOf x) Suppressed.Not)
 
+-- the register that a suppressed name is, as an index
+unfoldable pub suppressedReg : Suppressed → Reg
+suppressedReg (Suppressed.Register r) = Reg.Is r
+suppressedReg Suppressed.ProgramCounter = Reg.Not
+suppressedReg Suppressed.Not = Reg.Not
+
 -- whether `startsAFullIndex` hits at the place i
 unfoldable pub fullIndexStarts : Setting → (ℕ → Place) → ℕ → Bool
 fullIndexStarts s at i =

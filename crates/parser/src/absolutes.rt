@@ -1,10 +1,12 @@
 // An expression as an operand: an absolute address, or the displacement of a base.
 use crate::bases::parse_base_and_index;
+use crate::expressed::expression_at;
 use crate::indexes::take_size_suffix;
 use crate::reports::raise;
 use crate::steps::last_tree;
 use crate::steps::no_operand;
 use crate::steps::plain_operand;
+use crate::steps::step_over;
 use expressions::Setting;
 use names::Peeked;
 use names::kinds;
@@ -16,20 +18,22 @@ use records::Counters;
 use records::Span;
 use records::diagnostic;
 use records::span_of;
-use records::step_over;
 use terms::Parsed;
-use terms::expression;
 ghost use mathlib.Core.Path.{_≡_};
-ghost use Prim.Native.Nat.{_≤_, _<_};
-ghost use Rattle.operand.specs.Operand.{finishExpressionOperand, parseExpressionOperand};
-ghost use Rattle.parser.specs.Steps.{Room, NodeRoom, OperandTold};
-ghost use Rattle.parser.specs.Behind.{noExpression, expressionBehind, absoluteStep, FailTold, TreeRoom, TreeTold};
+ghost use Prim.Native.Nat.{_<_};
+ghost use Rattle.records.specs.Rooms.{Room, NodeRoom};
+ghost use Rattle.operand.specs.Operand.{finishExpressionOperand, parseExpressionOperand, noExpression, displacedOrAbsolute};
+ghost use Rattle.parser.specs.Steps.{OperandTold};
+ghost use Rattle.parser.specs.Behind.{absoluteStep, FailTold, TreeTold};
 
-fn absolute(c: Counters, o: u8, end: u8, size: u8) -> OperandStep
-    requires { ⌜ (0 < c .nodes) × (c .nodes ≤ 255) ⌝ }
-    ensures { λ r. ⌜ r ≡ absoluteStep c o end size ⌝ }
+fn absolute(c: Counters, start: u16, end: u16, size: u8) -> OperandStep
+    requires { ⌜ 0 < c .nodes ⌝ }
+    ensures { λ r. ⌜ r ≡ absoluteStep c start end size ⌝ }
 {
-    let span = Span { start: o, end: end };
+    let span = Span {
+        start: start,
+        end: end,
+    };
     let tree = last_tree(c, size);
     OperandStep {
         operand: OperandRead::Is(plain_operand(13, span, tree, BaseRegister::Omitted)),
@@ -40,55 +44,54 @@ fn absolute(c: Counters, o: u8, end: u8, size: u8) -> OperandStep
 // `finish_expression_operand`: an absolute address, and its size.
 pub(crate) fn finish_expression_operand(
     line: &[u8],
-    tokens: &[u8],
-    diagnostics: &mut [u8],
+    tokens: &[u16],
+    diagnostics: &mut [u16],
     c: Counters,
-    o: u8,
+    s: Setting,
     value: Span,
 ) -> OperandStep
-    requires { ⌜ TreeRoom (now tokens) (now diagnostics) c ⌝ }
-    ensures { λ r. ⌜ TreeTold (λ e. finishExpressionOperand o e) (now (line .entry)) (now (tokens .entry)) (now (diagnostics .entry)) (now (diagnostics .exit)) c value r ⌝ }
+    requires { ⌜ Room (now tokens) c 1 1 ⌝ }
+    ensures { λ r. ⌜ TreeTold (λ e. finishExpressionOperand s e) (now (line .entry)) (now (tokens .entry)) (now (diagnostics .entry)) (now (diagnostics .exit)) c value r ⌝ }
 {
-    let s = take_size_suffix(line, tokens, diagnostics, c, value.start);
-    let e = s.counters;
-    let suffix = s.suffix;
+    let z = take_size_suffix(line, tokens, diagnostics, c, value.start);
+    let e = z.counters;
+    let suffix = z.suffix;
     match suffix {
-        SuffixRead::Not => absolute(e, o, value.end, 0),
-        SuffixRead::Is(x) => absolute(e, o, x.span.end, x.size),
+        SuffixRead::Not => absolute(e, s.start, value.end, 0),
+        SuffixRead::Is(x) => absolute(e, s.start, x.span.end, x.size),
     }
 }
 
 // Behind an expression: a parenthesis opens the tail of a displacement.
 fn displaced_or_absolute(
     line: &[u8],
-    tokens: &[u8],
-    diagnostics: &mut [u8],
+    tokens: &[u16],
+    diagnostics: &mut [u16],
     c: Counters,
     s: Setting,
-    o: u8,
     value: Span,
 ) -> OperandStep
-    requires { ⌜ TreeRoom (now tokens) (now diagnostics) c ⌝ }
-    ensures { λ r. ⌜ TreeTold (λ e. expressionBehind s o e) (now (line .entry)) (now (tokens .entry)) (now (diagnostics .entry)) (now (diagnostics .exit)) c value r ⌝ }
+    requires { ⌜ Room (now tokens) c 1 1 ⌝ }
+    ensures { λ r. ⌜ TreeTold (λ e. displacedOrAbsolute s e) (now (line .entry)) (now (tokens .entry)) (now (diagnostics .entry)) (now (diagnostics .exit)) c value r ⌝ }
 {
-    let at = c.at;
+    let at = c.at as usize;
     let p = names::token_at(tokens, at);
     let Peeked::Is(t) = p else {
-        return finish_expression_operand(line, tokens, diagnostics, c, o, value);
+        return finish_expression_operand(line, tokens, diagnostics, c, s, value);
     };
     if t.kind != kinds::LEFT_PAREN {
-        return finish_expression_operand(line, tokens, diagnostics, c, o, value);
+        return finish_expression_operand(line, tokens, diagnostics, c, s, value);
     }
     let d = last_tree(c, 0);
-    parse_base_and_index(line, tokens, diagnostics, step_over(c, t), s, o, t, d)
+    parse_base_and_index(line, tokens, diagnostics, step_over(c, t), s, t, d)
 }
 
 // No expression stands at the cursor.
-fn no_expression(tokens: &[u8], diagnostics: &mut [u8], c: Counters, o: u8) -> OperandStep
-    requires { ⌜ Room (now tokens) (now diagnostics) c ⌝ }
-    ensures { λ r. ⌜ FailTold (noExpression o) (now (tokens .entry)) (now (diagnostics .entry)) (now (diagnostics .exit)) c r ⌝ }
+fn no_expression(tokens: &[u16], diagnostics: &mut [u16], c: Counters, s: Setting) -> OperandStep
+    requires { ⌜ Room (now tokens) c 0 1 ⌝ }
+    ensures { λ r. ⌜ FailTold (noExpression s) (now (tokens .entry)) (now (diagnostics .entry)) (now (diagnostics .exit)) c r ⌝ }
 {
-    let at = c.at;
+    let at = c.at as usize;
     let p = names::token_at(tokens, at);
     match p {
         Peeked::Is(t) => {
@@ -97,7 +100,10 @@ fn no_expression(tokens: &[u8], diagnostics: &mut [u8], c: Counters, o: u8) -> O
         }
         Peeked::End => {
             let none = Span { start: 0, end: 0 };
-            let start = Span { start: o, end: o };
+            let start = Span {
+                start: s.start,
+                end: s.start,
+            };
             no_operand(raise(diagnostics, c, diagnostic(4, 0, 0, start, none)))
         }
     }
@@ -105,22 +111,21 @@ fn no_expression(tokens: &[u8], diagnostics: &mut [u8], c: Counters, o: u8) -> O
 
 pub(crate) fn parse_expression_operand(
     line: &[u8],
-    tokens: &[u8],
-    nodes: &mut [u8],
-    diagnostics: &mut [u8],
+    tokens: &[u16],
+    nodes: &mut [u16],
+    diagnostics: &mut [u16],
     c: Counters,
     s: Setting,
-    o: u8,
 ) -> OperandStep
-    requires { ⌜ (NodeRoom (now tokens) (now nodes) (now diagnostics) c) × (c .nodes ≡ 0) ⌝ }
-    ensures { λ r. ⌜ OperandTold (parseExpressionOperand s o) (now (line .entry)) (now (tokens .entry)) (now (nodes .entry)) (now (diagnostics .entry)) (now (nodes .exit)) (now (diagnostics .exit)) c r ⌝ }
+    requires { ⌜ (NodeRoom (now tokens) (now nodes) c 0 0 1) × (c .nodes ≡ 0) ⌝ }
+    ensures { λ r. ⌜ OperandTold (parseExpressionOperand s) (now (line .entry)) (now (tokens .entry)) (now (diagnostics .entry)) (now (nodes .exit)) (now (diagnostics .exit)) c r ⌝ }
 {
-    let r = expression(line, tokens, nodes, diagnostics, c, s);
+    let r = expression_at(line, tokens, nodes, diagnostics, c, s);
     let e = r.counters;
     let parsed = r.parsed;
     match parsed {
-        Parsed::Read(span) => displaced_or_absolute(line, tokens, diagnostics, e, s, o, span),
+        Parsed::Read(span) => displaced_or_absolute(line, tokens, diagnostics, e, s, span),
         Parsed::Reported => no_operand(e),
-        Parsed::Absent => no_expression(tokens, diagnostics, e, o),
+        Parsed::Absent => no_expression(tokens, diagnostics, e, s),
     }
 }

@@ -10,6 +10,7 @@ use crate::steps::an_operand;
 use crate::steps::indexed;
 use crate::steps::no_operand;
 use crate::steps::plain_operand;
+use crate::steps::step_over;
 use expressions::Setting;
 use names::Peeked;
 use names::Reg;
@@ -26,18 +27,17 @@ use operand::SizedDisplacement;
 use records::Counters;
 use records::Span;
 use records::span_of;
-use records::step_over;
 ghost use mathlib.Core.Path.{_≡_};
 ghost use mathlib.Core.List.{List};
-ghost use Prim.Native.Nat.{ℕ, _+_, _*_, _≤_};
-ghost use lib.ListN.{length};
+ghost use Prim.Native.Nat.{ℕ, _≤_, _<_};
+ghost use Rattle.records.specs.Rooms.{Room};
 ghost use Rattle.operand.specs.Operands.{Displacement};
-ghost use Rattle.operand.specs.Operand.{baseShape, closedBase, afterBase, closedCounter, afterCounter, parseBaseAndIndex};
+ghost use Rattle.operand.specs.Operand.{baseShape, closedBase, afterBase, closedCounter, afterCounter, parseBaseAndIndex, closeIndex, baseAndIndex};
 ghost use Rattle.operand.specs.Forms.{sizedOf};
-ghost use Rattle.parser.specs.Steps.{Room, BaseTold, IndexedTold, closeIndex, baseAndIndex};
+ghost use Rattle.parser.specs.Steps.{BaseTold, IndexedTold};
 
 // The shape of an operand whose base is wrong, by whether it has a displacement.
-fn base_shape(d: SizedDisplacement) -> u8
+fn base_shape(d: SizedDisplacement) -> u16
     ensures { λ r. ⌜ ((y : Displacement) → sizedOf 0 y ≡ d → r ≡ baseShape y) ⌝ }
 {
     match d {
@@ -48,27 +48,30 @@ fn base_shape(d: SizedDisplacement) -> u8
 
 // The parenthesis behind an index. An index written suppressed makes it a full index.
 fn close_index(
-    tokens: &[u8],
-    diagnostics: &mut [u8],
+    tokens: &[u16],
+    diagnostics: &mut [u16],
     c: Counters,
-    o: u8,
+    s: Setting,
     paren: Token,
-    shape: u8,
+    shape: u16,
     form: u8,
     d: SizedDisplacement,
     base: BaseRegister,
     x: IndexRegister,
 ) -> OperandStep
-    requires { ⌜ Room (now tokens) (now diagnostics) c ⌝ }
-    ensures { λ r. ⌜ ((L : List ℕ) → IndexedTold (closeIndex o paren shape base x) L (now (tokens .entry)) (now (diagnostics .entry)) (now (diagnostics .exit)) c form d base r) ⌝ }
+    requires { ⌜ Room (now tokens) c 0 1 ⌝ }
+    ensures { λ r. ⌜ ((L : List ℕ) → IndexedTold (closeIndex s paren shape base x) L (now (tokens .entry)) (now (diagnostics .entry)) (now (diagnostics .exit)) c form d base r) ⌝ }
 {
-    let e = expect_close(tokens, diagnostics, c, o, paren, shape);
+    let e = expect_close(tokens, diagnostics, c, s, paren, shape);
     let f = e.counters;
     let close = e.close;
     match close {
         Close::Not => no_operand(f),
         Close::Is(end) => {
-            let span = Span { start: o, end: end };
+            let span = Span {
+                start: s.start,
+                end: end,
+            };
             if x.suppressed {
                 return an_operand(indexed(12, span, d, base, Index::Indexed(x)), f);
             }
@@ -80,50 +83,49 @@ fn close_index(
 // Behind the comma: an index, and the parenthesis.
 fn base_and_index(
     line: &[u8],
-    tokens: &[u8],
-    diagnostics: &mut [u8],
+    tokens: &[u16],
+    diagnostics: &mut [u16],
     c: Counters,
     s: Setting,
-    o: u8,
     paren: Token,
-    shape: u8,
+    shape: u16,
     form: u8,
     d: SizedDisplacement,
     base: BaseRegister,
 ) -> OperandStep
-    requires { ⌜ Room (now tokens) (now diagnostics) c ⌝ }
-    ensures { λ r. ⌜ IndexedTold (baseAndIndex s o paren shape base) (now (line .entry)) (now (tokens .entry)) (now (diagnostics .entry)) (now (diagnostics .exit)) c form d base r ⌝ }
+    requires { ⌜ Room (now tokens) c 0 1 ⌝ }
+    ensures { λ r. ⌜ IndexedTold (baseAndIndex s paren shape base) (now (line .entry)) (now (tokens .entry)) (now (diagnostics .entry)) (now (diagnostics .exit)) c form d base r ⌝ }
 {
-    let i = parse_index_register(line, tokens, diagnostics, c, s, o, shape);
+    let i = parse_index_register(line, tokens, diagnostics, c, s, shape);
     let e = i.counters;
     let index = i.index;
     match index {
         IndexRead::Not => no_operand(e),
-        IndexRead::Is(x) => close_index(tokens, diagnostics, e, o, paren, shape, form, d, base, x),
+        IndexRead::Is(x) => close_index(tokens, diagnostics, e, s, paren, shape, form, d, base, x),
     }
 }
 
 // Behind the parenthesis that closes a base alone.
 fn closed_base(
-    tokens: &[u8],
+    tokens: &[u16],
     c: Counters,
-    o: u8,
+    s: Setting,
     d: SizedDisplacement,
     register: Register,
     close: Token,
 ) -> OperandStep
-    requires { ⌜ c .at ≤ 255 ⌝ }
-    ensures { λ r. ⌜ ((L D : List ℕ) → BaseTold (λ y. closedBase o register y close) L (now (tokens .entry)) D D c d r) ⌝ }
+    requires { ⌜ c .at ≤ 1023 ⌝ }
+    ensures { λ r. ⌜ ((L D : List ℕ) → BaseTold (λ y. closedBase s register y close) L (now (tokens .entry)) D D c d r) ⌝ }
 {
     let span = Span {
-        start: o,
+        start: s.start,
         end: close.end,
     };
     let base = BaseRegister::Address(register);
     if let SizedDisplacement::Is(_) = d {
         return an_operand(plain_operand(8, span, d, base), c);
     }
-    let at = c.at;
+    let at = c.at as usize;
     let p = names::token_at(tokens, at);
     match p {
         Peeked::End => an_operand(plain_operand(5, span, d, base), c),
@@ -132,7 +134,7 @@ fn closed_base(
                 return an_operand(plain_operand(5, span, d, base), c);
             }
             let whole = Span {
-                start: o,
+                start: s.start,
                 end: t.end,
             };
             an_operand(plain_operand(6, whole, d, base), step_over(c, t))
@@ -142,56 +144,54 @@ fn closed_base(
 
 fn after_base(
     line: &[u8],
-    tokens: &[u8],
-    diagnostics: &mut [u8],
+    tokens: &[u16],
+    diagnostics: &mut [u16],
     c: Counters,
     s: Setting,
-    o: u8,
     paren: Token,
     d: SizedDisplacement,
     register: Register,
 ) -> OperandStep
-    requires { ⌜ Room (now tokens) (now diagnostics) c ⌝ }
-    ensures { λ r. ⌜ BaseTold (λ y. afterBase s o paren y register) (now (line .entry)) (now (tokens .entry)) (now (diagnostics .entry)) (now (diagnostics .exit)) c d r ⌝ }
+    requires { ⌜ Room (now tokens) c 0 1 ⌝ }
+    ensures { λ r. ⌜ BaseTold (λ y. afterBase s paren y register) (now (line .entry)) (now (tokens .entry)) (now (diagnostics .entry)) (now (diagnostics .exit)) c d r ⌝ }
 {
-    let at = c.at;
+    let at = c.at as usize;
     let p = names::token_at(tokens, at);
     let Peeked::Is(t) = p else {
-        return no_operand(unclosed(diagnostics, c, o, paren, base_shape(d), 3));
+        return no_operand(unclosed(diagnostics, c, s, paren, base_shape(d), 3));
     };
     let kind = t.kind;
     match kind {
-        kinds::RIGHT_PAREN => closed_base(tokens, step_over(c, t), o, d, register, t),
+        kinds::RIGHT_PAREN => closed_base(tokens, step_over(c, t), s, d, register, t),
         kinds::COMMA => base_and_index(
             line,
             tokens,
             diagnostics,
             step_over(c, t),
             s,
-            o,
             paren,
             6,
             9,
             d,
             BaseRegister::Address(register),
         ),
-        _ => no_operand(unclosed(diagnostics, c, o, paren, base_shape(d), 3)),
+        _ => no_operand(unclosed(diagnostics, c, s, paren, base_shape(d), 3)),
     }
 }
 
 // Behind the parenthesis that closes the program counter alone.
 fn closed_counter(
-    diagnostics: &mut [u8],
+    diagnostics: &mut [u16],
     c: Counters,
-    o: u8,
+    s: Setting,
     d: SizedDisplacement,
     close: Token,
 ) -> OperandStep
-    requires { ⌜ 10 * c .diagnostics + 10 ≤ length (now diagnostics) ⌝ }
-    ensures { λ r. ⌜ ((L T : List ℕ) → BaseTold (λ y. closedCounter o y close) L T (now (diagnostics .entry)) (now (diagnostics .exit)) c d r) ⌝ }
+    requires { ⌜ c .diagnostics < 65535 ⌝ }
+    ensures { λ r. ⌜ ((L T : List ℕ) → BaseTold (λ y. closedCounter s y close) L T (now (diagnostics .entry)) (now (diagnostics .exit)) c d r) ⌝ }
 {
     let span = Span {
-        start: o,
+        start: s.start,
         end: close.end,
     };
     match d {
@@ -199,65 +199,62 @@ fn closed_counter(
             plain_operand(10, span, d, BaseRegister::ProgramCounter),
             c,
         ),
-        SizedDisplacement::Not => no_operand(malformed(diagnostics, c, o, 7, 4)),
+        SizedDisplacement::Not => no_operand(malformed(diagnostics, c, s, 7, 4)),
     }
 }
 
 fn after_counter(
     line: &[u8],
-    tokens: &[u8],
-    diagnostics: &mut [u8],
+    tokens: &[u16],
+    diagnostics: &mut [u16],
     c: Counters,
     s: Setting,
-    o: u8,
     paren: Token,
     d: SizedDisplacement,
 ) -> OperandStep
-    requires { ⌜ Room (now tokens) (now diagnostics) c ⌝ }
-    ensures { λ r. ⌜ BaseTold (λ y. afterCounter s o paren y) (now (line .entry)) (now (tokens .entry)) (now (diagnostics .entry)) (now (diagnostics .exit)) c d r ⌝ }
+    requires { ⌜ Room (now tokens) c 0 1 ⌝ }
+    ensures { λ r. ⌜ BaseTold (λ y. afterCounter s paren y) (now (line .entry)) (now (tokens .entry)) (now (diagnostics .entry)) (now (diagnostics .exit)) c d r ⌝ }
 {
-    let at = c.at;
+    let at = c.at as usize;
     let p = names::token_at(tokens, at);
     let Peeked::Is(t) = p else {
-        return no_operand(unclosed(diagnostics, c, o, paren, 7, 3));
+        return no_operand(unclosed(diagnostics, c, s, paren, 7, 3));
     };
     let kind = t.kind;
     match kind {
-        kinds::RIGHT_PAREN => closed_counter(diagnostics, step_over(c, t), o, d, t),
+        kinds::RIGHT_PAREN => closed_counter(diagnostics, step_over(c, t), s, d, t),
         kinds::COMMA => base_and_index(
             line,
             tokens,
             diagnostics,
             step_over(c, t),
             s,
-            o,
             paren,
             8,
             11,
             d,
             BaseRegister::ProgramCounter,
         ),
-        _ => no_operand(unclosed(diagnostics, c, o, paren, 7, 3)),
+        _ => no_operand(unclosed(diagnostics, c, s, paren, 7, 3)),
     }
 }
 
 pub(crate) fn parse_base_and_index(
     line: &[u8],
-    tokens: &[u8],
-    diagnostics: &mut [u8],
+    tokens: &[u16],
+    diagnostics: &mut [u16],
     c: Counters,
     s: Setting,
-    o: u8,
     paren: Token,
     d: SizedDisplacement,
 ) -> OperandStep
-    requires { ⌜ Room (now tokens) (now diagnostics) c ⌝ }
-    ensures { λ r. ⌜ BaseTold (λ y. parseBaseAndIndex s o paren y) (now (line .entry)) (now (tokens .entry)) (now (diagnostics .entry)) (now (diagnostics .exit)) c d r ⌝ }
+    requires { ⌜ Room (now tokens) c 0 1 ⌝ }
+    ensures { λ r. ⌜ BaseTold (λ y. parseBaseAndIndex s paren y) (now (line .entry)) (now (tokens .entry)) (now (diagnostics .entry)) (now (diagnostics .exit)) c d r ⌝ }
 {
-    let at = c.at;
+    let at = c.at as usize;
     let p = names::token_at(tokens, at);
     let Peeked::Is(t) = p else {
-        return no_operand(unclosed(diagnostics, c, o, paren, base_shape(d), 5));
+        return no_operand(unclosed(diagnostics, c, s, paren, base_shape(d), 5));
     };
     let e = step_over(c, t);
     let r = address_register_at(line, t);
@@ -266,10 +263,10 @@ pub(crate) fn parse_base_and_index(
             index: index,
             span: span_of(t),
         };
-        return after_base(line, tokens, diagnostics, e, s, o, paren, d, register);
+        return after_base(line, tokens, diagnostics, e, s, paren, d, register);
     }
     if program_counter_at(line, t) {
-        return after_counter(line, tokens, diagnostics, e, s, o, paren, d);
+        return after_counter(line, tokens, diagnostics, e, s, paren, d);
     }
-    no_operand(not_an_address_register(diagnostics, e, o, base_shape(d), t))
+    no_operand(not_an_address_register(diagnostics, e, s, base_shape(d), t))
 }

@@ -1,4 +1,5 @@
 // A displacement with its size.
+use crate::expressed::expression_at;
 use crate::indexes::take_size_suffix;
 use crate::reports::stepped_over;
 use crate::steps::last_tree;
@@ -9,11 +10,10 @@ use operand::SizedDisplacement;
 use operand::SuffixRead;
 use records::Counters;
 use terms::Parsed;
-use terms::expression;
 ghost use mathlib.Core.Path.{_≡_};
-ghost use Prim.Native.Nat.{_-_, _≤_, _<_};
+ghost use Prim.Native.Nat.{_-_, _<_};
+ghost use Rattle.records.specs.Rooms.{Room, NodeRoom};
 ghost use Rattle.operand.specs.Operand.{parseSizedDisplacement};
-ghost use Rattle.parser.specs.Steps.{Room, NodeRoom};
 ghost use Rattle.parser.specs.Brackets.{SizedTold, DisplacementTold};
 ghost use Rattle.operand.specs.declared.forms.DisplacementRead.{DisplacementRead};
 ghost use Rattle.operand.specs.declared.forms.SizedDisplacement.{SizedDisplacement};
@@ -29,7 +29,7 @@ fn no_displacement(c: Counters) -> DisplacementStep
 
 // The tree that the last records hold, with this size.
 fn displaced(c: Counters, size: u8) -> DisplacementStep
-    requires { ⌜ (0 < c .nodes) × (c .nodes ≤ 255) ⌝ }
+    requires { ⌜ 0 < c .nodes ⌝ }
     ensures { λ r. ⌜ (r .displacement ≡ DisplacementRead.Is (SizedDisplacement.Is (record { node = c .nodes - 1; size = size }))) × (r .counters ≡ c) ⌝ }
 {
     DisplacementStep {
@@ -41,12 +41,12 @@ fn displaced(c: Counters, size: u8) -> DisplacementStep
 // Behind the expression of a displacement.
 fn sized(
     line: &[u8],
-    tokens: &[u8],
-    diagnostics: &mut [u8],
+    tokens: &[u16],
+    diagnostics: &mut [u16],
     c: Counters,
-    start: u8,
+    start: u16,
 ) -> DisplacementStep
-    requires { ⌜ Room (now tokens) (now diagnostics) c × (0 < c .nodes) × (c .nodes ≤ 255) ⌝ }
+    requires { ⌜ Room (now tokens) c 1 1 ⌝ }
     ensures { λ r. ⌜ SizedTold start (now (line .entry)) (now (tokens .entry)) (now (diagnostics .entry)) (now (diagnostics .exit)) c r ⌝ }
 {
     let s = take_size_suffix(line, tokens, diagnostics, c, start);
@@ -60,22 +60,21 @@ fn sized(
 
 pub(crate) fn parse_sized_displacement(
     line: &[u8],
-    tokens: &[u8],
-    nodes: &mut [u8],
-    diagnostics: &mut [u8],
+    tokens: &[u16],
+    nodes: &mut [u16],
+    diagnostics: &mut [u16],
     c: Counters,
     s: Setting,
-    o: u8,
 ) -> DisplacementStep
-    requires { ⌜ NodeRoom (now tokens) (now nodes) (now diagnostics) c ⌝ }
-    ensures { λ r. ⌜ DisplacementTold (parseSizedDisplacement s o) (now (line .entry)) (now (tokens .entry)) (now (nodes .entry)) (now (diagnostics .entry)) (now (nodes .exit)) (now (diagnostics .exit)) c r ⌝ }
+    requires { ⌜ NodeRoom (now tokens) (now nodes) c 0 0 1 ⌝ }
+    ensures { λ r. ⌜ DisplacementTold (parseSizedDisplacement s) (now (line .entry)) (now (tokens .entry)) (now (nodes .entry)) (now (diagnostics .entry)) (now (nodes .exit)) (now (diagnostics .exit)) c r ⌝ }
 {
-    let r = expression(line, tokens, nodes, diagnostics, c, s);
+    let r = expression_at(line, tokens, nodes, diagnostics, c, s);
     let e = r.counters;
     let parsed = r.parsed;
     match parsed {
         Parsed::Read(span) => sized(line, tokens, diagnostics, e, span.start),
         Parsed::Reported => no_displacement(e),
-        Parsed::Absent => no_displacement(stepped_over(tokens, diagnostics, e, o, 9, 10)),
+        Parsed::Absent => no_displacement(stepped_over(tokens, diagnostics, e, s, 9, 10)),
     }
 }

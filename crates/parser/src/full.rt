@@ -7,6 +7,7 @@ use crate::reports::stepped_over;
 use crate::steps::an_operand;
 use crate::steps::indexed;
 use crate::steps::no_operand;
+use crate::steps::step_over;
 use expressions::Setting;
 use names::Peeked;
 use names::Token;
@@ -22,12 +23,11 @@ use operand::RegistersStep;
 use operand::SizedDisplacement;
 use records::Counters;
 use records::Span;
-use records::step_over;
 ghost use mathlib.Core.Path.{_≡_};
-ghost use Prim.Native.Nat.{_+_};
-ghost use Rattle.operand.specs.Operand.{afterBaseRegister, noBase, parseBaseAndIndexRegisters, parseFullIndex};
+ghost use Rattle.records.specs.Rooms.{Room};
+ghost use Rattle.operand.specs.Operand.{afterBaseRegister, noBase, parseBaseAndIndexRegisters, parseFullIndex, withIndex, commaAndIndex};
 ghost use Rattle.operand.specs.Forms.{registersRead};
-ghost use Rattle.parser.specs.Steps.{Room, Told, Same, TailTold, withIndex, commaAndIndex};
+ghost use Rattle.parser.specs.Steps.{Told, Same, TailTold};
 ghost use Rattle.parser.specs.Tests.{isBase};
 ghost use Rattle.operand.specs.declared.forms.RegistersRead.{RegistersRead};
 
@@ -55,18 +55,17 @@ fn no_registers(c: Counters) -> RegistersStep
 // The index that stands at the cursor, behind this base.
 fn with_index(
     line: &[u8],
-    tokens: &[u8],
-    diagnostics: &mut [u8],
+    tokens: &[u16],
+    diagnostics: &mut [u16],
     c: Counters,
     s: Setting,
-    o: u8,
-    shape: u8,
+    shape: u16,
     base: BaseRegister,
 ) -> RegistersStep
-    requires { ⌜ Room (now tokens) (now diagnostics) c ⌝ }
-    ensures { λ r. ⌜ Told registersRead (Same (c .nodes)) (withIndex s o shape base) (now (line .entry)) (now (tokens .entry)) (now (diagnostics .entry)) (now (diagnostics .exit)) c (r .registers) (r .counters) ⌝ }
+    requires { ⌜ Room (now tokens) c 0 1 ⌝ }
+    ensures { λ r. ⌜ Told registersRead (Same (c .nodes)) (withIndex s shape base) (now (line .entry)) (now (tokens .entry)) (now (diagnostics .entry)) (now (diagnostics .exit)) c (r .registers) (r .counters) ⌝ }
 {
-    let i = parse_index_register(line, tokens, diagnostics, c, s, o, shape);
+    let i = parse_index_register(line, tokens, diagnostics, c, s, shape);
     let e = i.counters;
     let index = i.index;
     match index {
@@ -78,18 +77,17 @@ fn with_index(
 // A comma and the index behind it, or neither.
 fn comma_and_index(
     line: &[u8],
-    tokens: &[u8],
-    diagnostics: &mut [u8],
+    tokens: &[u16],
+    diagnostics: &mut [u16],
     c: Counters,
     s: Setting,
-    o: u8,
-    shape: u8,
+    shape: u16,
     base: BaseRegister,
 ) -> RegistersStep
-    requires { ⌜ Room (now tokens) (now diagnostics) c ⌝ }
-    ensures { λ r. ⌜ Told registersRead (Same (c .nodes)) (commaAndIndex s o shape base) (now (line .entry)) (now (tokens .entry)) (now (diagnostics .entry)) (now (diagnostics .exit)) c (r .registers) (r .counters) ⌝ }
+    requires { ⌜ Room (now tokens) c 0 1 ⌝ }
+    ensures { λ r. ⌜ Told registersRead (Same (c .nodes)) (commaAndIndex s shape base) (now (line .entry)) (now (tokens .entry)) (now (diagnostics .entry)) (now (diagnostics .exit)) c (r .registers) (r .counters) ⌝ }
 {
-    let at = c.at;
+    let at = c.at as usize;
     let p = names::token_at(tokens, at);
     match p {
         Peeked::End => registers(base, Index::Unindexed, c),
@@ -97,16 +95,7 @@ fn comma_and_index(
             if t.kind != kinds::COMMA {
                 return registers(base, Index::Unindexed, c);
             }
-            with_index(
-                line,
-                tokens,
-                diagnostics,
-                step_over(c, t),
-                s,
-                o,
-                shape,
-                base,
-            )
+            with_index(line, tokens, diagnostics, step_over(c, t), s, shape, base)
         }
     }
 }
@@ -114,20 +103,19 @@ fn comma_and_index(
 // Behind a base.
 fn after_base_register(
     line: &[u8],
-    tokens: &[u8],
-    diagnostics: &mut [u8],
+    tokens: &[u16],
+    diagnostics: &mut [u16],
     c: Counters,
     s: Setting,
-    o: u8,
-    shape: u8,
+    shape: u16,
     base: BaseRegister,
 ) -> RegistersStep
-    requires { ⌜ Room (now tokens) (now diagnostics) c ⌝ }
-    ensures { λ r. ⌜ Told registersRead (Same (c .nodes)) (afterBaseRegister s o shape base) (now (line .entry)) (now (tokens .entry)) (now (diagnostics .entry)) (now (diagnostics .exit)) c (r .registers) (r .counters) ⌝ }
+    requires { ⌜ Room (now tokens) c 0 1 ⌝ }
+    ensures { λ r. ⌜ Told registersRead (Same (c .nodes)) (afterBaseRegister s shape base) (now (line .entry)) (now (tokens .entry)) (now (diagnostics .entry)) (now (diagnostics .exit)) c (r .registers) (r .counters) ⌝ }
 {
-    let at = c.at;
+    let at = c.at as usize;
     if is_an_index_at(line, tokens, at + 1, s) {
-        return comma_and_index(line, tokens, diagnostics, c, s, o, shape, base);
+        return comma_and_index(line, tokens, diagnostics, c, s, shape, base);
     }
     registers(base, Index::Unindexed, c)
 }
@@ -135,17 +123,16 @@ fn after_base_register(
 // An index without a base.
 fn no_base(
     line: &[u8],
-    tokens: &[u8],
-    diagnostics: &mut [u8],
+    tokens: &[u16],
+    diagnostics: &mut [u16],
     c: Counters,
     s: Setting,
-    o: u8,
-    shape: u8,
+    shape: u16,
 ) -> RegistersStep
-    requires { ⌜ Room (now tokens) (now diagnostics) c ⌝ }
-    ensures { λ r. ⌜ Told registersRead (Same (c .nodes)) (noBase s o shape) (now (line .entry)) (now (tokens .entry)) (now (diagnostics .entry)) (now (diagnostics .exit)) c (r .registers) (r .counters) ⌝ }
+    requires { ⌜ Room (now tokens) c 0 1 ⌝ }
+    ensures { λ r. ⌜ Told registersRead (Same (c .nodes)) (noBase s shape) (now (line .entry)) (now (tokens .entry)) (now (diagnostics .entry)) (now (diagnostics .exit)) c (r .registers) (r .counters) ⌝ }
 {
-    let at = c.at;
+    let at = c.at as usize;
     if is_an_index_at(line, tokens, at, s) {
         return with_index(
             line,
@@ -153,12 +140,11 @@ fn no_base(
             diagnostics,
             c,
             s,
-            o,
             shape,
             BaseRegister::Omitted,
         );
     }
-    no_registers(stepped_over(tokens, diagnostics, c, o, shape, 11))
+    no_registers(stepped_over(tokens, diagnostics, c, s, shape, 11))
 }
 
 fn is_base(base: BaseRegister) -> bool
@@ -175,55 +161,56 @@ fn is_base(base: BaseRegister) -> bool
 
 pub(crate) fn parse_base_and_index_registers(
     line: &[u8],
-    tokens: &[u8],
-    diagnostics: &mut [u8],
+    tokens: &[u16],
+    diagnostics: &mut [u16],
     c: Counters,
     s: Setting,
-    o: u8,
-    shape: u8,
+    shape: u16,
 ) -> RegistersStep
-    requires { ⌜ Room (now tokens) (now diagnostics) c ⌝ }
-    ensures { λ r. ⌜ Told registersRead (Same (c .nodes)) (parseBaseAndIndexRegisters s o shape) (now (line .entry)) (now (tokens .entry)) (now (diagnostics .entry)) (now (diagnostics .exit)) c (r .registers) (r .counters) ⌝ }
+    requires { ⌜ Room (now tokens) c 0 1 ⌝ }
+    ensures { λ r. ⌜ Told registersRead (Same (c .nodes)) (parseBaseAndIndexRegisters s shape) (now (line .entry)) (now (tokens .entry)) (now (diagnostics .entry)) (now (diagnostics .exit)) c (r .registers) (r .counters) ⌝ }
 {
-    let at = c.at;
+    let at = c.at as usize;
     let p = names::token_at(tokens, at);
     let Peeked::Is(t) = p else {
-        return no_base(line, tokens, diagnostics, c, s, o, shape);
+        return no_base(line, tokens, diagnostics, c, s, shape);
     };
     let base = base_at(line, tokens, at, s, t);
     if is_base(base) {
         let e = step_over(c, t);
-        return after_base_register(line, tokens, diagnostics, e, s, o, shape, base);
+        return after_base_register(line, tokens, diagnostics, e, s, shape, base);
     }
-    no_base(line, tokens, diagnostics, c, s, o, shape)
+    no_base(line, tokens, diagnostics, c, s, shape)
 }
 
 pub(crate) fn parse_full_index(
     line: &[u8],
-    tokens: &[u8],
-    diagnostics: &mut [u8],
+    tokens: &[u16],
+    diagnostics: &mut [u16],
     c: Counters,
     s: Setting,
-    o: u8,
     paren: Token,
     d: SizedDisplacement,
 ) -> OperandStep
-    requires { ⌜ Room (now tokens) (now diagnostics) c ⌝ }
-    ensures { λ r. ⌜ TailTold (λ y. parseFullIndex s o paren y) (now (line .entry)) (now (tokens .entry)) (now (diagnostics .entry)) (now (diagnostics .exit)) c d r ⌝ }
+    requires { ⌜ Room (now tokens) c 0 1 ⌝ }
+    ensures { λ r. ⌜ TailTold (λ y. parseFullIndex s paren y) (now (line .entry)) (now (tokens .entry)) (now (diagnostics .entry)) (now (diagnostics .exit)) c d r ⌝ }
 {
-    let r = parse_base_and_index_registers(line, tokens, diagnostics, c, s, o, 6);
+    let r = parse_base_and_index_registers(line, tokens, diagnostics, c, s, 6);
     let e = r.counters;
     let both = r.registers;
     let RegistersRead::Is(x) = both else {
         return no_operand(e);
     };
-    let f = expect_close(tokens, diagnostics, e, o, paren, 6);
+    let f = expect_close(tokens, diagnostics, e, s, paren, 6);
     let g = f.counters;
     let close = f.close;
     match close {
         Close::Not => no_operand(g),
         Close::Is(end) => {
-            let span = Span { start: o, end: end };
+            let span = Span {
+                start: s.start,
+                end: end,
+            };
             let base = x.base;
             let index = x.index;
             an_operand(indexed(12, span, d, base, index), g)

@@ -1,4 +1,5 @@
 // An immediate.
+use crate::expressed::expression_at;
 use crate::indexes::take_size_suffix;
 use crate::reports::expression_expected;
 use crate::reports::malformed;
@@ -16,15 +17,15 @@ use operand::SuffixRead;
 use records::Counters;
 use records::Span;
 use terms::Parsed;
-use terms::expression;
 ghost use mathlib.Core.Path.{_≡_};
-ghost use Prim.Native.Nat.{_≤_, _<_};
-ghost use Rattle.operand.specs.Operand.{parseImmediate};
-ghost use Rattle.parser.specs.Steps.{NodeRoom, OperandTold};
-ghost use Rattle.parser.specs.Behind.{immediateBehind, immediateStep, TreeRoom, TreeTold};
+ghost use Prim.Native.Nat.{_<_};
+ghost use Rattle.records.specs.Rooms.{Room, NodeRoom};
+ghost use Rattle.operand.specs.Operand.{parseImmediate, sizedImmediate};
+ghost use Rattle.parser.specs.Steps.{OperandTold};
+ghost use Rattle.parser.specs.Behind.{immediateStep, TreeTold};
 
-fn immediate(c: Counters, start: u8, end: u8, long: u8) -> OperandStep
-    requires { ⌜ (0 < c .nodes) × (c .nodes ≤ 255) ⌝ }
+fn immediate(c: Counters, start: u16, end: u16, long: u8) -> OperandStep
+    requires { ⌜ 0 < c .nodes ⌝ }
     ensures { λ r. ⌜ r ≡ immediateStep c start end long ⌝ }
 {
     let x = OperandRecord {
@@ -50,19 +51,19 @@ fn immediate(c: Counters, start: u8, end: u8, long: u8) -> OperandStep
 // Behind the value. Long is the one size that an immediate may have; one that is not known has been told.
 fn immediate_size(
     line: &[u8],
-    tokens: &[u8],
-    diagnostics: &mut [u8],
+    tokens: &[u16],
+    diagnostics: &mut [u16],
     c: Counters,
-    o: u8,
+    s: Setting,
     hash: Token,
     value: Span,
 ) -> OperandStep
-    requires { ⌜ TreeRoom (now tokens) (now diagnostics) c ⌝ }
-    ensures { λ r. ⌜ TreeTold (λ e. immediateBehind o hash e) (now (line .entry)) (now (tokens .entry)) (now (diagnostics .entry)) (now (diagnostics .exit)) c value r ⌝ }
+    requires { ⌜ Room (now tokens) c 1 1 ⌝ }
+    ensures { λ r. ⌜ TreeTold (λ e. sizedImmediate s hash e) (now (line .entry)) (now (tokens .entry)) (now (diagnostics .entry)) (now (diagnostics .exit)) c value r ⌝ }
 {
-    let s = take_size_suffix(line, tokens, diagnostics, c, value.start);
-    let e = s.counters;
-    let suffix = s.suffix;
+    let z = take_size_suffix(line, tokens, diagnostics, c, value.start);
+    let e = z.counters;
+    let suffix = z.suffix;
     let SuffixRead::Is(x) = suffix else {
         return immediate(e, hash.start, value.end, 0);
     };
@@ -70,29 +71,28 @@ fn immediate_size(
     match size {
         3 => immediate(e, hash.start, x.span.end, 1),
         0 => immediate(e, hash.start, x.span.end, 0),
-        _ => no_operand(malformed(diagnostics, e, o, 1, 1)),
+        _ => no_operand(malformed(diagnostics, e, s, 1, 1)),
     }
 }
 
 // Behind the hash.
 pub(crate) fn parse_immediate(
     line: &[u8],
-    tokens: &[u8],
-    nodes: &mut [u8],
-    diagnostics: &mut [u8],
+    tokens: &[u16],
+    nodes: &mut [u16],
+    diagnostics: &mut [u16],
     c: Counters,
     s: Setting,
-    o: u8,
     hash: Token,
 ) -> OperandStep
-    requires { ⌜ (NodeRoom (now tokens) (now nodes) (now diagnostics) c) × (c .nodes ≡ 0) ⌝ }
-    ensures { λ r. ⌜ OperandTold (parseImmediate s o hash) (now (line .entry)) (now (tokens .entry)) (now (nodes .entry)) (now (diagnostics .entry)) (now (nodes .exit)) (now (diagnostics .exit)) c r ⌝ }
+    requires { ⌜ (NodeRoom (now tokens) (now nodes) c 0 0 1) × (c .nodes ≡ 0) ⌝ }
+    ensures { λ r. ⌜ OperandTold (parseImmediate s hash) (now (line .entry)) (now (tokens .entry)) (now (diagnostics .entry)) (now (nodes .exit)) (now (diagnostics .exit)) c r ⌝ }
 {
-    let r = expression(line, tokens, nodes, diagnostics, c, s);
+    let r = expression_at(line, tokens, nodes, diagnostics, c, s);
     let e = r.counters;
     let parsed = r.parsed;
     match parsed {
-        Parsed::Read(span) => immediate_size(line, tokens, diagnostics, e, o, hash, span),
+        Parsed::Read(span) => immediate_size(line, tokens, diagnostics, e, s, hash, span),
         Parsed::Reported => no_operand(e),
         Parsed::Absent => no_operand(expression_expected(diagnostics, e, hash)),
     }

@@ -1,17 +1,17 @@
 // Sizes, scales and index registers, and the end of a parenthesis.
 use crate::places::register_at;
 use crate::places::register_of;
-use crate::places::suppressed_register_at;
+use crate::places::suppressed_index_at;
 use crate::reports::malformed;
 use crate::reports::raise;
 use crate::reports::stepped_over;
 use crate::reports::unclosed;
+use crate::steps::step_over;
 use expressions::Setting;
 use names::Number;
 use names::Peeked;
 use names::Reg;
 use names::SizeSuffix;
-use names::Suppressed;
 use names::Token;
 use names::kinds;
 use operand::Close;
@@ -27,18 +27,18 @@ use records::Counters;
 use records::Span;
 use records::diagnostic;
 use records::span_of;
-use records::step_over;
 ghost use mathlib.Core.Path.{_≡_};
 ghost use mathlib.Core.List.{List};
-ghost use Prim.Native.Nat.{ℕ, _+_, _*_, _≤_, _<_};
-ghost use lib.ListN.{length};
+ghost use Prim.Native.Nat.{ℕ, _<_};
+ghost use Rattle.records.specs.Rooms.{Room};
 ghost use Rattle.names.specs.Places.{textOf};
 ghost use Rattle.names.specs.Sizes.{runOf};
 ghost use Rattle.records.specs.Spans.{span};
+ghost use Rattle.records.specs.Diagnostics.{runStart};
 ghost use Rattle.expressions.specs.Expressions.{suffixRun, takeSizeSuffix};
 ghost use Rattle.operand.specs.Operand.{expectClose, scaleOf, scaled, scaleValue, indexScale, indexRegister, parseIndexRegister};
 ghost use Rattle.operand.specs.Forms.{suffixRead, closeRead, indexRead};
-ghost use Rattle.parser.specs.Steps.{Room, Told, Same};
+ghost use Rattle.parser.specs.Steps.{Told, Same};
 ghost use Rattle.operand.specs.declared.forms.Close.{Close};
 ghost use Rattle.operand.specs.declared.forms.IndexRead.{IndexRead};
 ghost use Rattle.operand.specs.declared.forms.SuffixRead.{SuffixRead};
@@ -46,12 +46,12 @@ ghost use Rattle.operand.specs.declared.forms.SuffixRead.{SuffixRead};
 // Behind the token of a size suffix. A run of two letters or more is a dot inside a name, which began at `from`.
 fn suffix_run(
     line: &[u8],
-    diagnostics: &mut [u8],
+    diagnostics: &mut [u16],
     c: Counters,
-    from: u8,
+    from: u16,
     token: Token,
 ) -> SuffixStep
-    requires { ⌜ (10 * c .diagnostics + 10 ≤ length (now diagnostics)) × (token .start < 255) ⌝ }
+    requires { ⌜ c .diagnostics < 65535 ⌝ }
     ensures { λ r. ⌜ ((T : List ℕ) → Told suffixRead (Same (c .nodes)) (suffixRun from token (runOf (textOf (now (line .entry)) (token .start) (token .end)))) (now (line .entry)) T (now (diagnostics .entry)) (now (diagnostics .exit)) c (r .suffix) (r .counters)) ⌝ }
 {
     let run = names::suffix_run(names::text_of(line, token));
@@ -73,12 +73,25 @@ fn suffix_run(
             counters: c,
         },
         SizeSuffix::Not => {
-            let text = Span {
-                start: token.start + 1,
-                end: token.end,
-            };
+            let text = run_span(span);
             unknown(raise(diagnostics, c, diagnostic(2, 0, 0, span, text)), span)
         }
+    }
+}
+
+// The run of a suffix: behind its first byte, if it has one.
+fn run_span(suffix: Span) -> Span
+    ensures { λ r. ⌜ r ≡ span (runStart suffix) (suffix .end) ⌝ }
+{
+    if suffix.start < suffix.end {
+        return Span {
+            start: suffix.start + 1,
+            end: suffix.end,
+        };
+    }
+    Span {
+        start: suffix.end,
+        end: suffix.end,
     }
 }
 
@@ -97,15 +110,15 @@ fn unknown(c: Counters, span: Span) -> SuffixStep
 
 pub(crate) fn take_size_suffix(
     line: &[u8],
-    tokens: &[u8],
-    diagnostics: &mut [u8],
+    tokens: &[u16],
+    diagnostics: &mut [u16],
     c: Counters,
-    from: u8,
+    from: u16,
 ) -> SuffixStep
-    requires { ⌜ Room (now tokens) (now diagnostics) c ⌝ }
+    requires { ⌜ Room (now tokens) c 0 1 ⌝ }
     ensures { λ r. ⌜ Told suffixRead (Same (c .nodes)) (takeSizeSuffix from) (now (line .entry)) (now (tokens .entry)) (now (diagnostics .entry)) (now (diagnostics .exit)) c (r .suffix) (r .counters) ⌝ }
 {
-    let at = c.at;
+    let at = c.at as usize;
     let p = names::token_at(tokens, at);
     match p {
         Peeked::End => bare(c),
@@ -129,23 +142,23 @@ fn bare(c: Counters) -> SuffixStep
 }
 
 pub(crate) fn expect_close(
-    tokens: &[u8],
-    diagnostics: &mut [u8],
+    tokens: &[u16],
+    diagnostics: &mut [u16],
     c: Counters,
-    o: u8,
+    s: Setting,
     paren: Token,
-    shape: u8,
+    shape: u16,
 ) -> CloseStep
-    requires { ⌜ Room (now tokens) (now diagnostics) c ⌝ }
-    ensures { λ r. ⌜ ((L : List ℕ) → Told closeRead (Same (c .nodes)) (expectClose o paren shape) L (now (tokens .entry)) (now (diagnostics .entry)) (now (diagnostics .exit)) c (r .close) (r .counters)) ⌝ }
+    requires { ⌜ Room (now tokens) c 0 1 ⌝ }
+    ensures { λ r. ⌜ ((L : List ℕ) → Told closeRead (Same (c .nodes)) (expectClose s paren shape) L (now (tokens .entry)) (now (diagnostics .entry)) (now (diagnostics .exit)) c (r .close) (r .counters)) ⌝ }
 {
-    let at = c.at;
+    let at = c.at as usize;
     let p = names::token_at(tokens, at);
     match p {
-        Peeked::End => never_closed(unclosed(diagnostics, c, o, paren, shape, 3)),
+        Peeked::End => never_closed(unclosed(diagnostics, c, s, paren, shape, 3)),
         Peeked::Is(t) => {
             if t.kind != kinds::RIGHT_PAREN {
-                return never_closed(unclosed(diagnostics, c, o, paren, shape, 3));
+                return never_closed(unclosed(diagnostics, c, s, paren, shape, 3));
             }
             CloseStep {
                 close: Close::Is(t.end),
@@ -196,16 +209,16 @@ fn is_scale(value: u64) -> bool
 
 // A scale, once its value is known.
 fn scaled(
-    diagnostics: &mut [u8],
+    diagnostics: &mut [u16],
     c: Counters,
-    o: u8,
-    shape: u8,
+    s: Setting,
+    shape: u16,
     x: IndexRegister,
     token: Token,
     value: u64,
 ) -> IndexStep
-    requires { ⌜ 10 * c .diagnostics + 10 ≤ length (now diagnostics) ⌝ }
-    ensures { λ r. ⌜ ((L T : List ℕ) → Told indexRead (Same (c .nodes)) (scaled o shape x token value) L T (now (diagnostics .entry)) (now (diagnostics .exit)) c (r .index) (r .counters)) ⌝ }
+    requires { ⌜ c .diagnostics < 65535 ⌝ }
+    ensures { λ r. ⌜ ((L T : List ℕ) → Told indexRead (Same (c .nodes)) (scaled s shape x token value) L T (now (diagnostics .entry)) (now (diagnostics .exit)) c (r .index) (r .counters)) ⌝ }
 {
     if is_scale(value) {
         let register = x.register;
@@ -221,47 +234,47 @@ fn scaled(
         };
         return an_index(y, c);
     }
-    no_index(malformed(diagnostics, c, o, shape, 7))
+    no_index(malformed(diagnostics, c, s, shape, 7))
 }
 
 // Behind the number of a scale. One that is too large is told, and is no scale either.
 fn index_scale_value(
     line: &[u8],
-    diagnostics: &mut [u8],
+    diagnostics: &mut [u16],
     c: Counters,
-    o: u8,
-    shape: u8,
+    s: Setting,
+    shape: u16,
     x: IndexRegister,
     token: Token,
 ) -> IndexStep
-    requires { ⌜ 10 * c .diagnostics + 20 ≤ length (now diagnostics) ⌝ }
-    ensures { λ r. ⌜ ((T : List ℕ) → Told indexRead (Same (c .nodes)) (scaleValue o shape x token (textOf (now (line .entry)) (token .start) (token .end))) (now (line .entry)) T (now (diagnostics .entry)) (now (diagnostics .exit)) c (r .index) (r .counters)) ⌝ }
+    requires { ⌜ c .diagnostics < 65534 ⌝ }
+    ensures { λ r. ⌜ ((T : List ℕ) → Told indexRead (Same (c .nodes)) (scaleValue s shape x token (textOf (now (line .entry)) (token .start) (token .end))) (now (line .entry)) T (now (diagnostics .entry)) (now (diagnostics .exit)) c (r .index) (r .counters)) ⌝ }
 {
     let span = span_of(token);
     let number = names::parse_number(token.detail, names::text_of(line, token));
     match number {
-        Number::Value(v) => scaled(diagnostics, c, o, shape, x, token, v),
+        Number::Value(v) => scaled(diagnostics, c, s, shape, x, token, v),
         Number::TooLarge => {
             let e = raise(diagnostics, c, diagnostic(1, 0, 0, span, span));
-            scaled(diagnostics, e, o, shape, x, token, 0)
+            scaled(diagnostics, e, s, shape, x, token, 0)
         }
-        Number::Invalid => scaled(diagnostics, c, o, shape, x, token, 0),
+        Number::Invalid => scaled(diagnostics, c, s, shape, x, token, 0),
     }
 }
 
 fn index_scale(
     line: &[u8],
-    tokens: &[u8],
-    diagnostics: &mut [u8],
+    tokens: &[u16],
+    diagnostics: &mut [u16],
     c: Counters,
-    o: u8,
-    shape: u8,
+    s: Setting,
+    shape: u16,
     x: IndexRegister,
 ) -> IndexStep
-    requires { ⌜ Room (now tokens) (now diagnostics) c ⌝ }
-    ensures { λ r. ⌜ Told indexRead (Same (c .nodes)) (indexScale o shape x) (now (line .entry)) (now (tokens .entry)) (now (diagnostics .entry)) (now (diagnostics .exit)) c (r .index) (r .counters) ⌝ }
+    requires { ⌜ Room (now tokens) c 0 1 ⌝ }
+    ensures { λ r. ⌜ Told indexRead (Same (c .nodes)) (indexScale s shape x) (now (line .entry)) (now (tokens .entry)) (now (diagnostics .entry)) (now (diagnostics .exit)) c (r .index) (r .counters) ⌝ }
 {
-    let at = c.at;
+    let at = c.at as usize;
     let p = names::token_at(tokens, at);
     let Peeked::Is(star) = p else {
         return an_index(x, c);
@@ -270,19 +283,19 @@ fn index_scale(
         return an_index(x, c);
     }
     let e = step_over(c, star);
-    let next = e.at;
+    let next = e.at as usize;
     let q = names::token_at(tokens, next);
     let Peeked::Is(t) = q else {
-        return no_index(stepped_over(tokens, diagnostics, e, o, shape, 7));
+        return no_index(stepped_over(tokens, diagnostics, e, s, shape, 7));
     };
     if t.kind != kinds::NUMBER {
-        return no_index(stepped_over(tokens, diagnostics, e, o, shape, 7));
+        return no_index(stepped_over(tokens, diagnostics, e, s, shape, 7));
     }
-    index_scale_value(line, diagnostics, step_over(e, t), o, shape, x, t)
+    index_scale_value(line, diagnostics, step_over(e, t), s, shape, x, t)
 }
 
 // An index with no scale yet, which ends at `end`.
-fn unscaled(register: Register, size: u8, suppressed: bool, end: u8) -> IndexRegister
+fn unscaled(register: Register, size: u8, suppressed: bool, end: u16) -> IndexRegister
     ensures { λ r. ⌜ r ≡ record { register = register; size = size; scale = 0; suppressed = suppressed; span = span (register .span .start) end } ⌝ }
 {
     let own = register.span;
@@ -301,69 +314,59 @@ fn unscaled(register: Register, size: u8, suppressed: bool, end: u8) -> IndexReg
 // Behind the register of an index.
 fn index_register(
     line: &[u8],
-    tokens: &[u8],
-    diagnostics: &mut [u8],
+    tokens: &[u16],
+    diagnostics: &mut [u16],
     c: Counters,
-    o: u8,
-    shape: u8,
+    s: Setting,
+    shape: u16,
     register: Register,
     suppressed: bool,
 ) -> IndexStep
-    requires { ⌜ Room (now tokens) (now diagnostics) c ⌝ }
-    ensures { λ r. ⌜ Told indexRead (Same (c .nodes)) (indexRegister o shape register suppressed) (now (line .entry)) (now (tokens .entry)) (now (diagnostics .entry)) (now (diagnostics .exit)) c (r .index) (r .counters) ⌝ }
+    requires { ⌜ Room (now tokens) c 0 1 ⌝ }
+    ensures { λ r. ⌜ Told indexRead (Same (c .nodes)) (indexRegister s shape register suppressed) (now (line .entry)) (now (tokens .entry)) (now (diagnostics .entry)) (now (diagnostics .exit)) c (r .index) (r .counters) ⌝ }
 {
     let own = register.span;
     let start = own.start;
-    let s = take_size_suffix(line, tokens, diagnostics, c, start);
-    let e = s.counters;
-    let suffix = s.suffix;
+    let z = take_size_suffix(line, tokens, diagnostics, c, start);
+    let e = z.counters;
+    let suffix = z.suffix;
     match suffix {
         SuffixRead::Not => {
             let x = unscaled(register, 0, suppressed, own.end);
-            index_scale(line, tokens, diagnostics, e, o, shape, x)
+            index_scale(line, tokens, diagnostics, e, s, shape, x)
         }
         SuffixRead::Is(size) => {
             let x = unscaled(register, size.size, suppressed, size.span.end);
-            index_scale(line, tokens, diagnostics, e, o, shape, x)
+            index_scale(line, tokens, diagnostics, e, s, shape, x)
         }
     }
 }
 
 pub(crate) fn parse_index_register(
     line: &[u8],
-    tokens: &[u8],
-    diagnostics: &mut [u8],
+    tokens: &[u16],
+    diagnostics: &mut [u16],
     c: Counters,
     s: Setting,
-    o: u8,
-    shape: u8,
+    shape: u16,
 ) -> IndexStep
-    requires { ⌜ Room (now tokens) (now diagnostics) c ⌝ }
-    ensures { λ r. ⌜ Told indexRead (Same (c .nodes)) (parseIndexRegister s o shape) (now (line .entry)) (now (tokens .entry)) (now (diagnostics .entry)) (now (diagnostics .exit)) c (r .index) (r .counters) ⌝ }
+    requires { ⌜ Room (now tokens) c 0 1 ⌝ }
+    ensures { λ r. ⌜ Told indexRead (Same (c .nodes)) (parseIndexRegister s shape) (now (line .entry)) (now (tokens .entry)) (now (diagnostics .entry)) (now (diagnostics .exit)) c (r .index) (r .counters) ⌝ }
 {
-    let at = c.at;
+    let at = c.at as usize;
     let p = names::token_at(tokens, at);
     let Peeked::Is(t) = p else {
-        return no_index(stepped_over(tokens, diagnostics, c, o, shape, 6));
+        return no_index(stepped_over(tokens, diagnostics, c, s, shape, 6));
     };
-    let r = register_at(line, t);
-    let Reg::Is(index) = r else {
-        let z = suppressed_register_at(line, t, at, s);
-        match z {
-            Suppressed::Register(i) => {
-                let register = register_of(i, t);
-                let e = step_over(c, t);
-                return index_register(line, tokens, diagnostics, e, o, shape, register, true);
-            }
-            Suppressed::ProgramCounter => {
-                return no_index(stepped_over(tokens, diagnostics, c, o, shape, 6));
-            }
-            Suppressed::Not => {
-                return no_index(stepped_over(tokens, diagnostics, c, o, shape, 6));
-            }
-        }
+    let e = step_over(c, t);
+    let z = suppressed_index_at(line, t, at, s);
+    if let Reg::Is(i) = z {
+        let register = register_of(i, t);
+        return index_register(line, tokens, diagnostics, e, s, shape, register, true);
+    }
+    let Reg::Is(index) = register_at(line, t) else {
+        return no_index(stepped_over(tokens, diagnostics, c, s, shape, 6));
     };
     let register = register_of(index, t);
-    let e = step_over(c, t);
-    index_register(line, tokens, diagnostics, e, o, shape, register, false)
+    index_register(line, tokens, diagnostics, e, s, shape, register, false)
 }

@@ -2,6 +2,7 @@
 use crate::displacements::parse_sized_displacement;
 use crate::full::parse_base_and_index_registers;
 use crate::places::is_a_base_or_an_index;
+use crate::steps::step_over;
 use expressions::Setting;
 use names::Peeked;
 use names::kinds;
@@ -12,11 +13,11 @@ use operand::Registers;
 use operand::RegistersRead;
 use operand::SizedDisplacement;
 use records::Counters;
-use records::step_over;
 ghost use mathlib.Core.Path.{_≡_};
-ghost use Rattle.operand.specs.Operand.{noRegisters, parseInner};
-ghost use Rattle.parser.specs.Steps.{Room, NodeRoom};
-ghost use Rattle.parser.specs.Brackets.{InnerBehind, InnerTold, registersBehind, displacedInner, innerDisplacement};
+ghost use Rattle.records.specs.Rooms.{Room, NodeRoom};
+ghost use Rattle.operand.specs.Operands.{some};
+ghost use Rattle.operand.specs.Operand.{noRegisters, innerDisplaced, parseInner, withRegisters, innerDisplacement};
+ghost use Rattle.parser.specs.Brackets.{InnerBehind, InnerTold};
 ghost use Rattle.operand.specs.declared.forms.SizedDisplacement.{SizedDisplacement};
 ghost use Rattle.parser.specs.declared.inner.InnerRead.{InnerRead};
 
@@ -70,17 +71,16 @@ fn bare_inner(d: SizedDisplacement, c: Counters) -> InnerStep
 // The registers that stand at the cursor, behind this displacement.
 fn inner_registers(
     line: &[u8],
-    tokens: &[u8],
-    diagnostics: &mut [u8],
+    tokens: &[u16],
+    diagnostics: &mut [u16],
     c: Counters,
     s: Setting,
-    o: u8,
     d: SizedDisplacement,
 ) -> InnerStep
-    requires { ⌜ Room (now tokens) (now diagnostics) c ⌝ }
-    ensures { λ r. ⌜ InnerBehind (registersBehind s o) (now (line .entry)) (now (tokens .entry)) (now (diagnostics .entry)) (now (diagnostics .exit)) c d r ⌝ }
+    requires { ⌜ Room (now tokens) c 0 1 ⌝ }
+    ensures { λ r. ⌜ InnerBehind (withRegisters s) (now (line .entry)) (now (tokens .entry)) (now (diagnostics .entry)) (now (diagnostics .exit)) c d r ⌝ }
 {
-    let r = parse_base_and_index_registers(line, tokens, diagnostics, c, s, o, 9);
+    let r = parse_base_and_index_registers(line, tokens, diagnostics, c, s, 9);
     let e = r.counters;
     let both = r.registers;
     match both {
@@ -92,17 +92,16 @@ fn inner_registers(
 // Behind the displacement between the brackets.
 fn inner_displaced(
     line: &[u8],
-    tokens: &[u8],
-    diagnostics: &mut [u8],
+    tokens: &[u16],
+    diagnostics: &mut [u16],
     c: Counters,
     s: Setting,
-    o: u8,
     d: SizedDisplacement,
 ) -> InnerStep
-    requires { ⌜ Room (now tokens) (now diagnostics) c ⌝ }
-    ensures { λ r. ⌜ InnerBehind (displacedInner s o) (now (line .entry)) (now (tokens .entry)) (now (diagnostics .entry)) (now (diagnostics .exit)) c d r ⌝ }
+    requires { ⌜ Room (now tokens) c 0 1 ⌝ }
+    ensures { λ r. ⌜ InnerBehind (λ y. innerDisplaced s (some y)) (now (line .entry)) (now (tokens .entry)) (now (diagnostics .entry)) (now (diagnostics .exit)) c d r ⌝ }
 {
-    let at = c.at;
+    let at = c.at as usize;
     let p = names::token_at(tokens, at);
     match p {
         Peeked::End => bare_inner(d, c),
@@ -110,55 +109,53 @@ fn inner_displaced(
             if t.kind != kinds::COMMA {
                 return bare_inner(d, c);
             }
-            inner_registers(line, tokens, diagnostics, step_over(c, t), s, o, d)
+            inner_registers(line, tokens, diagnostics, step_over(c, t), s, d)
         }
     }
 }
 
 fn inner_displacement(
     line: &[u8],
-    tokens: &[u8],
-    nodes: &mut [u8],
-    diagnostics: &mut [u8],
+    tokens: &[u16],
+    nodes: &mut [u16],
+    diagnostics: &mut [u16],
     c: Counters,
     s: Setting,
-    o: u8,
 ) -> InnerStep
-    requires { ⌜ NodeRoom (now tokens) (now nodes) (now diagnostics) c ⌝ }
-    ensures { λ r. ⌜ InnerTold (innerDisplacement s o) (now (line .entry)) (now (tokens .entry)) (now (nodes .entry)) (now (diagnostics .entry)) (now (nodes .exit)) (now (diagnostics .exit)) c r ⌝ }
+    requires { ⌜ NodeRoom (now tokens) (now nodes) c 0 0 1 ⌝ }
+    ensures { λ r. ⌜ InnerTold (innerDisplacement s) (now (line .entry)) (now (tokens .entry)) (now (nodes .entry)) (now (diagnostics .entry)) (now (nodes .exit)) (now (diagnostics .exit)) c r ⌝ }
 {
-    let r = parse_sized_displacement(line, tokens, nodes, diagnostics, c, s, o);
+    let r = parse_sized_displacement(line, tokens, nodes, diagnostics, c, s);
     let e = r.counters;
     let displacement = r.displacement;
     match displacement {
         DisplacementRead::Not => no_inner(e),
-        DisplacementRead::Is(d) => inner_displaced(line, tokens, diagnostics, e, s, o, d),
+        DisplacementRead::Is(d) => inner_displaced(line, tokens, diagnostics, e, s, d),
     }
 }
 
 // Behind the bracket.
 pub(crate) fn parse_inner(
     line: &[u8],
-    tokens: &[u8],
-    nodes: &mut [u8],
-    diagnostics: &mut [u8],
+    tokens: &[u16],
+    nodes: &mut [u16],
+    diagnostics: &mut [u16],
     c: Counters,
     s: Setting,
-    o: u8,
 ) -> InnerStep
-    requires { ⌜ NodeRoom (now tokens) (now nodes) (now diagnostics) c ⌝ }
-    ensures { λ r. ⌜ InnerTold (parseInner s o) (now (line .entry)) (now (tokens .entry)) (now (nodes .entry)) (now (diagnostics .entry)) (now (nodes .exit)) (now (diagnostics .exit)) c r ⌝ }
+    requires { ⌜ NodeRoom (now tokens) (now nodes) c 0 0 1 ⌝ }
+    ensures { λ r. ⌜ InnerTold (parseInner s) (now (line .entry)) (now (tokens .entry)) (now (nodes .entry)) (now (diagnostics .entry)) (now (nodes .exit)) (now (diagnostics .exit)) c r ⌝ }
 {
-    let at = c.at;
+    let at = c.at as usize;
     let p = names::token_at(tokens, at);
     let Peeked::Is(t) = p else {
-        return inner_displacement(line, tokens, nodes, diagnostics, c, s, o);
+        return inner_displacement(line, tokens, nodes, diagnostics, c, s);
     };
     if t.kind == kinds::RIGHT_BRACKET {
         return bare_inner(SizedDisplacement::Not, c);
     }
     if is_a_base_or_an_index(line, t, at, s) {
-        return inner_registers(line, tokens, diagnostics, c, s, o, SizedDisplacement::Not);
+        return inner_registers(line, tokens, diagnostics, c, s, SizedDisplacement::Not);
     }
-    inner_displacement(line, tokens, nodes, diagnostics, c, s, o)
+    inner_displacement(line, tokens, nodes, diagnostics, c, s)
 }

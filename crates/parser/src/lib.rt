@@ -1,6 +1,7 @@
 // The reader of one operand: every addressing mode. Its parts, in reading order:
 
 // what the forms share
+mod expressed;
 mod places;
 mod reports;
 mod steps;
@@ -30,4 +31,5 @@ mod parentheses;
 // the public function
 mod reading;
 
+pub use reading::OperandAnswer;
 pub use reading::operand_at;

@@ -2,6 +2,8 @@
 use crate::places::register_at;
 use crate::reports::raise;
 use crate::steps::no_operand;
+use crate::steps::step_over;
+use expressions::Setting;
 use names::Peeked;
 use names::Reg;
 use names::kinds;
@@ -18,21 +20,21 @@ use records::Span;
 use records::diagnostic;
 use records::put_node;
 use records::span_of;
-use records::step_over;
 ghost use mathlib.Core.Path.{_≡_};
-ghost use Prim.Native.Nat.{_+_, _-_, _*_, _≤_, _<_};
-ghost use lib.ListN.{length};
+ghost use Prim.Native.Nat.{_+_, _-_, _<_};
+ghost use Rattle.records.specs.Rooms.{Room};
 ghost use Rattle.names.specs.Tokens.{tokenAt};
 ghost use Rattle.records.specs.Diagnostics.{registerExpectedInRegisterList};
+ghost use Rattle.records.specs.Stores.{PutAsks};
 ghost use Rattle.terms.specs.Terms.{NodeTold};
 ghost use Rattle.operand.specs.Operand.{parseRegisterList};
 ghost use Rattle.operand.specs.Mask.{bitsFrom};
-ghost use Rattle.parser.specs.Steps.{Room, Raised, OperandTold};
+ghost use Rattle.parser.specs.Steps.{Raised, OperandTold};
 ghost use Rattle.parser.specs.Items.{expectedAt, RegisterTold, RangedTold, singleStep, ItemTold, itemBytes, slashed, listStep, ListAsks};
 
 // A register (kind 7) or a range (kind 8), as its node has it.
 pub struct Item {
-    pub kind: u8,
+    pub kind: u16,
     pub from: Register,
     pub to: Register,
     pub span: Span,
@@ -59,13 +61,19 @@ pub struct RegisterStep {
     pub counters: Counters,
 }
 
+// Where a list ends: the counters, with the cursor and the end of its last token, and the mask of its items.
+pub struct ListEnd {
+    pub counters: Counters,
+    pub mask: u16,
+}
+
 // A register was expected behind this sign: at what stands there instead, or at the end.
-fn register_expected(tokens: &[u8], diagnostics: &mut [u8], c: Counters, sign: u8) -> Counters
-    requires { ⌜ 10 * c .diagnostics + 10 ≤ length (now diagnostics) ⌝ }
+fn register_expected(tokens: &[u16], diagnostics: &mut [u16], c: Counters, sign: u16) -> Counters
+    requires { ⌜ c .diagnostics < 65535 ⌝ }
     ensures { λ r. ⌜ Raised (now (diagnostics .entry)) (now (diagnostics .exit)) c (registerExpectedInRegisterList sign (expectedAt (tokenAt (now (tokens .entry)) (c .at)) (c .end))) r ⌝ }
 {
     let none = Span { start: 0, end: 0 };
-    let at = c.at;
+    let at = c.at as usize;
     let p = names::token_at(tokens, at);
     match p {
         Peeked::Is(t) => raise(diagnostics, c, diagnostic(9, 0, sign, span_of(t), none)),
@@ -82,15 +90,15 @@ fn register_expected(tokens: &[u8], diagnostics: &mut [u8], c: Counters, sign: u
 // The register behind this sign.
 fn expect_register(
     line: &[u8],
-    tokens: &[u8],
-    diagnostics: &mut [u8],
+    tokens: &[u16],
+    diagnostics: &mut [u16],
     c: Counters,
-    sign: u8,
+    sign: u16,
 ) -> RegisterStep
-    requires { ⌜ Room (now tokens) (now diagnostics) c ⌝ }
+    requires { ⌜ Room (now tokens) c 0 1 ⌝ }
     ensures { λ r. ⌜ RegisterTold (now (line .entry)) (now (tokens .entry)) (now (diagnostics .entry)) (now (diagnostics .exit)) c sign r ⌝ }
 {
-    let at = c.at;
+    let at = c.at as usize;
     let p = names::token_at(tokens, at);
     let Peeked::Is(t) = p else {
         return RegisterStep {
@@ -98,8 +106,7 @@ fn expect_register(
             counters: register_expected(tokens, diagnostics, c, sign),
         };
     };
-    let r = register_at(line, t);
-    let Reg::Is(index) = r else {
+    let Reg::Is(index) = register_at(line, t) else {
         return RegisterStep {
             register: RegisterRead::Not,
             counters: register_expected(tokens, diagnostics, c, sign),
@@ -115,8 +122,8 @@ fn expect_register(
 }
 
 // A range that runs backwards is told, and kept.
-fn ranged(diagnostics: &mut [u8], c: Counters, from: Register, to: Register) -> ItemStep
-    requires { ⌜ 10 * c .diagnostics + 10 ≤ length (now diagnostics) ⌝ }
+fn ranged(diagnostics: &mut [u16], c: Counters, from: Register, to: Register) -> ItemStep
+    requires { ⌜ c .diagnostics < 65535 ⌝ }
     ensures { λ r. ⌜ RangedTold (now (diagnostics .entry)) (now (diagnostics .exit)) c from to r ⌝ }
 {
     let span = Span {
@@ -131,8 +138,8 @@ fn ranged(diagnostics: &mut [u8], c: Counters, from: Register, to: Register) -> 
     });
     if to.index < from.index {
         let both = Span {
-            start: from.index,
-            end: to.index,
+            start: from.index as u16,
+            end: to.index as u16,
         };
         return ItemStep {
             item: item,
@@ -163,15 +170,15 @@ fn single(c: Counters, r: Register) -> ItemStep
 // The item that begins with this register.
 fn list_item(
     line: &[u8],
-    tokens: &[u8],
-    diagnostics: &mut [u8],
+    tokens: &[u16],
+    diagnostics: &mut [u16],
     c: Counters,
     r: Register,
 ) -> ItemStep
-    requires { ⌜ Room (now tokens) (now diagnostics) c × (r .index < 16) ⌝ }
+    requires { ⌜ Room (now tokens) c 0 1 × (r .index < 16) ⌝ }
     ensures { λ s. ⌜ ItemTold (now (line .entry)) (now (tokens .entry)) (now (diagnostics .entry)) (now (diagnostics .exit)) c r s ⌝ }
 {
-    let at = c.at;
+    let at = c.at as usize;
     let p = names::token_at(tokens, at);
     let Peeked::Is(t) = p else {
         return single(c, r);
@@ -206,30 +213,30 @@ fn range_bits(from: u8, to: u8) -> u16
 }
 
 // Puts the node of an item.
-fn put_item(nodes: &mut [u8], c: Counters, item: Item) -> Counters
-    requires { ⌜ (c .nodes < 255) × (3570 ≤ length (now nodes)) ⌝ }
+fn put_item(nodes: &mut [u16], c: Counters, item: Item) -> Counters
+    requires { ⌜ PutAsks (now nodes) (c .nodes) ⌝ }
     ensures { λ r. ⌜ NodeTold (now (nodes .entry)) (now (nodes .exit)) c (itemBytes item) r ⌝ }
 {
     let from = item.from.span;
     let to = item.to.span;
-    let ends = (to.start as u64) + 256 * (to.end as u64);
-    let value = (from.start as u64) + 256 * (from.end as u64) + 65536 * ends;
-    let left = item.from.index as u32;
-    let right = item.to.index as u32;
-    let m = put_node(nodes, c.nodes, item.kind, 0, left, right, item.span, value);
+    let ends = (to.start as u64) + 65536 * (to.end as u64);
+    let value = (from.start as u64) + 65536 * (from.end as u64) + 4294967296 * ends;
+    let left = item.from.index as u16;
+    let right = item.to.index as u16;
+    put_node(nodes, c.nodes, item.kind, 0, left, right, item.span, value);
     Counters {
         at: c.at,
         end: c.end,
-        nodes: m,
+        nodes: c.nodes + 1,
         diagnostics: c.diagnostics,
     }
 }
 
-fn listed(o: u8, c: Counters, mask: u16) -> OperandStep
-    ensures { λ r. ⌜ r ≡ listStep o c mask ⌝ }
+fn listed(start: u16, c: Counters, mask: u16) -> OperandStep
+    ensures { λ r. ⌜ r ≡ listStep start c mask ⌝ }
 {
     let span = Span {
-        start: o,
+        start: start,
         end: c.end,
     };
     let x = OperandRecord {
@@ -250,7 +257,7 @@ fn listed(o: u8, c: Counters, mask: u16) -> OperandStep
 }
 
 // A slash goes on, and anything else ends the list.
-fn slash_at(tokens: &[u8], i: usize) -> Peeked
+fn slash_at(tokens: &[u16], i: usize) -> Peeked
     ensures { λ r. ⌜ r ≡ slashed (tokenAt (now (tokens .entry)) i) ⌝ }
 {
     let p = names::token_at(tokens, i);
@@ -266,20 +273,20 @@ fn slash_at(tokens: &[u8], i: usize) -> Peeked
 // The list that begins with this register.
 pub(crate) fn parse_register_list(
     line: &[u8],
-    tokens: &[u8],
-    nodes: &mut [u8],
-    diagnostics: &mut [u8],
+    tokens: &[u16],
+    nodes: &mut [u16],
+    diagnostics: &mut [u16],
     c: Counters,
-    o: u8,
+    s: Setting,
     first: Register,
 ) -> OperandStep
-    requires { ⌜ ListAsks (now tokens) (now nodes) (now diagnostics) c first ⌝ }
-    ensures { λ r. ⌜ OperandTold (parseRegisterList o first) (now (line .entry)) (now (tokens .entry)) (now (nodes .entry)) (now (diagnostics .entry)) (now (nodes .exit)) (now (diagnostics .exit)) c r ⌝ }
+    requires { ⌜ ListAsks (now tokens) (now nodes) c first ⌝ }
+    ensures { λ r. ⌜ OperandTold (parseRegisterList s first) (now (line .entry)) (now (tokens .entry)) (now (diagnostics .entry)) (now (nodes .exit)) (now (diagnostics .exit)) c r ⌝ }
 {
     let mut mask: u16 = 0;
     let mut e = c;
     let mut r = first;
-    loop {
+    let end = loop {
         let i = list_item(line, tokens, diagnostics, e, r);
         let f = i.counters;
         let read = i.item;
@@ -288,9 +295,12 @@ pub(crate) fn parse_register_list(
         };
         mask = mask | range_bits(item.from.index, item.to.index);
         e = put_item(nodes, f, item);
-        let p = slash_at(tokens, e.at);
+        let p = slash_at(tokens, e.at as usize);
         let Peeked::Is(t) = p else {
-            break;
+            break ListEnd {
+                counters: e,
+                mask: mask,
+            };
         };
         let q = expect_register(line, tokens, diagnostics, step_over(e, t), 47);
         e = q.counters;
@@ -299,6 +309,6 @@ pub(crate) fn parse_register_list(
             return no_operand(e);
         };
         r = next;
-    }
-    listed(o, e, mask)
+    };
+    listed(s.start, end.counters, end.mask)
 }

@@ -4,12 +4,15 @@ use crate::immediates::parse_immediate;
 use crate::indexes::expect_close;
 use crate::lists::parse_register_list;
 use crate::parentheses::parse_parenthesised_operand;
+use crate::places::is_register_at;
 use crate::places::register_at;
+use crate::places::register_of;
 use crate::reports::not_an_address_register;
 use crate::reports::raise;
 use crate::steps::an_operand;
 use crate::steps::no_operand;
 use crate::steps::plain_operand;
+use crate::steps::step_over;
 use expressions::Setting;
 use names::Peeked;
 use names::Reg;
@@ -27,44 +30,47 @@ use records::Counters;
 use records::Span;
 use records::diagnostic;
 use records::span_of;
-use records::step_over;
 use terms::Parsed;
-use terms::expression;
-use terms::expression_from;
 ghost use mathlib.Core.Path.{_≡_};
 ghost use mathlib.Core.List.{List};
-ghost use Prim.Native.Nat.{ℕ, _<_};
+ghost use Prim.Native.Nat.{ℕ};
+ghost use Rattle.records.specs.Rooms.{Room, NodeRoom};
+ghost use mathlib.Core.Bool.{true};
 ghost use Rattle.names.specs.Kinds;
+ghost use Rattle.names.specs.Places.{textOf};
 ghost use Rattle.names.specs.Tokens.{tokenAt};
 ghost use Rattle.names.specs.declared.tokens.Peeked.the-variants as peeked;
-ghost use Rattle.operand.specs.Operand.{predecrementClose, registerDirect, nameOrExpression, minusOperand, operandFrom};
+ghost use Rattle.operand.specs.Operand.{aRegister, registerFrom, predecrementClose, registerDirect, nameOrExpression, minusOperand, operandFrom, parseRegisterOperand};
 ghost use Rattle.operand.specs.Operands as O;
 ghost use Rattle.operand.specs.Operands.{undisplaced, some};
 ghost use Rattle.operand.specs.Forms.{operandRead};
-ghost use Rattle.parser.specs.Steps.{Room, NodeRoom, Told, Kept, OperandTold};
+ghost use Rattle.parser.specs.Steps.{Told, Kept, OperandTold};
 ghost use Rattle.parser.specs.Items.{ListAsks};
-ghost use Rattle.parser.specs.Behind.{registerOperand};
 
 // ---- predecrement
 
-// Behind the register.
+// Behind the register, which has been seen.
 fn parse_predecrement(
-    tokens: &[u8],
-    diagnostics: &mut [u8],
+    line: &[u8],
+    tokens: &[u16],
+    diagnostics: &mut [u16],
     c: Counters,
-    o: u8,
+    s: Setting,
     minus: Token,
     paren: Token,
     token: Token,
-    r: Register,
 ) -> OperandStep
-    requires { ⌜ Room (now tokens) (now diagnostics) c ⌝ }
-    ensures { λ s. ⌜ ((L : List ℕ) → Told operandRead (Kept (c .nodes) undisplaced) (predecrementClose o minus paren token r) L (now (tokens .entry)) (now (diagnostics .entry)) (now (diagnostics .exit)) c (s .operand) (s .counters)) ⌝ }
+    requires { ⌜ Room (now tokens) c 0 1 × (aRegister token (textOf (now line) (token .start) (token .end)) ≡ true) ⌝ }
+    ensures { λ q. ⌜ Told operandRead (Kept (c .nodes) undisplaced) (predecrementClose s minus paren token (registerFrom token (textOf (now (line .entry)) (token .start) (token .end)))) (now (line .entry)) (now (tokens .entry)) (now (diagnostics .entry)) (now (diagnostics .exit)) c (q .operand) (q .counters) ⌝ }
 {
-    if r.index < 8 {
-        return no_operand(not_an_address_register(diagnostics, c, o, 4, token));
+    let Reg::Is(index) = register_at(line, token) else {
+        return no_operand(c);
+    };
+    if index < 8 {
+        return no_operand(not_an_address_register(diagnostics, c, s, 4, token));
     }
-    let e = expect_close(tokens, diagnostics, c, o, paren, 4);
+    let r = register_of(index, token);
+    let e = expect_close(tokens, diagnostics, c, s, paren, 4);
     let f = e.counters;
     let close = e.close;
     match close {
@@ -87,25 +93,25 @@ fn parse_predecrement(
 // Behind a register.
 fn parse_register_operand(
     line: &[u8],
-    tokens: &[u8],
-    nodes: &mut [u8],
-    diagnostics: &mut [u8],
+    tokens: &[u16],
+    nodes: &mut [u16],
+    diagnostics: &mut [u16],
     c: Counters,
-    o: u8,
+    s: Setting,
     r: Register,
 ) -> OperandStep
-    requires { ⌜ ListAsks (now tokens) (now nodes) (now diagnostics) c r ⌝ }
-    ensures { λ s. ⌜ OperandTold (registerOperand o r) (now (line .entry)) (now (tokens .entry)) (now (nodes .entry)) (now (diagnostics .entry)) (now (nodes .exit)) (now (diagnostics .exit)) c s ⌝ }
+    requires { ⌜ ListAsks (now tokens) (now nodes) c r ⌝ }
+    ensures { λ q. ⌜ OperandTold (parseRegisterOperand s r) (now (line .entry)) (now (tokens .entry)) (now (diagnostics .entry)) (now (nodes .exit)) (now (diagnostics .exit)) c q ⌝ }
 {
-    let at = c.at;
+    let at = c.at as usize;
     let p = names::token_at(tokens, at);
     let Peeked::Is(t) = p else {
         return register_direct(c, r);
     };
     let kind = t.kind;
     match kind {
-        kinds::MINUS => parse_register_list(line, tokens, nodes, diagnostics, c, o, r),
-        kinds::SLASH => parse_register_list(line, tokens, nodes, diagnostics, c, o, r),
+        kinds::MINUS => parse_register_list(line, tokens, nodes, diagnostics, c, s, r),
+        kinds::SLASH => parse_register_list(line, tokens, nodes, diagnostics, c, s, r),
         _ => register_direct(c, r),
     }
 }
@@ -143,16 +149,15 @@ fn special_register(r: u8, span: Span, c: Counters) -> OperandStep
 // A name that is a register, a special register, or the first term of an expression.
 fn named_operand(
     line: &[u8],
-    tokens: &[u8],
-    nodes: &mut [u8],
-    diagnostics: &mut [u8],
+    tokens: &[u16],
+    nodes: &mut [u16],
+    diagnostics: &mut [u16],
     c: Counters,
     s: Setting,
-    o: u8,
     token: Token,
 ) -> OperandStep
-    requires { ⌜ (NodeRoom (now tokens) (now nodes) (now diagnostics) c) × (c .nodes ≡ 0) × (tokenAt (now tokens) (c .at) ≡ peeked.Is token) × (token .kind ≡ Kinds.identifier) ⌝ }
-    ensures { λ r. ⌜ OperandTold (nameOrExpression s o) (now (line .entry)) (now (tokens .entry)) (now (nodes .entry)) (now (diagnostics .entry)) (now (nodes .exit)) (now (diagnostics .exit)) c r ⌝ }
+    requires { ⌜ (NodeRoom (now tokens) (now nodes) c 0 0 1) × (c .nodes ≡ 0) × (tokenAt (now tokens) (c .at) ≡ peeked.Is token) × (token .kind ≡ Kinds.identifier) ⌝ }
+    ensures { λ r. ⌜ OperandTold (nameOrExpression s) (now (line .entry)) (now (tokens .entry)) (now (diagnostics .entry)) (now (nodes .exit)) (now (diagnostics .exit)) c r ⌝ }
 {
     let r = register_at(line, token);
     if let Reg::Is(index) = r {
@@ -161,66 +166,60 @@ fn named_operand(
             span: span_of(token),
         };
         let e = step_over(c, token);
-        return parse_register_operand(line, tokens, nodes, diagnostics, e, o, register);
+        return parse_register_operand(line, tokens, nodes, diagnostics, e, s, register);
     }
     let special = SpecialRegister::parse(names::text_of(line, token));
     match special {
         SpecialRegister::Is(n) => special_register(n, span_of(token), step_over(c, token)),
-        SpecialRegister::Not => parse_expression_operand(line, tokens, nodes, diagnostics, c, s, o),
+        SpecialRegister::Not => parse_expression_operand(line, tokens, nodes, diagnostics, c, s),
     }
 }
 
 // A minus: a predecrement where a parenthesis and a register follow it.
 fn minus_operand(
     line: &[u8],
-    tokens: &[u8],
-    nodes: &mut [u8],
-    diagnostics: &mut [u8],
+    tokens: &[u16],
+    nodes: &mut [u16],
+    diagnostics: &mut [u16],
     c: Counters,
     s: Setting,
-    o: u8,
     minus: Token,
 ) -> OperandStep
-    requires { ⌜ (NodeRoom (now tokens) (now nodes) (now diagnostics) c) × (c .nodes ≡ 0) × (tokenAt (now tokens) (c .at) ≡ peeked.Is minus) ⌝ }
-    ensures { λ r. ⌜ OperandTold (minusOperand s o minus) (now (line .entry)) (now (tokens .entry)) (now (nodes .entry)) (now (diagnostics .entry)) (now (nodes .exit)) (now (diagnostics .exit)) c r ⌝ }
+    requires { ⌜ (NodeRoom (now tokens) (now nodes) c 0 0 1) × (c .nodes ≡ 0) × (tokenAt (now tokens) (c .at) ≡ peeked.Is minus) ⌝ }
+    ensures { λ r. ⌜ OperandTold (minusOperand s minus) (now (line .entry)) (now (tokens .entry)) (now (diagnostics .entry)) (now (nodes .exit)) (now (diagnostics .exit)) c r ⌝ }
 {
-    let at = c.at;
+    let at = c.at as usize;
     let p = names::token_at(tokens, at + 1);
     let Peeked::Is(paren) = p else {
-        return parse_expression_operand(line, tokens, nodes, diagnostics, c, s, o);
+        return parse_expression_operand(line, tokens, nodes, diagnostics, c, s);
     };
     if paren.kind != kinds::LEFT_PAREN {
-        return parse_expression_operand(line, tokens, nodes, diagnostics, c, s, o);
+        return parse_expression_operand(line, tokens, nodes, diagnostics, c, s);
     }
     let q = names::token_at(tokens, at + 2);
     let Peeked::Is(t) = q else {
-        return parse_expression_operand(line, tokens, nodes, diagnostics, c, s, o);
+        return parse_expression_operand(line, tokens, nodes, diagnostics, c, s);
     };
-    let Reg::Is(index) = register_at(line, t) else {
-        return parse_expression_operand(line, tokens, nodes, diagnostics, c, s, o);
-    };
-    let register = Register {
-        index: index,
-        span: span_of(t),
-    };
+    if !is_register_at(line, t) {
+        return parse_expression_operand(line, tokens, nodes, diagnostics, c, s);
+    }
     let e = step_over(step_over(step_over(c, minus), paren), t);
-    parse_predecrement(tokens, diagnostics, e, o, minus, paren, t, register)
+    parse_predecrement(line, tokens, diagnostics, e, s, minus, paren, t)
 }
 
 // The operand whose first token stands at the cursor.
 pub(crate) fn operand_from(
     line: &[u8],
-    tokens: &[u8],
-    nodes: &mut [u8],
-    diagnostics: &mut [u8],
+    tokens: &[u16],
+    nodes: &mut [u16],
+    diagnostics: &mut [u16],
     c: Counters,
     s: Setting,
     token: Token,
 ) -> OperandStep
-    requires { ⌜ (NodeRoom (now tokens) (now nodes) (now diagnostics) c) × (c .nodes ≡ 0) × (tokenAt (now tokens) (c .at) ≡ peeked.Is token) ⌝ }
-    ensures { λ r. ⌜ OperandTold (operandFrom s (token .start)) (now (line .entry)) (now (tokens .entry)) (now (nodes .entry)) (now (diagnostics .entry)) (now (nodes .exit)) (now (diagnostics .exit)) c r ⌝ }
+    requires { ⌜ (NodeRoom (now tokens) (now nodes) c 0 0 1) × (c .nodes ≡ 0) × (tokenAt (now tokens) (c .at) ≡ peeked.Is token) ⌝ }
+    ensures { λ r. ⌜ OperandTold (operandFrom s) (now (line .entry)) (now (tokens .entry)) (now (diagnostics .entry)) (now (nodes .exit)) (now (diagnostics .exit)) c r ⌝ }
 {
-    let o = token.start;
     let kind = token.kind;
     match kind {
         kinds::COMMA => {
@@ -229,14 +228,14 @@ pub(crate) fn operand_from(
         }
         kinds::HASH => {
             let e = step_over(c, token);
-            parse_immediate(line, tokens, nodes, diagnostics, e, s, o, token)
+            parse_immediate(line, tokens, nodes, diagnostics, e, s, token)
         }
         kinds::LEFT_PAREN => {
             let e = step_over(c, token);
-            parse_parenthesised_operand(line, tokens, nodes, diagnostics, e, s, o, token)
+            parse_parenthesised_operand(line, tokens, nodes, diagnostics, e, s, token)
         }
-        kinds::MINUS => minus_operand(line, tokens, nodes, diagnostics, c, s, o, token),
-        kinds::IDENTIFIER => named_operand(line, tokens, nodes, diagnostics, c, s, o, token),
-        _ => parse_expression_operand(line, tokens, nodes, diagnostics, c, s, o),
+        kinds::MINUS => minus_operand(line, tokens, nodes, diagnostics, c, s, token),
+        kinds::IDENTIFIER => named_operand(line, tokens, nodes, diagnostics, c, s, token),
+        _ => parse_expression_operand(line, tokens, nodes, diagnostics, c, s),
     }
 }

@@ -3,6 +3,7 @@ use crate::displacements::parse_sized_displacement;
 use crate::indexes::parse_index_register;
 use crate::places::is_an_index_at;
 use crate::reports::stepped_over;
+use crate::steps::step_over;
 use expressions::Setting;
 use names::Peeked;
 use names::kinds;
@@ -12,12 +13,11 @@ use operand::IndexRead;
 use operand::IndexRegister;
 use operand::SizedDisplacement;
 use records::Counters;
-use records::step_over;
 ghost use mathlib.Core.Path.{_≡_};
-ghost use Rattle.operand.specs.Operand.{outerIndexed, outerIndex, parseOuter};
+ghost use Rattle.records.specs.Rooms.{NodeRoom};
+ghost use Rattle.operand.specs.Operand.{outerIndexed, outerIndex, parseOuter, outerDisplacement};
 ghost use Rattle.operand.specs.Operands.{some};
-ghost use Rattle.parser.specs.Steps.{NodeRoom};
-ghost use Rattle.parser.specs.Brackets.{OuterTold, outerDisplacement};
+ghost use Rattle.parser.specs.Brackets.{OuterTold};
 ghost use Rattle.operand.specs.declared.forms.SizedDisplacement.{SizedDisplacement};
 ghost use Rattle.parser.specs.declared.outer.OuterRead.{OuterRead};
 
@@ -63,19 +63,18 @@ fn no_outer(c: Counters) -> OuterStep
 // The outer displacement, which stands at the cursor.
 fn outer_displaced(
     line: &[u8],
-    tokens: &[u8],
-    nodes: &mut [u8],
-    diagnostics: &mut [u8],
+    tokens: &[u16],
+    nodes: &mut [u16],
+    diagnostics: &mut [u16],
     c: Counters,
     s: Setting,
-    o: u8,
     index: Index,
     indirection: u8,
 ) -> OuterStep
-    requires { ⌜ NodeRoom (now tokens) (now nodes) (now diagnostics) c ⌝ }
-    ensures { λ r. ⌜ OuterTold (outerDisplacement s o index indirection) (now (line .entry)) (now (tokens .entry)) (now (nodes .entry)) (now (diagnostics .entry)) (now (nodes .exit)) (now (diagnostics .exit)) c r ⌝ }
+    requires { ⌜ NodeRoom (now tokens) (now nodes) c 0 0 1 ⌝ }
+    ensures { λ r. ⌜ OuterTold (outerDisplacement s index indirection) (now (line .entry)) (now (tokens .entry)) (now (nodes .entry)) (now (diagnostics .entry)) (now (nodes .exit)) (now (diagnostics .exit)) c r ⌝ }
 {
-    let r = parse_sized_displacement(line, tokens, nodes, diagnostics, c, s, o);
+    let r = parse_sized_displacement(line, tokens, nodes, diagnostics, c, s);
     let e = r.counters;
     let displacement = r.displacement;
     match displacement {
@@ -87,19 +86,18 @@ fn outer_displaced(
 // Behind the index outside the brackets.
 fn outer_indexed(
     line: &[u8],
-    tokens: &[u8],
-    nodes: &mut [u8],
-    diagnostics: &mut [u8],
+    tokens: &[u16],
+    nodes: &mut [u16],
+    diagnostics: &mut [u16],
     c: Counters,
     s: Setting,
-    o: u8,
     x: IndexRegister,
 ) -> OuterStep
-    requires { ⌜ NodeRoom (now tokens) (now nodes) (now diagnostics) c ⌝ }
-    ensures { λ r. ⌜ OuterTold (outerIndexed s o (some x)) (now (line .entry)) (now (tokens .entry)) (now (nodes .entry)) (now (diagnostics .entry)) (now (nodes .exit)) (now (diagnostics .exit)) c r ⌝ }
+    requires { ⌜ NodeRoom (now tokens) (now nodes) c 0 0 1 ⌝ }
+    ensures { λ r. ⌜ OuterTold (outerIndexed s (some x)) (now (line .entry)) (now (tokens .entry)) (now (nodes .entry)) (now (diagnostics .entry)) (now (nodes .exit)) (now (diagnostics .exit)) c r ⌝ }
 {
     let index = Index::Indexed(x);
-    let at = c.at;
+    let at = c.at as usize;
     let p = names::token_at(tokens, at);
     match p {
         Peeked::End => an_outer(index, 2, SizedDisplacement::Not, c),
@@ -108,7 +106,7 @@ fn outer_indexed(
                 return an_outer(index, 2, SizedDisplacement::Not, c);
             }
             let e = step_over(c, t);
-            outer_displaced(line, tokens, nodes, diagnostics, e, s, o, index, 2)
+            outer_displaced(line, tokens, nodes, diagnostics, e, s, index, 2)
         }
     }
 }
@@ -116,44 +114,42 @@ fn outer_indexed(
 // An index goes inside the brackets or behind them, not both.
 fn outer_index(
     line: &[u8],
-    tokens: &[u8],
-    nodes: &mut [u8],
-    diagnostics: &mut [u8],
+    tokens: &[u16],
+    nodes: &mut [u16],
+    diagnostics: &mut [u16],
     c: Counters,
     s: Setting,
-    o: u8,
     index: Index,
 ) -> OuterStep
-    requires { ⌜ NodeRoom (now tokens) (now nodes) (now diagnostics) c ⌝ }
-    ensures { λ r. ⌜ OuterTold (outerIndex s o index) (now (line .entry)) (now (tokens .entry)) (now (nodes .entry)) (now (diagnostics .entry)) (now (nodes .exit)) (now (diagnostics .exit)) c r ⌝ }
+    requires { ⌜ NodeRoom (now tokens) (now nodes) c 0 0 1 ⌝ }
+    ensures { λ r. ⌜ OuterTold (outerIndex s index) (now (line .entry)) (now (tokens .entry)) (now (nodes .entry)) (now (diagnostics .entry)) (now (nodes .exit)) (now (diagnostics .exit)) c r ⌝ }
 {
     if let Index::Indexed(_) = index {
-        return no_outer(stepped_over(tokens, diagnostics, c, o, 9, 9));
+        return no_outer(stepped_over(tokens, diagnostics, c, s, 9, 9));
     }
-    let i = parse_index_register(line, tokens, diagnostics, c, s, o, 9);
+    let i = parse_index_register(line, tokens, diagnostics, c, s, 9);
     let e = i.counters;
     let read = i.index;
     match read {
         IndexRead::Not => no_outer(e),
-        IndexRead::Is(x) => outer_indexed(line, tokens, nodes, diagnostics, e, s, o, x),
+        IndexRead::Is(x) => outer_indexed(line, tokens, nodes, diagnostics, e, s, x),
     }
 }
 
 // Behind the brackets, with the index that stood between them.
 pub(crate) fn parse_outer(
     line: &[u8],
-    tokens: &[u8],
-    nodes: &mut [u8],
-    diagnostics: &mut [u8],
+    tokens: &[u16],
+    nodes: &mut [u16],
+    diagnostics: &mut [u16],
     c: Counters,
     s: Setting,
-    o: u8,
     index: Index,
 ) -> OuterStep
-    requires { ⌜ NodeRoom (now tokens) (now nodes) (now diagnostics) c ⌝ }
-    ensures { λ r. ⌜ OuterTold (parseOuter s o index) (now (line .entry)) (now (tokens .entry)) (now (nodes .entry)) (now (diagnostics .entry)) (now (nodes .exit)) (now (diagnostics .exit)) c r ⌝ }
+    requires { ⌜ NodeRoom (now tokens) (now nodes) c 0 0 1 ⌝ }
+    ensures { λ r. ⌜ OuterTold (parseOuter s index) (now (line .entry)) (now (tokens .entry)) (now (nodes .entry)) (now (diagnostics .entry)) (now (nodes .exit)) (now (diagnostics .exit)) c r ⌝ }
 {
-    let at = c.at;
+    let at = c.at as usize;
     let p = names::token_at(tokens, at);
     let Peeked::Is(t) = p else {
         return an_outer(index, 1, SizedDisplacement::Not, c);
@@ -162,9 +158,9 @@ pub(crate) fn parse_outer(
         return an_outer(index, 1, SizedDisplacement::Not, c);
     }
     let e = step_over(c, t);
-    let next = e.at;
+    let next = e.at as usize;
     if is_an_index_at(line, tokens, next, s) {
-        return outer_index(line, tokens, nodes, diagnostics, e, s, o, index);
+        return outer_index(line, tokens, nodes, diagnostics, e, s, index);
     }
-    outer_displaced(line, tokens, nodes, diagnostics, e, s, o, index, 1)
+    outer_displaced(line, tokens, nodes, diagnostics, e, s, index, 1)
 }

@@ -21,7 +21,7 @@ ghost use Rattle.names.specs.declared.registers.Suppressed.{Suppressed};
 ghost use Rattle.expressions.specs.Laws.{holds};
 ghost use Rattle.expressions.specs.Reader.{any};
 ghost use Rattle.operand.specs.Operand.{aRegister, anAddressRegister, aProgramCounter, anIndex, aBaseOrAnIndex, closes, sizeOrScale};
-ghost use Rattle.parser.specs.Tests.{addressOf, regAt, suppressedAt, fullIndexStarts, baseStarts, addressBase, suppressedBase, baseAt};
+ghost use Rattle.parser.specs.Tests.{addressOf, regAt, suppressedAt, suppressedReg, fullIndexStarts, baseStarts, addressBase, suppressedBase, baseAt};
 ghost use Rattle.operand.specs.declared.forms.BaseRegister.{BaseRegister};
 
 pub(crate) fn register_at(line: &[u8], token: Token) -> Reg
@@ -31,6 +31,16 @@ pub(crate) fn register_at(line: &[u8], token: Token) -> Reg
         return Reg::Not;
     }
     Reg::parse(names::text_of(line, token))
+}
+
+pub(crate) fn is_register_at(line: &[u8], token: Token) -> bool
+    ensures { λ r. ⌜ r ≡ aRegister token (textOf (now (line .entry)) (token .start) (token .end)) ⌝ }
+{
+    let r = register_at(line, token);
+    match r {
+        Reg::Is(_) => true,
+        Reg::Not => false,
+    }
 }
 
 // A register with the span of its token.
@@ -78,8 +88,20 @@ pub(crate) fn suppressed_register_at(line: &[u8], token: Token, i: usize, s: Set
     names::suppressed_register(names::text_of(line, token))
 }
 
+// The suppressed register at the place i, if it is one that may be an index.
+pub(crate) fn suppressed_index_at(line: &[u8], token: Token, i: usize, s: Setting) -> Reg
+    ensures { λ r. ⌜ r ≡ suppressedReg (suppressedAt s i token (textOf (now (line .entry)) (token .start) (token .end))) ⌝ }
+{
+    let z = suppressed_register_at(line, token, i, s);
+    match z {
+        Suppressed::Register(index) => Reg::Is(index),
+        Suppressed::ProgramCounter => Reg::Not,
+        Suppressed::Not => Reg::Not,
+    }
+}
+
 // `is_an_index_at`
-pub(crate) fn is_an_index_at(line: &[u8], tokens: &[u8], i: usize, s: Setting) -> bool
+pub(crate) fn is_an_index_at(line: &[u8], tokens: &[u16], i: usize, s: Setting) -> bool
     ensures { λ r. ⌜ r ≡ holds (anIndex s i) (place (now (line .entry)) (now (tokens .entry)) i) ⌝ }
 {
     let p = names::token_at(tokens, i);
@@ -118,7 +140,7 @@ pub(crate) fn is_a_base_or_an_index(line: &[u8], token: Token, i: usize, s: Sett
 }
 
 // Whether the place holds a size or a scale, or a parenthesis or a comma where these may follow.
-pub(crate) fn closes_at(tokens: &[u8], i: usize, paren: bool, comma: bool) -> bool
+pub(crate) fn closes_at(tokens: &[u16], i: usize, paren: bool, comma: bool) -> bool
     ensures { λ r. ⌜ ((L : List ℕ) → r ≡ holds (closes paren comma) (place L (now (tokens .entry)) i)) ⌝ }
 {
     let p = names::token_at(tokens, i);
@@ -136,8 +158,8 @@ pub(crate) fn closes_at(tokens: &[u8], i: usize, paren: bool, comma: bool) -> bo
 }
 
 // A suppressed register, a data register that is no base, or an address register with a size or a scale.
-pub(crate) fn starts_a_full_index(line: &[u8], tokens: &[u8], i: usize, s: Setting) -> bool
-    requires { ⌜ i ≤ 255 ⌝ }
+pub(crate) fn starts_a_full_index(line: &[u8], tokens: &[u16], i: usize, s: Setting) -> bool
+    requires { ⌜ i ≤ 1023 ⌝ }
     ensures { λ r. ⌜ r ≡ fullIndexStarts s (place (now (line .entry)) (now (tokens .entry))) i ⌝ }
 {
     let p = names::token_at(tokens, i);
@@ -153,8 +175,8 @@ pub(crate) fn starts_a_full_index(line: &[u8], tokens: &[u8], i: usize, s: Setti
 }
 
 // A register that a full index begins with, by what follows it.
-fn register_starts(line: &[u8], tokens: &[u8], i: usize, token: Token) -> bool
-    requires { ⌜ i ≤ 255 ⌝ }
+fn register_starts(line: &[u8], tokens: &[u16], i: usize, token: Token) -> bool
+    requires { ⌜ i ≤ 1023 ⌝ }
     ensures { λ r. ⌜ r ≡ pick (anAddressRegister token (textOf (now (line .entry)) (token .start) (token .end))) (holds (closes false false) (place (now (line .entry)) (now (tokens .entry)) (i + 1))) (both (aRegister token (textOf (now (line .entry)) (token .start) (token .end))) (holds (closes true false) (place (now (line .entry)) (now (tokens .entry)) (i + 1)))) ⌝ }
 {
     let r = register_at(line, token);
@@ -165,8 +187,8 @@ fn register_starts(line: &[u8], tokens: &[u8], i: usize, token: Token) -> bool
 }
 
 // A register or the program counter, and then a parenthesis, a comma or the end.
-pub(crate) fn starts_a_base(line: &[u8], tokens: &[u8], i: usize) -> bool
-    requires { ⌜ i ≤ 255 ⌝ }
+pub(crate) fn starts_a_base(line: &[u8], tokens: &[u16], i: usize) -> bool
+    requires { ⌜ i ≤ 1023 ⌝ }
     ensures { λ r. ⌜ r ≡ baseStarts (place (now (line .entry)) (now (tokens .entry))) i ⌝ }
 {
     let p = names::token_at(tokens, i);
@@ -184,7 +206,7 @@ pub(crate) fn starts_a_base(line: &[u8], tokens: &[u8], i: usize) -> bool
 }
 
 // A parenthesis, a comma or the end.
-fn ends_a_base(tokens: &[u8], i: usize) -> bool
+fn ends_a_base(tokens: &[u16], i: usize) -> bool
     ensures { λ r. ⌜ ((L : List ℕ) → r ≡ either (not (holds any (place L (now (tokens .entry)) i))) (holds (λ t x. either (eqb (t .kind) Kinds.rightParen) (eqb (t .kind) Kinds.comma)) (place L (now (tokens .entry)) i))) ⌝ }
 {
     let p = names::token_at(tokens, i);
@@ -202,12 +224,12 @@ fn ends_a_base(tokens: &[u8], i: usize) -> bool
 // The base that the token at the place i is, if it is one: a size or a scale makes an address register an index.
 pub(crate) fn base_at(
     line: &[u8],
-    tokens: &[u8],
+    tokens: &[u16],
     i: usize,
     s: Setting,
     token: Token,
 ) -> BaseRegister
-    requires { ⌜ i ≤ 255 ⌝ }
+    requires { ⌜ i ≤ 1023 ⌝ }
     ensures { λ r. ⌜ r ≡ baseAt s (place (now (line .entry)) (now (tokens .entry))) i token (textOf (now (line .entry)) (token .start) (token .end)) ⌝ }
 {
     if program_counter_at(line, token) {
@@ -230,12 +252,12 @@ pub(crate) fn base_at(
 // An address register, or else the other base; none with a size or a scale.
 fn address_at(
     line: &[u8],
-    tokens: &[u8],
+    tokens: &[u16],
     i: usize,
     token: Token,
     other: BaseRegister,
 ) -> BaseRegister
-    requires { ⌜ i ≤ 255 ⌝ }
+    requires { ⌜ i ≤ 1023 ⌝ }
     ensures { λ r. ⌜ r ≡ pick (holds sizeOrScale (place (now (line .entry)) (now (tokens .entry)) (i + 1))) BaseRegister.Omitted (addressBase (regAt token (textOf (now (line .entry)) (token .start) (token .end))) token other) ⌝ }
 {
     if closes_at(tokens, i + 1, false, false) {

@@ -1,4 +1,6 @@
-// Diagnostics of operands. `o` is where the operand starts; a span ends where the last token ended.
+// Diagnostics of operands. A span runs from the operand's start to where the last token ended.
+use crate::steps::step_over;
+use expressions::Setting;
 use names::Peeked;
 use names::Token;
 use records::Counters;
@@ -7,40 +9,39 @@ use records::Span;
 use records::diagnostic;
 use records::push_diagnostic;
 use records::span_of;
-use records::step_over;
 ghost use mathlib.Core.Path.{_≡_};
-ghost use Prim.Native.Nat.{_+_, _*_, _≤_};
-ghost use lib.ListN.{length};
+ghost use Prim.Native.Nat.{_<_};
+ghost use Rattle.records.specs.Rooms.{Room};
 ghost use Rattle.records.specs.Spans.{span, noSpan, spanOf};
 ghost use Rattle.records.specs.Diagnostics.{malformedOperand, malformedOpen, expressionExpected};
-ghost use Rattle.parser.specs.Steps.{Room, Raised, RaisedOver};
+ghost use Rattle.parser.specs.Steps.{Raised, RaisedOver};
 
-pub(crate) fn raise(diagnostics: &mut [u8], c: Counters, x: Diagnostic) -> Counters
-    requires { ⌜ 10 * c .diagnostics + 10 ≤ length (now diagnostics) ⌝ }
+pub(crate) fn raise(diagnostics: &mut [u16], c: Counters, x: Diagnostic) -> Counters
+    requires { ⌜ c .diagnostics < 65535 ⌝ }
     ensures { λ r. ⌜ Raised (now (diagnostics .entry)) (now (diagnostics .exit)) c x r ⌝ }
 {
-    let d = push_diagnostic(diagnostics, c.diagnostics, x);
+    push_diagnostic(diagnostics, c.diagnostics, x);
     Counters {
         at: c.at,
         end: c.end,
         nodes: c.nodes,
-        diagnostics: d,
+        diagnostics: c.diagnostics + 1,
     }
 }
 
 // The shape, and the problem's number.
 pub(crate) fn malformed(
-    diagnostics: &mut [u8],
+    diagnostics: &mut [u16],
     c: Counters,
-    o: u8,
-    shape: u8,
-    problem: u8,
+    s: Setting,
+    shape: u16,
+    problem: u16,
 ) -> Counters
-    requires { ⌜ 10 * c .diagnostics + 10 ≤ length (now diagnostics) ⌝ }
-    ensures { λ r. ⌜ Raised (now (diagnostics .entry)) (now (diagnostics .exit)) c (malformedOperand shape problem (span o (c .end)) noSpan) r ⌝ }
+    requires { ⌜ c .diagnostics < 65535 ⌝ }
+    ensures { λ r. ⌜ Raised (now (diagnostics .entry)) (now (diagnostics .exit)) c (malformedOperand shape problem (span (s .start) (c .end)) noSpan) r ⌝ }
 {
     let span = Span {
-        start: o,
+        start: s.start,
         end: c.end,
     };
     let none = Span { start: 0, end: 0 };
@@ -49,17 +50,17 @@ pub(crate) fn malformed(
 
 // Problem 2, quoting the token.
 pub(crate) fn not_an_address_register(
-    diagnostics: &mut [u8],
+    diagnostics: &mut [u16],
     c: Counters,
-    o: u8,
-    shape: u8,
+    s: Setting,
+    shape: u16,
     token: Token,
 ) -> Counters
-    requires { ⌜ 10 * c .diagnostics + 10 ≤ length (now diagnostics) ⌝ }
-    ensures { λ r. ⌜ Raised (now (diagnostics .entry)) (now (diagnostics .exit)) c (malformedOperand shape 2 (span o (c .end)) (spanOf token)) r ⌝ }
+    requires { ⌜ c .diagnostics < 65535 ⌝ }
+    ensures { λ r. ⌜ Raised (now (diagnostics .entry)) (now (diagnostics .exit)) c (malformedOperand shape 2 (span (s .start) (c .end)) (spanOf token)) r ⌝ }
 {
     let span = Span {
-        start: o,
+        start: s.start,
         end: c.end,
     };
     raise(
@@ -71,18 +72,18 @@ pub(crate) fn not_an_address_register(
 
 // The parenthesis `paren` is never closed.
 pub(crate) fn unclosed(
-    diagnostics: &mut [u8],
+    diagnostics: &mut [u16],
     c: Counters,
-    o: u8,
+    s: Setting,
     paren: Token,
-    shape: u8,
-    problem: u8,
+    shape: u16,
+    problem: u16,
 ) -> Counters
-    requires { ⌜ 10 * c .diagnostics + 10 ≤ length (now diagnostics) ⌝ }
-    ensures { λ r. ⌜ Raised (now (diagnostics .entry)) (now (diagnostics .exit)) c (malformedOpen shape problem (span o (c .end)) (spanOf paren)) r ⌝ }
+    requires { ⌜ c .diagnostics < 65535 ⌝ }
+    ensures { λ r. ⌜ Raised (now (diagnostics .entry)) (now (diagnostics .exit)) c (malformedOpen shape problem (span (s .start) (c .end)) (spanOf paren)) r ⌝ }
 {
     let span = Span {
-        start: o,
+        start: s.start,
         end: c.end,
     };
     let x = Diagnostic {
@@ -99,27 +100,27 @@ pub(crate) fn unclosed(
 
 // Malformed, behind whatever stands at the cursor.
 pub(crate) fn stepped_over(
-    tokens: &[u8],
-    diagnostics: &mut [u8],
+    tokens: &[u16],
+    diagnostics: &mut [u16],
     c: Counters,
-    o: u8,
-    shape: u8,
-    problem: u8,
+    s: Setting,
+    shape: u16,
+    problem: u16,
 ) -> Counters
-    requires { ⌜ Room (now tokens) (now diagnostics) c ⌝ }
-    ensures { λ r. ⌜ RaisedOver (now (tokens .entry)) (now (diagnostics .entry)) (now (diagnostics .exit)) c (λ l. malformedOperand shape problem (span o l) noSpan) r ⌝ }
+    requires { ⌜ Room (now tokens) c 0 1 ⌝ }
+    ensures { λ r. ⌜ RaisedOver (now (tokens .entry)) (now (diagnostics .entry)) (now (diagnostics .exit)) c (λ l. malformedOperand shape problem (span (s .start) l) noSpan) r ⌝ }
 {
-    let at = c.at;
+    let at = c.at as usize;
     let p = names::token_at(tokens, at);
     match p {
-        Peeked::Is(t) => malformed(diagnostics, step_over(c, t), o, shape, problem),
-        Peeked::End => malformed(diagnostics, c, o, shape, problem),
+        Peeked::Is(t) => malformed(diagnostics, step_over(c, t), s, shape, problem),
+        Peeked::End => malformed(diagnostics, c, s, shape, problem),
     }
 }
 
 // An expression was expected behind this token.
-pub(crate) fn expression_expected(diagnostics: &mut [u8], c: Counters, token: Token) -> Counters
-    requires { ⌜ 10 * c .diagnostics + 10 ≤ length (now diagnostics) ⌝ }
+pub(crate) fn expression_expected(diagnostics: &mut [u16], c: Counters, token: Token) -> Counters
+    requires { ⌜ c .diagnostics < 65535 ⌝ }
     ensures { λ r. ⌜ Raised (now (diagnostics .entry)) (now (diagnostics .exit)) c (expressionExpected (spanOf token)) r ⌝ }
 {
     let end = Span {

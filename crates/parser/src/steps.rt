@@ -1,4 +1,5 @@
-// The answers of the functions, put together.
+// The cursor, a token further; the answers of the functions, put together.
+use names::Token;
 use operand::BaseRegister;
 use operand::Index;
 use operand::OperandRead;
@@ -9,11 +10,25 @@ use operand::SizedDisplacement;
 use records::Counters;
 use records::Span;
 ghost use mathlib.Core.Path.{_≡_};
-ghost use Prim.Native.Nat.{_-_, _≤_, _<_};
+ghost use Prim.Native.Nat.{_-_, _<_};
+ghost use Rattle.records.specs.Counting.{stepped};
 ghost use Rattle.operand.specs.Forms.{formOf};
 ghost use Rattle.operand.specs.declared.forms.Index.{Index};
 ghost use Rattle.operand.specs.declared.forms.OperandRead.{OperandRead};
 ghost use Rattle.operand.specs.declared.forms.SizedDisplacement.{SizedDisplacement};
+
+// Behind a token that stands at the cursor.
+pub(crate) fn step_over(c: Counters, token: Token) -> Counters
+    requires { ⌜ c .at < 65535 ⌝ }
+    ensures { λ r. ⌜ r ≡ stepped c token ⌝ }
+{
+    Counters {
+        at: c.at + 1,
+        end: token.end,
+        nodes: c.nodes,
+        diagnostics: c.diagnostics,
+    }
+}
 
 // An operand without an index or an outer displacement.
 pub(crate) fn plain_operand(
@@ -69,11 +84,11 @@ pub(crate) fn an_operand(operand: OperandRecord, c: Counters) -> OperandStep
 
 // The tree that the last records hold, with this size.
 pub(crate) fn last_tree(c: Counters, size: u8) -> SizedDisplacement
-    requires { ⌜ (0 < c .nodes) × (c .nodes ≤ 255) ⌝ }
+    requires { ⌜ 0 < c .nodes ⌝ }
     ensures { λ r. ⌜ r ≡ SizedDisplacement.Is (record { node = c .nodes - 1; size = size }) ⌝ }
 {
     SizedDisplacement::Is(Sized {
-        node: (c.nodes - 1) as u8,
+        node: c.nodes - 1,
         size: size,
     })
 }

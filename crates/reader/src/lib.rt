@@ -1,8 +1,8 @@
 // A thin reader: the lent line, its tokens and a place among them. The borrow checker covers no function over a struct that holds
 // references, so each of those is proved by hand and leaves the work to a covered function of plain parameters.
 use names::Peeked;
+use names::lent_token_at;
 use names::text_of;
-use names::token_at;
 ghost use mathlib.Core.Path.{_≡_};
 ghost use Rattle.reader.specs.Cursor.{textAt, placeIn, nextPlace};
 
@@ -16,7 +16,7 @@ pub struct Reader<'a, 'b> {
 pub fn text_at<'a, 'b>(line: &'a [u8], tokens: &'b [u8], place: usize) -> &'a [u8]
     ensures { λ r. ⌜ now r ≡ textAt (now (line .entry)) (now (tokens .entry)) place ⌝ }
 {
-    match token_at(tokens, place) {
+    match lent_token_at(tokens, place) {
         Peeked::Is(token) => text_of(line, token),
         Peeked::End => &line[0..0],
     }
@@ -34,7 +34,7 @@ pub fn place_in(tokens: &[u8], place: usize) -> usize
 pub fn next_place(tokens: &[u8], place: usize) -> usize
     ensures { λ r. ⌜ r ≡ nextPlace (now (tokens .entry)) place ⌝ }
 {
-    match token_at(tokens, place) {
+    match lent_token_at(tokens, place) {
         Peeked::Is(token) => place + 1,
         Peeked::End => place,
     }

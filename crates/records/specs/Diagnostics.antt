@@ -1,7 +1,9 @@
--- Diagnostics: document 01's ten bytes, and a name for each kind that `parse_operand` raises.
+-- Diagnostics: ten numbers, and a name for each kind that `parse_operand` raises.
 -- Assumes nothing.
 use mathlib.Core.List.{List, [], _∷_}
 use Prim.Native.Nat.{ℕ, _+_}
+use lib.Dec.{ltb}
+use Rattle.names.specs.Choice.{pick}
 use Rattle.records.specs.Spans.{span, empty, noSpan}
 use Rattle.records.specs.declared.spans.Span.{Span}
 use Rattle.records.specs.declared.diagnostics.Diagnostic.{Diagnostic}
@@ -19,9 +21,13 @@ plain kind span text = diagnostic kind 0 0 span text
 abbrev pub numberTooLarge : Span → Diagnostic
 numberTooLarge s = plain 1 s s
 
--- the suffix, and its run behind the first byte
+-- where a suffix's run begins: behind its first byte, if it has one
+abbrev pub runStart : Span → ℕ
+runStart s = pick (ltb (s .start) (s .end)) (s .start + 1) (s .end)
+
+-- the suffix, and its run
 abbrev pub unknownSizeSuffix : Span → Diagnostic
-unknownSizeSuffix s = plain 2 s (span (s .start + 1) (s .end))
+unknownSizeSuffix s = plain 2 s (span (runStart s) (s .end))
 
 -- the suffix, and the name with it, from where that begins
 abbrev pub dotInName : Span → ℕ → Diagnostic
@@ -66,7 +72,7 @@ expressionExpected after = plain 12 (empty (after .end)) after
 abbrev pub plusIsNotAUnaryOperator : Span → Span → Diagnostic
 plusIsNotAUnaryOperator s term = plain 13 s term
 
--- document 01's ten bytes
+-- its ten numbers
 unfoldable pub diagnosticRecord : Diagnostic → List ℕ
 diagnosticRecord d =
     d .kind ∷ d .shape ∷ d .problem ∷ d .span .start ∷ d .span .end ∷ d .text .start ∷ d .text .end ∷ d .related .start ∷ d .related .end ∷ d .«has_related» ∷ []

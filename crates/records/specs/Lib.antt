@@ -1,7 +1,8 @@
--- Records in lent stores, in reading order.
+-- Records of numbers in stores, in reading order.
 pub mod Spans
 pub mod Counting
 pub mod Diagnostics
 pub mod Nodes
 pub mod Stores
+pub mod Rooms
 pub mod Written

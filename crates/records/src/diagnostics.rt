@@ -1,13 +1,13 @@
 // Diagnostics.
 use crate::spans::Span;
 
-// A diagnostic, as its ten bytes have it.
+// A diagnostic, as its ten numbers have it.
 pub struct Diagnostic {
-    pub kind: u8,
-    pub shape: u8,
-    pub problem: u8,
+    pub kind: u16,
+    pub shape: u16,
+    pub problem: u16,
     pub span: Span,
     pub text: Span,
     pub related: Span,
-    pub has_related: u8,
+    pub has_related: u16,
 }

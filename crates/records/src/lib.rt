@@ -1,4 +1,4 @@
-// Records in lent stores: spans, counters, diagnostics and nodes.
+// Records of numbers in stores: spans, counters, diagnostics and nodes.
 mod counters;
 mod diagnostics;
 mod nodes;
@@ -7,8 +7,10 @@ mod spans;
 mod store;
 
 pub use counters::Counters;
-pub use counters::step_over;
+pub use counters::MOST_COUNTED;
+pub use counters::MOST_TOKENS;
 pub use diagnostics::Diagnostic;
+pub use nodes::clear_behind;
 pub use nodes::clear_nodes;
 pub use nodes::put_node;
 pub use nodes::widen;
@@ -16,4 +18,3 @@ pub use reports::diagnostic;
 pub use reports::push_diagnostic;
 pub use spans::Span;
 pub use spans::span_of;
-pub use store::write;

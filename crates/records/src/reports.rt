@@ -3,13 +3,12 @@ use crate::diagnostics::Diagnostic;
 use crate::spans::Span;
 use crate::store::write;
 ghost use mathlib.Core.Path.{_≡_};
-ghost use Prim.Native.Nat.{_+_, _*_, _≤_};
-ghost use lib.ListN.{length};
-ghost use Rattle.records.specs.Diagnostics.{diagnostic};
-ghost use Rattle.records.specs.Stores.{PushTold};
+ghost use Prim.Native.Nat.{_*_};
+ghost use Rattle.records.specs.Diagnostics.{diagnostic, diagnosticRecord};
+ghost use Rattle.records.specs.Stores.{written};
 
 // A diagnostic that points at no other span.
-pub fn diagnostic(kind: u8, shape: u8, problem: u8, span: Span, text: Span) -> Diagnostic
+pub fn diagnostic(kind: u16, shape: u16, problem: u16, span: Span, text: Span) -> Diagnostic
     ensures { λ r. ⌜ r ≡ diagnostic kind shape problem span text ⌝ }
 {
     Diagnostic {
@@ -23,10 +22,9 @@ pub fn diagnostic(kind: u8, shape: u8, problem: u8, span: Span, text: Span) -> D
     }
 }
 
-// Writes the diagnostic record d, and returns the next number.
-pub fn push_diagnostic(diagnostics: &mut [u8], d: usize, x: Diagnostic) -> usize
-    requires { ⌜ 10 * d + 10 ≤ length (now diagnostics) ⌝ }
-    ensures { λ r. ⌜ PushTold (now (diagnostics .entry)) (now (diagnostics .exit)) d x r ⌝ }
+// Writes the diagnostic record d, where it fits.
+pub fn push_diagnostic(diagnostics: &mut [u16], d: u16, x: Diagnostic)
+    ensures { λ _. ⌜ now (diagnostics .exit) ≡ written (now (diagnostics .entry)) (10 * d) (diagnosticRecord x) ⌝ }
 {
     let record = [
         x.kind,
@@ -40,6 +38,5 @@ pub fn push_diagnostic(diagnostics: &mut [u8], d: usize, x: Diagnostic) -> usize
         x.related.end,
         x.has_related,
     ];
-    write(diagnostics, 10 * d, &record);
-    d + 1
+    write(diagnostics, 10 * (d as usize), &record);
 }

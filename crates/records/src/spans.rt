@@ -5,8 +5,8 @@ ghost use Rattle.records.specs.Spans.{spanOf};
 
 // Byte offsets in the line, the end excluded.
 pub struct Span {
-    pub start: u8,
-    pub end: u8,
+    pub start: u16,
+    pub end: u16,
 }
 
 // The span of a token.

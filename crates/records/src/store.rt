@@ -1,17 +1,20 @@
-// Bytes in a lent store.
+// Numbers in a store.
 ghost use mathlib.Core.Path.{_≡_};
-ghost use Prim.Native.Nat.{_+_, _≤_};
-ghost use lib.ListN.{length};
 ghost use Rattle.records.specs.Stores.{written};
 
-// Writes the bytes from a place of the store on.
-pub fn write(store: &mut [u8], at: usize, bytes: &[u8])
-    requires { ⌜ at + length (now bytes) ≤ length (now store) ⌝ }
-    ensures { λ _. ⌜ now (store .exit) ≡ written (now (store .entry)) at (now (bytes .entry)) ⌝ }
+// Writes the numbers from a place of the store on, where all of them fit.
+pub(crate) fn write(store: &mut [u16], at: usize, numbers: &[u16])
+    ensures { λ _. ⌜ now (store .exit) ≡ written (now (store .entry)) at (now (numbers .entry)) ⌝ }
 {
+    if store.len() < numbers.len() {
+        return;
+    }
+    if store.len() - numbers.len() < at {
+        return;
+    }
     let mut i = 0;
-    while i < bytes.len() {
-        store[at + i] = bytes[i];
+    while i < numbers.len() {
+        store[at + i] = numbers[i];
         i += 1;
     }
 }

@@ -67,11 +67,11 @@ sized-zero (c ∷ d ∷ ds) {n} h z = true-false (sym (ap isSized h))
 abbrev long : {at : ℕ → Place} {j n : ℕ} → Letter at j n → n ≡ 3 → Letter at j 3
 long t e = record { sign = t .sign; size = t .size ∙ ap SizeSuffix.Is e }
 
-module _ (s : Setting) (at : ℕ → Place) (count : ℕ) (ends : (j : ℕ) (k : Token) (x : List ℕ) → at j ≡ stands k x → j < count) (few : count ≤ fuel) (own o : ℕ) where
+module _ (s : Setting) (at : ℕ → Place) (count : ℕ) (ends : (j : ℕ) (k : Token) (x : List ℕ) → at j ≡ stands k x → j < count) (few : count ≤ fuel) (own : ℕ) where
   -- ---- 1: immediate
 
-  immediate-sized : {j n : ℕ} (m : ℕ) {e : Expr} {z : Suffix} (t : Sign at Kinds.hash own) → Plain s at count ends few own o (own + 1) j e → SuffixAt at j n z
-      → Quiet (Operand.immediateSize o (t .token) e z) at (Found s at count ends few own o) n m
+  immediate-sized : {j n : ℕ} (m : ℕ) {e : Expr} {z : Suffix} (t : Sign at Kinds.hash own) → Plain s at count ends few own (own + 1) j e → SuffixAt at j n z
+      → Quiet (Operand.immediateSize s (t .token) e z) at (Found s at count ends few own) n m
   unfolding Silent Operand.immediateSize Operand.malformed
   immediate-sized m t h (a-suffix {n = n} z) = record {
     all = silent-choose (eqb n 3) _ _ _ _ _ _ (λ q. Spelling.immediate-long t h (long z (eqb-true n 3 q))) λ q.
@@ -79,7 +79,7 @@ module _ (s : Setting) (at : ℕ → Place) (count : ℕ) (ends : (j : ℕ) (k :
   }
   immediate-sized m t h (no-suffix q) = record { all = Spelling.immediate t h }
 
-  immediate-sound : (t : Sign at Kinds.hash own) (l : ℕ) → Quiet (Operand.parseImmediate s o (t .token)) at (Found s at count ends few own o) (own + 1) l
+  immediate-sound : (t : Sign at Kinds.hash own) (l : ℕ) → Quiet (Operand.parseImmediate s (t .token)) at (Found s at count ends few own) (own + 1) l
   unfolding Silent Operand.parseImmediate Operand.immediateValue
   immediate-sound t l = record {
     all = call (expression-spelled at count ends own few (s .limit) (own + 1) l (omega arith, λ z. absurd (omega arith))) λ j m. elim [
@@ -92,18 +92,18 @@ module _ (s : Setting) (at : ℕ → Place) (count : ℕ) (ends : (j : ℕ) (k :
   -- ---- 2, 3, 14: a register and what may follow it
 
   direct-spelled : (r : Register) → RegisterAt at own r → (b : Bool) → leb 8 (r .index) ≡ b
-      → Spelling s at unreserved own o (own + 1) (pick b (O.addressRegisterDirect r (r .span)) (O.dataRegisterDirect r (r .span)))
+      → Spelling s at unreserved own (own + 1) (pick b (O.addressRegisterDirect r (r .span)) (O.dataRegisterDirect r (r .span)))
   direct-spelled r p true q = Spelling.address-register (an-address p (leb-true 8 _ q))
   direct-spelled r p false q = Spelling.data-register p (leb-false 8 _ q)
 
-  list-spelled : {j : ℕ} {y : Operand} → ListAt s at o [] own j y → own + 1 < j → Spelling s at unreserved own o j y
+  list-spelled : {j : ℕ} {y : Operand} → ListAt s at [] own j y → own + 1 < j → Spelling s at unreserved own j y
   list-spelled (list-at h) long = Spelling.list h long
 
-  register-sound : (k : Token) (x : List ℕ) → at own ≡ stands k x → aRegister k x ≡ true → Quiet (Operand.parseRegisterOperand o k x) at (Found s at count ends few own o) (own + 1) (k .end)
+  register-sound : (k : Token) (x : List ℕ) → at own ≡ stands k x → aRegister k x ≡ true → Quiet (Operand.parseRegisterOperand s (registerFrom k x)) at (Found s at count ends few own) (own + 1) (k .end)
   unfolding Silent Operand.parseRegisterOperand Operand.parseRegisterList Operand.registerDirect registerFrom holds
   register-sound k x e q = record {
     all = (
-      (λ t y e₂ q₂. call (list-sound s at o fuel [] (registerFrom k x) own (found-register e q)) λ j m. elim [
+      (λ t y e₂ q₂. call (list-sound s at fuel [] (registerFrom k x) own (found-register e q)) λ j m. elim [
         | some v ↦ λ a h. list-spelled (h .0) (h .2 (omega (arith, fuel-enough)) (rw (rw (add-zero (own + 1)) at e₂) q₂))
         | none ↦ λ a h. tt
       ]),
@@ -114,32 +114,32 @@ module _ (s : Setting) (at : ℕ → Place) (count : ℕ) (ends : (j : ℕ) (k :
   -- ---- 4: a special register
 
   special-spelled : {k : Token} {x : List ℕ} → at own ≡ stands k x → eqb (k .kind) Kinds.identifier ≡ true → (n : SpecialRegister) → specialOf x ≡ n → isSpecial n ≡ true
-      → Spelling s at unreserved own o (own + 1) (O.specialRegister (Operand.specialIndex n) (spanOf k))
+      → Spelling s at unreserved own (own + 1) (O.specialRegister (Operand.specialIndex n) (spanOf k))
   unfolding Operand.specialIndex
   special-spelled e q (SpecialRegister.Is n) f g = Spelling.special-register (signed Kinds.identifier e q) f
   special-spelled e q SpecialRegister.Not f g = absurd (true-false (sym g))
 
   -- ---- 7: predecrement
 
-  predecrement-closed : {r : Register} {m z : ℕ} (t : Sign at Kinds.minus own) → Sign at Kinds.leftParen (own + 1) → AddressAt at (own + 1 + 1) r → CloseAt s at count ends few own o (own + 1 + 1 + 1) m z
-      → Spelling s at unreserved own o m (O.predecrement r (span (t .token .start) z))
+  predecrement-closed : {r : Register} {m z : ℕ} (t : Sign at Kinds.minus own) → Sign at Kinds.leftParen (own + 1) → AddressAt at (own + 1 + 1) r → CloseAt s at count ends few own (own + 1 + 1 + 1) m z
+      → Spelling s at unreserved own m (O.predecrement r (span (t .token .start) z))
   predecrement-closed t p r (close-at c) = Spelling.predecrement t p r c
 
   predecrement-sound : {x : List ℕ} {r : Token} (t : Sign at Kinds.minus own) (p : Sign at Kinds.leftParen (own + 1)) → at (own + 1 + 1) ≡ stands r x → aRegister r x ≡ true → (l : ℕ)
-      → Quiet (Operand.parsePredecrement o (t .token) (p .token) r x) at (Found s at count ends few own o) own l
+      → Quiet (Operand.parsePredecrement s (t .token) (p .token) r x) at (Found s at count ends few own) own l
   unfolding Silent Operand.parsePredecrement Operand.over Operand.predecrementClose Operand.predecremented Operand.notAnAddressRegister
   predecrement-sound {x} {r} t p e q l = record {
     all = (
       (λ k₁ x₁ e₁ q₁ w₁. (
         (λ k₂ x₂ e₂ q₂ w₂. (
           (λ k₃ x₃ e₃ q₃ w₃. silent-choose (leb 8 (registerFrom r x .index)) _ _ _ _ _ _
-              (λ f. call (close-sound s at count ends few own o (p .token) 4 _ _) λ n m. elim [ some z ↦ λ a g. predecrement-closed t p (an-address (found-register e q) (leb-true 8 _ f)) g | none ↦ λ a g. tt ])
+              (λ f. call (close-sound s at count ends few own (p .token) 4 _ _) λ n m. elim [ some z ↦ λ a g. predecrement-closed t p (an-address (found-register e q) (leb-true 8 _ f)) g | none ↦ λ a g. tt ])
               λ f. tt),
-          λ q₃. absurd (stood s at count ends few own o e q₃),
+          λ q₃. absurd (stood s at count ends few own e q₃),
         )),
-        λ q₂. absurd (stood s at count ends few own o (p .there) q₂),
+        λ q₂. absurd (stood s at count ends few own (p .there) q₂),
       )),
-      λ q₁. absurd (stood s at count ends few own o (t .there) q₁),
+      λ q₁. absurd (stood s at count ends few own (t .there) q₁),
     );
   }
 
@@ -152,20 +152,20 @@ module _ (s : Setting) (at : ℕ → Place) (count : ℕ) (ends : (j : ℕ) (k :
     not-paren : holds (is Kinds.leftParen) (at own) ≡ false → k₀ .kind ≡ Kinds.leftParen → ⊥
     not-paren p z = true-false (sym (comes {at = at} {i = own} (is Kinds.leftParen) first (ap (λ k. eqb k Kinds.leftParen) z)) ∙ p)
 
-    expression-operand-sound : holds (is Kinds.leftParen) (at own) ≡ false → (l : ℕ) → Quiet (Operand.parseExpressionOperand s o) at (Found s at count ends few own o) own l
-    unfolding Silent Operand.parseExpressionOperand Operand.expressionOperand Operand.displacementTail
+    expression-operand-sound : holds (is Kinds.leftParen) (at own) ≡ false → (l : ℕ) → Quiet (Operand.parseExpressionOperand s) at (Found s at count ends few own) own l
+    unfolding Silent Operand.parseExpressionOperand Operand.expressionOperand Operand.noExpression Operand.displacementTail
     expression-operand-sound p l = record {
       all = call (expression-spelled at count ends own few (s .limit) own l (omega arith, λ z. p)) λ j m. elim [
         | read e ↦ λ a h. (
-          (λ k x e₂ q w. base-sound s at count ends few own o k (k .end) (Spelling.displacing (Spelling.before (Spelling.bare first (not-paren p) (h .1)) (signed Kinds.leftParen e₂ q))) .all),
-          λ q. finish-sound s at count ends few own o e m (h .1) .all,
+          (λ k x e₂ q w. base-sound s at count ends few own k (k .end) (Spelling.displacing (Spelling.before (Spelling.bare first (not-paren p) (h .1)) (signed Kinds.leftParen e₂ q))) .all),
+          λ q. finish-sound s at count ends few own e m (h .1) .all,
         )
         | reported ↦ λ a h. absurd h
         | absent ↦ λ a h. ((λ k x e q. tt), λ q. tt)
       ];
     }
 
-    pub operand-sound : (l : ℕ) → Quiet (operandFrom s o) at (Found s at count ends few own o) own l
+    pub operand-sound : (l : ℕ) → Quiet (operandFrom s) at (Found s at count ends few own) own l
     unfolding Silent operandFrom Operand.minusOperand Operand.nameOrExpression
     operand-sound l = record {
       all = (
@@ -173,7 +173,7 @@ module _ (s : Setting) (at : ℕ → Place) (count : ℕ) (ends : (j : ℕ) (k :
         λ _. (
           (λ k x e q w. immediate-sound (signed Kinds.hash e q) (k .end) .all),
           λ _. (
-            (λ k x e q w. grouped-sound s at count ends few own o (signed Kinds.leftParen e q) (k .end) .all),
+            (λ k x e q w. grouped-sound s at count ends few own (signed Kinds.leftParen e q) (k .end) .all),
             λ p. (
               (λ k x e q. (
                 (λ k₂ x₂ e₂ q₂. (

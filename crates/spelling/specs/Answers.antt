@@ -12,12 +12,13 @@ use Rattle.expressions.specs.Costs.{true-false}
 use Rattle.records.specs.declared.diagnostics.Diagnostic.{Diagnostic}
 use Rattle.operand.specs.Operands.{Operand, Maybe, some, none}
 use Rattle.operand.specs.Records.{sizeM, diagnosticRecords}
-use Rattle.operand.specs.Entry.{Input, placeOf, setting, readingAt, nodesAfter, diagnosticsAfter, outcome, outcomeOf}
+use Rattle.operand.specs.Layout.{lows}
+use Rattle.operand.specs.Entry.{Input, placeOf, readingAt, nodesAfter, diagnosticsAfter, outcome, outcomeOf}
 use Rattle.operand.specs.Forms.{recordOf}
-use Rattle.operand.specs.Promise.{nesting, resultOf, resultAt, EntryPromise}
+use Rattle.layout.specs.Promise.{nesting, resultOf, resultAt, EntryPromise}
 use Rattle.operand.specs.Conditions.{Valid}
-use Rattle.operand.specs.declared.entry.Answer.{Answer}
-use Rattle.operand.specs.declared.entry.Found.{Found}
+use Rattle.layout.specs.declared.answer.Answer.{Answer}
+use Rattle.layout.specs.declared.answer.Found.{Found}
 use Rattle.spelling.specs.Signs.{unreserved, ordinary}
 use Rattle.spelling.specs.Spelling.{Closed, Spelled}
 use Rattle.spelling.specs.Silence.{Unerring}
@@ -43,7 +44,7 @@ module _ (a : Input) (N′ D′ : List ℕ) (r : Answer) (p : EntryPromise a N�
 
   -- a silent reading of an operand, as it is returned and stored
   returned : {y : Operand} {j : ℕ} → Answers s y j → Returns a N′ D′ r y j
-  unfolding resultOf outcome outcomeOf diagnosticsAfter diagnosticRecords
+  unfolding resultOf outcome outcomeOf diagnosticsAfter lows diagnosticRecords
   returned z = record {
     answer = value ∙ rw (z .value, z .cursor, z .raised) refl;
     nodes = p .nodes ∙ ap (λ k. outcomeOf nesting a k .nodes) valid ∙ ap (λ v. nodesAfter v (a .nodes)) (z .value);
@@ -51,7 +52,7 @@ module _ (a : Input) (N′ D′ : List ℕ) (r : Answer) (p : EntryPromise a N�
   }
 
   -- "Each addressing mode of Motorola's manual, spelled and closed as document 01 says, is read as that mode without diagnostic"
-  pub spelled-is-answered : {j : ℕ} {y : Operand} → Spelled (setting nesting a) (placeOf a) (ordinary (setting nesting a)) (a .start) j y → Closed (placeOf a) j
+  pub spelled-is-answered : {j : ℕ} {y : Operand} → Spelled nesting (a .mark) (placeOf a) (ordinary (a .mark)) (a .start) j y → Closed (placeOf a) j
       → Returns a N′ D′ r y j
   spelled-is-answered h c = returned (spelled-is-read nesting a valid h c)
 
@@ -59,7 +60,7 @@ module _ (a : Input) (N′ D′ : List ℕ) (r : Answer) (p : EntryPromise a N�
   pub record Spelt (j : ℕ) : Type 0 where
     pub operand : Operand
     pub returns : Returns a N′ D′ r operand j
-    pub spelled : Spelled (setting nesting a) (placeOf a) unreserved (a .start) j operand
+    pub spelled : Spelled nesting (a .mark) (placeOf a) unreserved (a .start) j operand
 
   pub answered-is-spelled : (x : Found) → r ≡ Answer.Operand x → x .diagnostics ≡ 0 → Unerring (placeOf a) (a .start) (x .cursor) → Spelt (x .cursor)
   unfolding resultOf

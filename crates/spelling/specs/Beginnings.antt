@@ -30,19 +30,19 @@ different {n = n} s t q r = true-false (sym r ∙ ap (λ k. eqb k n) (sym (same-
 -- ---- a minus, a parenthesis and a register begin no expression
 
 module _ (s : Setting) {at : ℕ → Place} {own : ℕ} where
-  group-inner : {m room i j : ℕ} {e : Expr} → Spells at (ordinary s) own m room i j e → Sign at Kinds.leftParen i → holds aRegister (at (i + 1)) ≡ false
+  group-inner : {m room i j : ℕ} {e : Expr} → Spells at (ordinary (s .mark)) own m room i j e → Sign at Kinds.leftParen i → holds aRegister (at (i + 1)) ≡ false
   group-inner (a-number t w) g = absurd (different t g refl refl)
   group-inner (a-literal t) g = absurd (different t g refl refl)
   group-inner (a-name t q) g = absurd (different t g refl refl)
   group-inner (a-local t) g = absurd (different t g refl refl)
   group-inner (E.an-address t) g = absurd (different t g refl refl)
   group-inner (a-unary t u h) g = absurd (different t g (unary-sign u) refl)
-  group-inner (a-group b t h c) g = starts h .looks .registers
-  group-inner (own-group t h c) g = starts h .looks .registers
+  group-inner (a-group b t h c) g = starts {s = s} h .looks .registers
+  group-inner (own-group t h c) g = starts {s = s} h .looks .registers
   group-inner (tighter h) g = group-inner h g
   group-inner (joined h t b f) g = group-inner h g
 
-  minus-group : {m room i j : ℕ} {e : Expr} → Spells at (ordinary s) own m room i j e → Sign at Kinds.minus i → Sign at Kinds.leftParen (i + 1)
+  minus-group : {m room i j : ℕ} {e : Expr} → Spells at (ordinary (s .mark)) own m room i j e → Sign at Kinds.minus i → Sign at Kinds.leftParen (i + 1)
       → holds aRegister (at (i + 1 + 1)) ≡ false
   minus-group (a-number t w) m g = absurd (different t m refl refl)
   minus-group (a-literal t) m g = absurd (different t m refl refl)
@@ -55,25 +55,25 @@ module _ (s : Setting) {at : ℕ → Place} {own : ℕ} where
   minus-group (tighter h) m g = minus-group h m g
   minus-group (joined h t b f) m g = minus-group h m g
 
-module _ (s : Setting) (at : ℕ → Place) (own o : ℕ) {j l : ℕ} {y : Operand} where
-  pub begins-group : (t : Sign at Kinds.leftParen own) → ((l : ℕ) → Reads (Operand.parseParenthesisedOperand s o (t .token)) at (own + 1) l j (some y))
-      → Reads (operandFrom s o) at own l j (some y)
+module _ (s : Setting) (at : ℕ → Place) (own : ℕ) {j l : ℕ} {y : Operand} where
+  pub begins-group : (t : Sign at Kinds.leftParen own) → ((l : ℕ) → Reads (Operand.parseParenthesisedOperand s (t .token)) at (own + 1) l j (some y))
+      → Reads (operandFrom s) at own l j (some y)
   unfolding operandFrom
   begins-group t h =
       misses (omega arith) (other t Kinds.comma refl) (passes (other t Kinds.hash refl) (steps (t .there) (kinded t Kinds.leftParen refl) (h _)))
 
-  pub begins-name : (t : Name at own) → Reads (Operand.nameOrExpression s o) at own l j (some y) → Reads (operandFrom s o) at own l j (some y)
+  pub begins-name : (t : Name at own) → Reads (Operand.nameOrExpression s) at own l j (some y) → Reads (operandFrom s) at own l j (some y)
   unfolding operandFrom
   begins-name t h =
       misses (omega arith) (other t Kinds.comma refl) (passes (other t Kinds.hash refl) (passes (other t Kinds.leftParen refl)
       (misses (omega arith) (other t Kinds.minus refl) h)))
 
   -- an expression that does not begin with a parenthesis
-  pub begins-expression : {n : ℕ} {e : Expr} → Expression s at (ordinary s) own own n e → holds (is Kinds.leftParen) (at own) ≡ false
-      → Reads (Operand.parseExpressionOperand s o) at own l j (some y) → Reads (operandFrom s o) at own l j (some y)
+  pub begins-expression : {n : ℕ} {e : Expr} → Expression s at (ordinary (s .mark)) own own n e → holds (is Kinds.leftParen) (at own) ≡ false
+      → Reads (Operand.parseExpressionOperand s) at own l j (some y) → Reads (operandFrom s) at own l j (some y)
   unfolding operandFrom Operand.minusOperand Operand.nameOrExpression
   begins-expression e p h =
-      let b = starts e in
+      let b = starts {s = s} e in
       misses (omega arith) (other (b .sign) Kinds.comma (b .comma)) (passes (other (b .sign) Kinds.hash (b .hash)) (passes p
       (either-way (omega arith)
       (λ k x at₁ q. either-way refl

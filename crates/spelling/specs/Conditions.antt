@@ -12,10 +12,9 @@ use Rattle.expressions.specs.Reader.{Reading}
 use Rattle.expressions.specs.Expressions.{fuel}
 use Rattle.expressions.specs.Costs.{true-false}
 use Rattle.expressions.specs.Fuel.{fuel-enough}
-use Rattle.expressions.specs.declared.reading.Setting.{Setting}
 use Rattle.operand.specs.Operands.{Operand, Maybe, some, none}
-use Rattle.operand.specs.Operand.{readingOf, operandFrom}
-use Rattle.operand.specs.Entry.{Input, placeOf, setting, readingAt}
+use Rattle.operand.specs.Operand.{settingFrom, readingOf, operandFrom}
+use Rattle.operand.specs.Entry.{Input, placeOf, readingAt}
 use Rattle.operand.specs.Readings.{ended, started}
 use Rattle.operand.specs.Conditions.{Valid, valid-bounds}
 use Rattle.spelling.specs.Signs.{unreserved, ordinary}
@@ -33,27 +32,27 @@ pub record Answers (r : Reading (Maybe Operand)) (y : Operand) (j : ℕ) : Type 
 
 -- ---- over whatever places, with no more tokens than the fuel
 
-module _ (s : Setting) (at : ℕ → Place) (count : ℕ) (ends : (j : ℕ) (k : Token) (x : List ℕ) → at j ≡ stands k x → j < count) (few : count ≤ fuel) (i : ℕ) where
-  pub closed-is-read : {j : ℕ} {y : Operand} → Spelled s at (ordinary s) i j y → Closed at j → Answers (readingOf s at i) y j
+module _ (limit mark : ℕ) (at : ℕ → Place) (count : ℕ) (ends : (j : ℕ) (k : Token) (x : List ℕ) → at j ≡ stands k x → j < count) (few : count ≤ fuel) (i : ℕ) where
+  pub closed-is-read : {j : ℕ} {y : Operand} → Spelled limit mark at (ordinary mark) i j y → Closed at j → Answers (readingOf limit mark at i) y j
   closed-is-read h c =
-      let r = operand-read s at count ends few i (h .first .start) (h .spelling) c 0 in
-      let e = started s at i (h .first) (h .text) (h .there) ∙ r .same in
+      let r = operand-read (settingFrom limit mark (h .first)) at count ends few i (h .spelling) c 0 in
+      let e = started limit mark at i (h .first) (h .text) (h .there) ∙ r .same in
       record { value = ap (λ r. r .value) e; cursor = ap (λ r. r .cursor) e; raised = ap (λ r. r .raised) e }
 
-  pub silent-is-spelled : {y : Operand} → readingOf s at i .value ≡ some y → readingOf s at i .raised ≡ [] → Unerring at i (readingOf s at i .cursor)
-      → Spelled s at unreserved i (readingOf s at i .cursor) y
+  pub silent-is-spelled : {y : Operand} → readingOf limit mark at i .value ≡ some y → readingOf limit mark at i .raised ≡ [] → Unerring at i (readingOf limit mark at i .cursor)
+      → Spelled limit mark at unreserved i (readingOf limit mark at i .cursor) y
   silent-is-spelled {y} e q u = go (at i) refl
     where
       isSome : Maybe Operand → Bool
       isSome (some x) = true
       isSome none = false
 
-      go : (p : Place) → at i ≡ p → Spelled s at unreserved i (readingOf s at i .cursor) y
-      go nothing h = absurd (true-false (ap isSome (sym e ∙ ap (λ r. r .value) (ended s at i h))))
+      go : (p : Place) → at i ≡ p → Spelled limit mark at unreserved i (readingOf limit mark at i .cursor) y
+      go nothing h = absurd (true-false (ap isSome (sym e ∙ ap (λ r. r .value) (ended limit mark at i h))))
       go (stands k x) h =
-          let z = started s at i k x h in
-          let f = silent-run (operandFrom s (k .start)) at (Found s at count ends few i (k .start)) i 0 (operand-sound s at count ends few i (k .start) k x h 0 .all)
-          (rw z at q) (rw z at u) in
+          let z = started limit mark at i k x h in
+          let s = settingFrom limit mark k in
+          let f = silent-run (operandFrom s) at (Found s at count ends few i) i 0 (operand-sound s at count ends few i k x h 0 .all) (rw z at q) (rw z at u) in
           record { first = k; text = x; there = h; spelling = rw z ((rw (rw z at e) at f)) }
 
 -- ---- condition 2
@@ -67,22 +66,22 @@ module _ (limit : ℕ) (a : Input) (valid : Valid a) where
 
   -- "Each addressing mode of Motorola's manual, spelled and closed as document 01 says, is read as that mode without diagnostic": no name in E is reserved or
   -- spells Z (`ordinary`), no number is too large and no more terms are open than the limit (`Spells`); the list's end, a comma or EndOfLine follows (`Closed`)
-  pub spelled-is-read : {j : ℕ} {y : Operand} → Spelled (setting limit a) (placeOf a) (ordinary (setting limit a)) (a .start) j y → Closed (placeOf a) j
+  pub spelled-is-read : {j : ℕ} {y : Operand} → Spelled limit (a .mark) (placeOf a) (ordinary (a .mark)) (a .start) j y → Closed (placeOf a) j
       → Answers (readingAt limit a) y j
-  spelled-is-read h c = closed-is-read (setting limit a) (placeOf a) (count (a .tokens)) inside few (a .start) h c
+  spelled-is-read h c = closed-is-read limit (a .mark) (placeOf a) (count (a .tokens)) inside few (a .start) h c
 
   -- "and an operand read without diagnostic has such a spelling up to the cursor", where no Error token stands before it
   pub read-is-spelled : {y : Operand} → readingAt limit a .value ≡ some y → readingAt limit a .raised ≡ []
-      → Unerring (placeOf a) (a .start) (readingAt limit a .cursor) → Spelled (setting limit a) (placeOf a) unreserved (a .start) (readingAt limit a .cursor) y
-  read-is-spelled e q u = silent-is-spelled (setting limit a) (placeOf a) (count (a .tokens)) inside few (a .start) e q u
+      → Unerring (placeOf a) (a .start) (readingAt limit a .cursor) → Spelled limit (a .mark) (placeOf a) unreserved (a .start) (readingAt limit a .cursor) y
+  read-is-spelled e q u = silent-is-spelled limit (a .mark) (placeOf a) (count (a .tokens)) inside few (a .start) e q u
 
 some-same : {x y : Operand} → some x ≡ some y → x ≡ y
 some-same {x} {y} e = ap (λ m. elim m [ some z ↦ z | none ↦ x ]) e
 
 -- a closed spelling is that of one operand, and of one end
 pub unambiguous : (limit : ℕ) (a : Input) → Valid a → {j n : ℕ} {x y : Operand}
-    → Spelled (setting limit a) (placeOf a) (ordinary (setting limit a)) (a .start) j x → Closed (placeOf a) j
-    → Spelled (setting limit a) (placeOf a) (ordinary (setting limit a)) (a .start) n y → Closed (placeOf a) n → (j ≡ n) × (x ≡ y)
+    → Spelled limit (a .mark) (placeOf a) (ordinary (a .mark)) (a .start) j x → Closed (placeOf a) j
+    → Spelled limit (a .mark) (placeOf a) (ordinary (a .mark)) (a .start) n y → Closed (placeOf a) n → (j ≡ n) × (x ≡ y)
 unambiguous limit a valid h c g d =
     let p = spelled-is-read limit a valid h c in
     let q = spelled-is-read limit a valid g d in

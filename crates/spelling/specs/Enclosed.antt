@@ -48,9 +48,9 @@ module _ (s : Setting) (at : ℕ → Place) (count : ℕ) (ends : (j : ℕ) (k :
   displacement-sized m h (a-suffix t) = record { all = displacement-at h (a-size t) }
   displacement-sized m h (no-suffix q) = record { all = displacement-at h no-size }
 
-  displacement-sound : (o i l : ℕ) → own < i → Quiet (Operand.parseSizedDisplacement s o) at (λ j m v. DisplacementFound i j v) i l
+  displacement-sound : (i l : ℕ) → own < i → Quiet (Operand.parseSizedDisplacement s) at (λ j m v. DisplacementFound i j v) i l
   unfolding Silent Operand.parseSizedDisplacement Operand.displacementValue Operand.steppedOver Operand.malformed
-  displacement-sound o i l low = record {
+  displacement-sound i l low = record {
     all = call (expression-spelled at count ends own few (s .limit) i l (omega arith, λ e. absurd (omega arith))) λ j m. elim [
       | read e ↦ λ a h. call (suffix-sound at _ j m) λ n m₂ z b g. displacement-sized m₂ (h .1) g .all
       | reported ↦ λ a h. absurd h
@@ -63,23 +63,23 @@ module _ (s : Setting) (at : ℕ → Place) (count : ℕ) (ends : (j : ℕ) (k :
   InsideFound i j (some v) = Inside s at unreserved own i j (v .displacement) (v .registers)
   InsideFound i j none = Unit {0}
 
-  inside-displaced : (o i j m : ℕ) {d : Displacement} → DisplacementAt i j d → Quiet (Operand.innerDisplaced s o (some d)) at (λ j m v. InsideFound i j v) j m
+  inside-displaced : (i j m : ℕ) {d : Displacement} → DisplacementAt i j d → Quiet (Operand.innerDisplaced s (some d)) at (λ j m v. InsideFound i j v) j m
   unfolding Silent Operand.innerDisplaced Operand.innerRegisters
-  inside-displaced o i j m (displacement-at h sz) = record {
+  inside-displaced i j m (displacement-at h sz) = record {
     all = (
-      (λ k x e q w. call (bases-sound s at o 9 (j + 1) (k .end)) λ n m₂. elim [ some r ↦ λ a g. Spelling.both h sz (signed Kinds.comma e q) g | none ↦ λ a g. tt ]),
+      (λ k x e q w. call (bases-sound s at 9 (j + 1) (k .end)) λ n m₂. elim [ some r ↦ λ a g. Spelling.both h sz (signed Kinds.comma e q) g | none ↦ λ a g. tt ]),
       λ q. Spelling.displacement h sz,
     );
   }
 
-  pub inside-sound : (o i l : ℕ) → own < i → Quiet (Operand.parseInner s o) at (λ j m v. InsideFound i j v) i l
+  pub inside-sound : (i l : ℕ) → own < i → Quiet (Operand.parseInner s) at (λ j m v. InsideFound i j v) i l
   unfolding Silent Operand.parseInner Operand.innerRegisters Operand.innerDisplaced
-  inside-sound o i l low = record {
+  inside-sound i l low = record {
     all = (
       (λ k x e q. Spelling.empty),
       λ _. (
-        (λ k x e q. call (bases-sound s at o 9 i l) λ n m. elim [ some r ↦ λ a g. Spelling.bases g | none ↦ λ a g. tt ]),
-        λ _. call (displacement-sound o i l low) λ n m. elim [ some d ↦ λ a g. inside-displaced o i n m g .all | none ↦ λ a g. tt ],
+        (λ k x e q. call (bases-sound s at 9 i l) λ n m. elim [ some r ↦ λ a g. Spelling.bases g | none ↦ λ a g. tt ]),
+        λ _. call (displacement-sound i l low) λ n m. elim [ some d ↦ λ a g. inside-displaced i n m g .all | none ↦ λ a g. tt ],
       ),
     );
   }
@@ -89,13 +89,13 @@ module _ (s : Setting) (at : ℕ → Place) (count : ℕ) (ends : (j : ℕ) (k :
   BehindFound x i j (some u) = Behind s at unreserved own x i j (u .index) (u .indirection) (u .displacement)
   BehindFound x i j none = Unit {0}
 
-  behind-index : (o i l : ℕ) (x : Index) → own ≤ i → Sign at Kinds.comma i → Quiet (Operand.outerIndex s o x) at (λ j m v. BehindFound x i j v) (i + 1) l
+  behind-index : (i l : ℕ) (x : Index) → own ≤ i → Sign at Kinds.comma i → Quiet (Operand.outerIndex s x) at (λ j m v. BehindFound x i j v) (i + 1) l
   unfolding Silent Operand.outerIndex Operand.outerIndexed Operand.outerDisplaced Operand.steppedOver Operand.malformed
-  behind-index o i l (Index.Indexed y) low c = record { all = ((λ k x e q w. tt), λ q. tt) }
-  behind-index o i l Index.Unindexed low c = record {
-    all = call (index-sound s at o 9 (i + 1) l) λ n m. elim [
+  behind-index i l (Index.Indexed y) low c = record { all = ((λ k x e q w. tt), λ q. tt) }
+  behind-index i l Index.Unindexed low c = record {
+    all = call (index-sound s at 9 (i + 1) l) λ n m. elim [
       | some y ↦ λ a g. (
-        (λ k x e q w. call (displacement-sound o (n + 1) (k .end) (omega arith)) λ n₂ m₂. elim [ some d ↦ λ b f. behind-both c (g .0) (signed Kinds.comma e q) f | none ↦ λ b f. tt ]),
+        (λ k x e q w. call (displacement-sound (n + 1) (k .end) (omega arith)) λ n₂ m₂. elim [ some d ↦ λ b f. behind-both c (g .0) (signed Kinds.comma e q) f | none ↦ λ b f. tt ]),
         λ q. Spelling.index c (g .0),
       )
       | none ↦ λ a g. tt
@@ -109,13 +109,13 @@ module _ (s : Setting) (at : ℕ → Place) (count : ℕ) (ends : (j : ℕ) (k :
   behind-displaced : {i j : ℕ} {x : Index} {d : Displacement} → Sign at Kinds.comma i → DisplacementAt (i + 1) j d → Behind s at unreserved own x i j x 1 d
   behind-displaced c (displacement-at h sz) = Spelling.displacement c h sz
 
-  pub behind-sound : (o i l : ℕ) (x : Index) → own ≤ i → Quiet (Operand.parseOuter s o x) at (λ j m v. BehindFound x i j v) i l
+  pub behind-sound : (i l : ℕ) (x : Index) → own ≤ i → Quiet (Operand.parseOuter s x) at (λ j m v. BehindFound x i j v) i l
   unfolding Silent Operand.parseOuter Operand.outerDisplaced
-  behind-sound o i l x low = record {
+  behind-sound i l x low = record {
     all = (
       (λ k y e q w. (
-        (λ t z e₂ q₂. behind-index o i (k .end) x low (signed Kinds.comma e q) .all),
-        λ _. call (displacement-sound o (i + 1) (k .end) (omega arith)) λ n m. elim [ some d ↦ λ a g. behind-displaced (signed Kinds.comma e q) g | none ↦ λ a g. tt ],
+        (λ t z e₂ q₂. behind-index i (k .end) x low (signed Kinds.comma e q) .all),
+        λ _. call (displacement-sound (i + 1) (k .end) (omega arith)) λ n m. elim [ some d ↦ λ a g. behind-displaced (signed Kinds.comma e q) g | none ↦ λ a g. tt ],
       )),
       λ q. Spelling.empty,
     );
@@ -138,7 +138,7 @@ unjoined at i a b c = go (at i) a b c
 strictly : {i j : ℕ} → i ≤ j → (j ≡ i → ⊥) → i < j
 strictly a f = omega arith
 
-module _ (s : Setting) (at : ℕ → Place) (o : ℕ) where
+module _ (s : Setting) (at : ℕ → Place) where
   -- the item that begins at i; where no range does, no minus follows
   abbrev ItemFound : ℕ → ℕ → ℕ → Maybe RegisterListItem → Type 0
   ItemFound i j m (some x) = Item s at i j x m × (i < j) × (j ≡ i + 1 → holds (is Kinds.minus) (at (i + 1)) ≡ false)
@@ -159,7 +159,7 @@ module _ (s : Setting) (at : ℕ → Place) (o : ℕ) where
 
   -- the list that begins at i, behind the items so far
   pub data ListAt (items : List RegisterListItem) (i : ℕ) : ℕ → Operand → Type 0 where
-    list-at : {j e : ℕ} {xs : List RegisterListItem} → Items s at i j xs e → ListAt items i j (O.registerList (items ++ xs) (span o e))
+    list-at : {j e : ℕ} {xs : List RegisterListItem} → Items s at i j xs e → ListAt items i j (O.registerList (items ++ xs) (span (s .start) e))
 
   extended : (items : List RegisterListItem) {i j n e : ℕ} {x : RegisterListItem} {y : Operand} → Item s at i j x e → Sign at Kinds.slash j
       → ListAt (items ++ (x ∷ [])) (j + 1) n y → ListAt items i n y
@@ -170,7 +170,7 @@ module _ (s : Setting) (at : ℕ → Place) (o : ℕ) where
   ListFound f items i j none = Unit {0}
 
   pub list-sound : (f : ℕ) (items : List RegisterListItem) (r : Register) (i : ℕ) → RegisterAt at i r
-      → Quiet (Operand.listLoop f o items r) at (λ j m v. ListFound f items i j v) (i + 1) (r .span .end)
+      → Quiet (Operand.listLoop f s items r) at (λ j m v. ListFound f items i j v) (i + 1) (r .span .end)
   unfolding Silent Operand.listLoop Operand.nextItem Operand.listed Operand.registerExpected registerFrom
   list-sound zero items r i p = record { all = (list-at (last (a-single p)), omega arith, λ z. absurd (omega arith)) }
   list-sound (suc f) items r i p = record {

@@ -159,9 +159,9 @@ unfolding Operand.scaleOf
 scale-worth at x {v = v} value g star e q p f = rw p (scaled star (signed Kinds.number e q) g (factors v f))
 scale-worth at x invalid g star e q p f = absurd (true-false (sym f))
 
-scale-sound : (at : ℕ → Place) (o shape : ℕ) (x : IndexRegister) (i l : ℕ) → Quiet (Operand.indexScale o shape x) at (λ j m v. ScaleAt at x i j v) i l
+scale-sound : (at : ℕ → Place) (s : Setting) (shape : ℕ) (x : IndexRegister) (i l : ℕ) → Quiet (Operand.indexScale s shape x) at (λ j m v. ScaleAt at x i j v) i l
 unfolding Silent Operand.indexScale Operand.scaled Operand.steppedOver Operand.malformed
-scale-sound at o shape x i l = record {
+scale-sound at s shape x i l = record {
   all = (
     (λ k y e q w. (
       (λ t z e₂ q₂ w₂. call (valued-sound at t (numberOf (t .detail) z) (i + 1 + 1) (t .end)) λ j m v a h.
@@ -201,23 +201,23 @@ module _ (s : Setting) (at : ℕ → Place) where
   bare-scaled p u (scaled star k e f) = (an-index p no-size (a-scale star k e f), λ _. omega arith)
   bare-scaled p u unread = tt
 
-  index-sized : (o shape : ℕ) {i j : ℕ} (m : ℕ) {b : Bool} {r : Register} {z : Suffix} → IndexAt s at i b r → SuffixAt at (i + 1) j z
-      → Quiet (Operand.indexSize o shape r b z) at (λ n m v. IndexFound i n v) j m
+  index-sized : (shape : ℕ) {i j : ℕ} (m : ℕ) {b : Bool} {r : Register} {z : Suffix} → IndexAt s at i b r → SuffixAt at (i + 1) j z
+      → Quiet (Operand.indexSize s shape r b z) at (λ n m v. IndexFound i n v) j m
   unfolding Silent Operand.indexSize
-  index-sized o shape m p (a-suffix t) = record { all = call (scale-sound at o shape _ _ _) λ n m v a h. suffixed-scaled p t h }
-  index-sized o shape m p (no-suffix q) = record { all = call (scale-sound at o shape _ _ _) λ n m v a h. bare-scaled p q h }
+  index-sized shape m p (a-suffix t) = record { all = call (scale-sound at s shape _ _ _) λ n m v a h. suffixed-scaled p t h }
+  index-sized shape m p (no-suffix q) = record { all = call (scale-sound at s shape _ _ _) λ n m v a h. bare-scaled p q h }
 
-  index-tails : (o shape : ℕ) {i : ℕ} (l : ℕ) {b : Bool} {r : Register} → IndexAt s at i b r → Quiet (Operand.indexRegister o shape r b) at (λ n m v. IndexFound i n v) (i + 1) l
+  index-tails : (shape : ℕ) {i : ℕ} (l : ℕ) {b : Bool} {r : Register} → IndexAt s at i b r → Quiet (Operand.indexRegister s shape r b) at (λ n m v. IndexFound i n v) (i + 1) l
   unfolding Silent Operand.indexRegister
-  index-tails o shape l p = record { all = call (suffix-sound at _ _ _) λ n m z a h. index-sized o shape m p h .all }
+  index-tails shape l p = record { all = call (suffix-sound at _ _ _) λ n m z a h. index-sized shape m p h .all }
 
-  pub index-sound : (o shape i l : ℕ) → Quiet (Operand.parseIndexRegister s o shape) at (λ n m v. IndexFound i n v) i l
+  pub index-sound : (shape i l : ℕ) → Quiet (Operand.parseIndexRegister s shape) at (λ n m v. IndexFound i n v) i l
   unfolding Silent Operand.parseIndexRegister Operand.steppedOver Operand.malformed
-  index-sound o shape i l = record {
+  index-sound shape i l = record {
     all = (
-      (λ k x e q w. index-tails o shape (k .end) (plain (found-register e q)) .all),
+      (λ k x e q w. index-tails shape (k .end) (plain (found-register e q)) .all),
       λ _. (
-        (λ k x e q w. index-tails o shape (k .end) (found-index s e q) .all),
+        (λ k x e q w. index-tails shape (k .end) (found-index s e q) .all),
         λ _. ((λ k x e q w. tt), λ q. tt),
       ),
     );
@@ -229,13 +229,13 @@ module _ (s : Setting) (at : ℕ → Place) where
   BasesFound i j (some r) = BaseAndIndex s at i j r
   BasesFound i j none = Unit {0}
 
-  after-base-sound : (o shape : ℕ) {i : ℕ} {b : BaseRegister} (l : ℕ) → Bases s at i b
-      → Quiet (Operand.afterBaseRegister s o shape b) at (λ n m v. BasesFound i n v) (i + 1) l
+  after-base-sound : (shape : ℕ) {i : ℕ} {b : BaseRegister} (l : ℕ) → Bases s at i b
+      → Quiet (Operand.afterBaseRegister s shape b) at (λ n m v. BasesFound i n v) (i + 1) l
   unfolding Silent Operand.afterBaseRegister Operand.indexAlone
-  after-base-sound o shape l h = record {
+  after-base-sound shape l h = record {
     all = (
       (λ k x e q. (
-        (λ c y e₂ q₂ w. call (index-sound o shape _ _) λ n m. elim [ some z ↦ λ a g. Spelling.base-index h (signed Kinds.comma e₂ q₂) (g .0) | none ↦ λ a g. tt ]),
+        (λ c y e₂ q₂ w. call (index-sound shape _ _) λ n m. elim [ some z ↦ λ a g. Spelling.base-index h (signed Kinds.comma e₂ q₂) (g .0) | none ↦ λ a g. tt ]),
         λ q₂. Spelling.base h,
       )),
       λ q. Spelling.base h,
@@ -243,13 +243,13 @@ module _ (s : Setting) (at : ℕ → Place) where
   }
 
   -- an index alone, of which it is known that it is no base
-  no-base-sound : (o shape i l : ℕ)
+  no-base-sound : (shape i l : ℕ)
       → ((j : ℕ) (x : IndexRegister) → Indexes s at i j x → (holds sizeOrScale (at (i + 1)) ≡ true → i + 1 < j) → (x .register .index < 8) ⊎ (i + 1 < j))
-      → Quiet (Operand.noBase s o shape) at (λ n m v. BasesFound i n v) i l
+      → Quiet (Operand.noBase s shape) at (λ n m v. BasesFound i n v) i l
   unfolding Silent Operand.noBase Operand.indexAlone Operand.steppedOver Operand.malformed
-  no-base-sound o shape i l f = record {
+  no-base-sound shape i l f = record {
     all = (
-      (λ k x e q. call (index-sound o shape i l) λ n m. elim [ some z ↦ λ a g. Spelling.index (g .0) (f n z (g .0) (g .1)) | none ↦ λ a g. tt ]),
+      (λ k x e q. call (index-sound shape i l) λ n m. elim [ some z ↦ λ a g. Spelling.index (g .0) (f n z (g .0) (g .1)) | none ↦ λ a g. tt ]),
       λ q. ((λ k x e q₂ w. tt), λ q₂. tt),
     );
   }
@@ -261,20 +261,20 @@ module _ (s : Setting) (at : ℕ → Place) where
   small-index (an-index (plain {r = r} p) sz sc) a b = leb-false 8 (r .index) (sym (looks-register {s = s} p .addresses) ∙ a)
   small-index (an-index (suppressed {r = r} z) sz sc) a b = leb-false 8 r (sym (looks-suppressed z refl .suppressions isSuppressedAddress refl) ∙ b)
 
-  pub bases-sound : (o shape i l : ℕ) → Quiet (Operand.parseBaseAndIndexRegisters s o shape) at (λ n m v. BasesFound i n v) i l
+  pub bases-sound : (shape i l : ℕ) → Quiet (Operand.parseBaseAndIndexRegisters s shape) at (λ n m v. BasesFound i n v) i l
   unfolding Silent Operand.parseBaseAndIndexRegisters holds
-  bases-sound o shape i l = record {
+  bases-sound shape i l = record {
     all = (
-      (λ k x e q w. after-base-sound o shape (k .end) (Spelling.counter (found-counter e q)) .all),
+      (λ k x e q w. after-base-sound shape (k .end) (Spelling.counter (found-counter e q)) .all),
       λ _. (
-        (λ k x e q w. after-base-sound o shape (k .end) (found-suppressed-counter s e q) .all),
+        (λ k x e q w. after-base-sound shape (k .end) (found-suppressed-counter s e q) .all),
         λ _. (
-          (λ k x e q. no-base-sound o shape i l (λ j z h g. inr (g (rw e q))) .all),
+          (λ k x e q. no-base-sound shape i l (λ j z h g. inr (g (rw e q))) .all),
           λ _. (
-            (λ k x e q w. after-base-sound o shape (k .end) (Spelling.address (found-address e q)) .all),
+            (λ k x e q w. after-base-sound shape (k .end) (Spelling.address (found-address e q)) .all),
             λ a. (
-              (λ k x e q w. after-base-sound o shape (k .end) (found-base s e q) .all),
-              λ b. no-base-sound o shape i l (λ j z h g. inl (small-index h a b)) .all,
+              (λ k x e q w. after-base-sound shape (k .end) (found-base s e q) .all),
+              λ b. no-base-sound shape i l (λ j z h g. inl (small-index h a b)) .all,
             ),
           ),
         ),

@@ -14,7 +14,7 @@ use Rattle.names.specs.declared.tokens.Token.{Token}
 use Rattle.records.specs.Spans.{span}
 use Rattle.expressions.specs.Trees.{Expr}
 use Rattle.expressions.specs.declared.reading.Setting.{Setting}
-use Rattle.expressions.specs.Reader.{is, any, _>>=_}
+use Rattle.expressions.specs.Reader.{is, any}
 use Rattle.expressions.specs.Expressions.{read, reported, absent, Suffix, fuel}
 use Rattle.expressions.specs.Laws.{holds}
 use Rattle.expressions.specs.Costs.{true-false}
@@ -37,12 +37,12 @@ use Rattle.spelling.specs.Found.{found-address, found-counter, SuffixAt,
 use Rattle.spelling.specs.Enclosed.{inside-sound, behind-sound}
 use Rattle.spelling.specs.Hits.{full-found, starts-sound}
 
-module _ (s : Setting) (at : ℕ → Place) (count : ℕ) (ends : (j : ℕ) (k : Token) (x : List ℕ) → at j ≡ stands k x → j < count) (few : count ≤ fuel) (own o : ℕ) where
+module _ (s : Setting) (at : ℕ → Place) (count : ℕ) (ends : (j : ℕ) (k : Token) (x : List ℕ) → at j ≡ stands k x → j < count) (few : count ≤ fuel) (own : ℕ) where
   abbrev pub Plain : ℕ → ℕ → Expr → Type 0
   Plain i j e = Expression s at unreserved own i j e
 
   abbrev pub Found : ℕ → ℕ → Maybe Operand → Type 0
-  Found j m (some y) = Spelling s at unreserved own o j y
+  Found j m (some y) = Spelling s at unreserved own j y
   Found j m none = Unit {0}
 
   -- the parenthesis that closes
@@ -53,7 +53,7 @@ module _ (s : Setting) (at : ℕ → Place) (count : ℕ) (ends : (j : ℕ) (k :
   CloseFound i j (some e) = CloseAt i j e
   CloseFound i j none = Unit {0}
 
-  pub close-sound : (k : Token) (shape i l : ℕ) → Quiet (Operand.expectClose o k shape) at (λ j m v. CloseFound i j v) i l
+  pub close-sound : (k : Token) (shape i l : ℕ) → Quiet (Operand.expectClose s k shape) at (λ j m v. CloseFound i j v) i l
   unfolding Silent Operand.expectClose Operand.unclosed
   close-sound k shape i l = record { all = ((λ c x e q w. close-at (signed Kinds.rightParen e q)), λ q. tt) }
 
@@ -61,31 +61,31 @@ module _ (s : Setting) (at : ℕ → Place) (count : ℕ) (ends : (j : ℕ) (k :
 
   address-closed : {i n z : ℕ} {r : Register} {d : Displacement} {x : IndexRegister} → Opening s at unreserved own i d → AddressAt at i r → Sign at Kinds.comma (i + 1)
       → Indexes s at (i + 1 + 1) n x → {m : ℕ} → CloseAt n m z → (b : Bool) → x .suppressed ≡ b
-      → Spelling s at unreserved own o m (pick b (O.fullIndex d (BaseRegister.Address r) (Index.Indexed x) 0 undisplaced (span o z)) (O.index d r x (span o z)))
+      → Spelling s at unreserved own m (pick b (O.fullIndex d (BaseRegister.Address r) (Index.Indexed x) 0 undisplaced (span (s .start) z)) (O.index d r x (span (s .start) z)))
   address-closed h p k x (close-at c) true e = Spelling.suppressed-index h p k x e c
   address-closed h p k x (close-at c) false e = Spelling.index h p k x e c
 
   counter-closed : {i n z : ℕ} {d : Displacement} {x : IndexRegister} → Opening s at unreserved own i d → CounterAt at i → Sign at Kinds.comma (i + 1)
       → Indexes s at (i + 1 + 1) n x → {m : ℕ} → CloseAt n m z → (b : Bool) → x .suppressed ≡ b
-      → Spelling s at unreserved own o m (pick b (O.fullIndex d BaseRegister.ProgramCounter (Index.Indexed x) 0 undisplaced (span o z)) (O.pcIndex d x (span o z)))
+      → Spelling s at unreserved own m (pick b (O.fullIndex d BaseRegister.ProgramCounter (Index.Indexed x) 0 undisplaced (span (s .start) z)) (O.pcIndex d x (span (s .start) z)))
   counter-closed h p k x (close-at c) true e = Spelling.counter-suppressed-index h p k x e c
   counter-closed h p k x (close-at c) false e = Spelling.counter-index h p k x e c
 
   address-indexed : {i : ℕ} {r : Register} {d : Displacement} (k : Token) (l : ℕ) → Opening s at unreserved own i d → AddressAt at i r → Sign at Kinds.comma (i + 1)
-      → Quiet (Operand.parseIndexRegister s o 6 >>= Operand.closedIndex o k 6 (Operand.indexedOperand o d (BaseRegister.Address r) (λ x. O.index d r x))) at Found (i + 1 + 1) l
+      → Quiet (Operand.baseAndIndex s k 6 (BaseRegister.Address r) d (λ x. O.index d r x)) at Found (i + 1 + 1) l
   unfolding Silent Operand.closedIndex Operand.indexedOperand
   address-indexed k l h p c = record {
-    all = call (index-sound s at o 6 _ l) λ n m. elim [
+    all = call (index-sound s at 6 _ l) λ n m. elim [
       | some x ↦ λ a g. call (close-sound k 6 n m) λ n₂ m₂. elim [ some z ↦ λ b f. address-closed h p c (g .0) f (x .suppressed) refl | none ↦ λ b f. tt ]
       | none ↦ λ a g. tt
     ];
   }
 
   counter-indexed : {i : ℕ} {d : Displacement} (k : Token) (l : ℕ) → Opening s at unreserved own i d → CounterAt at i → Sign at Kinds.comma (i + 1)
-      → Quiet (Operand.parseIndexRegister s o 8 >>= Operand.closedIndex o k 8 (Operand.indexedOperand o d BaseRegister.ProgramCounter (λ x. O.pcIndex d x))) at Found (i + 1 + 1) l
+      → Quiet (Operand.baseAndIndex s k 8 BaseRegister.ProgramCounter d (λ x. O.pcIndex d x)) at Found (i + 1 + 1) l
   unfolding Silent Operand.closedIndex Operand.indexedOperand
   counter-indexed k l h p c = record {
-    all = call (index-sound s at o 8 _ l) λ n m. elim [
+    all = call (index-sound s at 8 _ l) λ n m. elim [
       | some x ↦ λ a g. call (close-sound k 8 n m) λ n₂ m₂. elim [ some z ↦ λ b f. counter-closed h p c (g .0) f (x .suppressed) refl | none ↦ λ b f. tt ]
       | none ↦ λ a g. tt
     ];
@@ -93,18 +93,18 @@ module _ (s : Setting) (at : ℕ → Place) (count : ℕ) (ends : (j : ℕ) (k :
 
   -- `)` behind the base
   base-closed : {i : ℕ} {r : Register} {d : Displacement} (l : ℕ) → Opening s at unreserved own i d → AddressAt at i r → (c : Sign at Kinds.rightParen (i + 1))
-      → Quiet (Operand.closedBase o r d (c .token)) at Found (i + 1 + 1) l
+      → Quiet (Operand.closedBase s r d (c .token)) at Found (i + 1 + 1) l
   unfolding Silent Operand.closedBase
   base-closed l (Spelling.alone t) p c = record { all = ((λ k x e q w. Spelling.postincrement t p c (signed Kinds.plus e q)), λ q. Spelling.indirect t p c) }
   base-closed l (Spelling.displacing h) p c = record { all = Spelling.displacement h p c }
 
   counter-shut : {i : ℕ} {d : Displacement} (l : ℕ) → Opening s at unreserved own i d → CounterAt at i → (c : Sign at Kinds.rightParen (i + 1))
-      → Quiet (Operand.closedCounter o d (c .token)) at Found (i + 1 + 1) l
+      → Quiet (Operand.closedCounter s d (c .token)) at Found (i + 1 + 1) l
   unfolding Silent Operand.closedCounter Operand.malformed
   counter-shut l (Spelling.alone t) p c = record { all = tt }
   counter-shut l (Spelling.displacing h) p c = record { all = Spelling.counter-displacement h p c }
 
-  pub base-sound : {i : ℕ} {d : Displacement} (k : Token) (l : ℕ) → Opening s at unreserved own i d → Quiet (Operand.parseBaseAndIndex s o k d) at Found i l
+  pub base-sound : {i : ℕ} {d : Displacement} (k : Token) (l : ℕ) → Opening s at unreserved own i d → Quiet (Operand.parseBaseAndIndex s k d) at Found i l
   unfolding Silent Operand.parseBaseAndIndex Operand.afterBase Operand.afterCounter Operand.unclosed Operand.notAnAddressRegister
   base-sound k l h = record {
     all = (
@@ -125,17 +125,17 @@ module _ (s : Setting) (at : ℕ → Place) (count : ℕ) (ends : (j : ℕ) (k :
   -- ---- 12: full
 
   full-closed : {n m z : ℕ} {d : Displacement} {r : Registers} → CloseAt n m z
-      → ((c : Sign at Kinds.rightParen n) → Spelling s at unreserved own o (n + 1) (O.fullIndex d (r .base) (r .index) 0 undisplaced (span o (c .token .end))))
-      → Spelling s at unreserved own o m (O.fullIndex d (r .base) (r .index) 0 undisplaced (span o z))
+      → ((c : Sign at Kinds.rightParen n) → Spelling s at unreserved own (n + 1) (O.fullIndex d (r .base) (r .index) 0 undisplaced (span (s .start) (c .token .end))))
+      → Spelling s at unreserved own m (O.fullIndex d (r .base) (r .index) 0 undisplaced (span (s .start) z))
   full-closed (close-at c) f = f c
 
   full-sound : (i : ℕ) (d : Displacement) (k : Token) (l : ℕ)
       → ((n : ℕ) (r : Registers) → BaseAndIndex s at i n r → (c : Sign at Kinds.rightParen n)
-      → Spelling s at unreserved own o (n + 1) (O.fullIndex d (r .base) (r .index) 0 undisplaced (span o (c .token .end))))
-      → Quiet (Operand.parseFullIndex s o k d) at Found i l
+      → Spelling s at unreserved own (n + 1) (O.fullIndex d (r .base) (r .index) 0 undisplaced (span (s .start) (c .token .end))))
+      → Quiet (Operand.parseFullIndex s k d) at Found i l
   unfolding Silent Operand.parseFullIndex Operand.closedRegisters Operand.fullIndexed
   full-sound i d k l f = record {
-    all = call (bases-sound s at o 6 i l) λ n m. elim [
+    all = call (bases-sound s at 6 i l) λ n m. elim [
       | some r ↦ λ a g. call (close-sound k 6 n m) λ n₂ m₂. elim [ some z ↦ λ b h. full-closed {r = r} h (f n r g) | none ↦ λ b h. tt ]
       | none ↦ λ a g. tt
     ];
@@ -143,15 +143,15 @@ module _ (s : Setting) (at : ℕ → Place) (count : ℕ) (ends : (j : ℕ) (k :
 
   memory-closed : {j n m z indirection : ℕ} {d u : Displacement} {r : Registers} {x : Index} → Sign at Kinds.leftParen own → Sign at Kinds.leftBracket (own + 1)
       → Spelling.Inside s at unreserved own (own + 1 + 1) j d r → Sign at Kinds.rightBracket j → Spelling.Behind s at unreserved own (r .index) (j + 1) n x indirection u → CloseAt n m z
-      → Spelling s at unreserved own o m (O.fullIndex d (r .base) x indirection u (span o z))
+      → Spelling s at unreserved own m (O.fullIndex d (r .base) x indirection u (span (s .start) z))
   memory-closed t b h k g (close-at c) = Spelling.memory-indirect t b h k g c
 
-  memory-sound : (k : Token) (l : ℕ) → Sign at Kinds.leftParen own → Sign at Kinds.leftBracket (own + 1) → Quiet (Operand.parseMemoryIndirect s o k) at Found (own + 1 + 1) l
+  memory-sound : (k : Token) (l : ℕ) → Sign at Kinds.leftParen own → Sign at Kinds.leftBracket (own + 1) → Quiet (Operand.parseMemoryIndirect s k) at Found (own + 1 + 1) l
   unfolding Silent Operand.parseMemoryIndirect Operand.innerClosed Operand.outerClosed Operand.memoryIndirect Operand.unclosed
   memory-sound k l t b = record {
-    all = call (inside-sound s at count ends few own o (own + 1 + 1) l (omega arith)) λ n m. elim [
+    all = call (inside-sound s at count ends few own (own + 1 + 1) l (omega arith)) λ n m. elim [
       | some v ↦ λ a g. (
-        (λ c x e q w. call (behind-sound s at count ends few own o (n + 1) (c .end) (v .registers .index) (omega arith)) λ n₂ m₂. elim [
+        (λ c x e q w. call (behind-sound s at count ends few own (n + 1) (c .end) (v .registers .index) (omega arith)) λ n₂ m₂. elim [
           | some u ↦ λ a₂ h. call (close-sound k 9 n₂ m₂) λ n₃ m₃. elim [ some z ↦ λ a₃ f. memory-closed t b g (signed Kinds.rightBracket e q) h f | none ↦ λ a₃ f. tt ]
           | none ↦ λ a₂ h. tt
         ]),
@@ -163,12 +163,12 @@ module _ (s : Setting) (at : ℕ → Place) (count : ℕ) (ends : (j : ℕ) (k :
 
   -- ---- 13: absolute
 
-  absolute-sized : {j n : ℕ} (m : ℕ) {e : Expr} {z : Suffix} → Plain own j e → SuffixAt at j n z → Quiet (Operand.absoluteSize o e z) at Found n m
+  absolute-sized : {j n : ℕ} (m : ℕ) {e : Expr} {z : Suffix} → Plain own j e → SuffixAt at j n z → Quiet (Operand.absoluteSize s e z) at Found n m
   unfolding Silent Operand.absoluteSize
   absolute-sized m h (a-suffix t) = record { all = Spelling.absolute h (a-size t) }
   absolute-sized m h (no-suffix q) = record { all = Spelling.absolute h no-size }
 
-  pub finish-sound : {j : ℕ} (e : Expr) (l : ℕ) → Plain own j e → Quiet (Operand.finishExpressionOperand o e) at Found j l
+  pub finish-sound : {j : ℕ} (e : Expr) (l : ℕ) → Plain own j e → Quiet (Operand.finishExpressionOperand s e) at Found j l
   unfolding Silent Operand.finishExpressionOperand
   finish-sound e l h = record { all = call (suffix-sound at _ _ l) λ n m z a g. absolute-sized m h g .all }
 
@@ -183,15 +183,15 @@ module _ (s : Setting) (at : ℕ → Place) (count : ℕ) (ends : (j : ℕ) (k :
   not-suffix e q n = true-false (sym q ∙ rw e at n)
 
   sized-sound : {j n : ℕ} {e : Expr} {z : Suffix} (k : Token) (m : ℕ) → Sign at Kinds.leftParen own → Plain (own + 1) j e → Sign at Kinds.sizeSuffix j → Sign at Kinds.comma (j + 1)
-      → SuffixAt at j n z → Quiet (Operand.sizedBase s o k e z) at Found n m
+      → SuffixAt at j n z → Quiet (Operand.sizedBase s k e z) at Found n m
   unfolding Silent Operand.sizedBase Operand.over
   sized-sound {j} {e = e} k m t h f c (a-suffix {n = size} z) = record {
     all = ((λ k₂ x e₂ q w. full-sound (j + 1 + 1) (displaced e size) k (k₂ .end) (λ n r b d. Spelling.sized-full t h z c b d) .all), λ q. absurd (stood (c .there) q));
   }
   sized-sound k m t h f c (no-suffix q) = absurd (not-suffix (f .there) (ap (λ k. eqb k Kinds.sizeSuffix) (f .of)) q)
 
-  after-sound : {j : ℕ} (e : Expr) (t : Sign at Kinds.leftParen own) (l : ℕ) → own < j → Plain (own + 1) j e → Quiet (Operand.afterExpression s o (t .token) e) at Found j l
-  unfolding Silent Operand.afterExpression Operand.groupedOperand Operand.displacementTail Operand.unexpected
+  after-sound : {j : ℕ} (e : Expr) (t : Sign at Kinds.leftParen own) (l : ℕ) → own < j → Plain (own + 1) j e → Quiet (Operand.afterExpression s (t .token) e) at Found j l
+  unfolding Silent Operand.afterExpression Operand.displacementTail Operand.unexpected
   after-sound {j} e t l low h = record {
     all = (
       (λ c x e₂ q w. starts-sound s at _ _ Found (j + 1) (c .end)
@@ -213,11 +213,11 @@ module _ (s : Setting) (at : ℕ → Place) (count : ℕ) (ends : (j : ℕ) (k :
     );
   }
 
-  pub grouped-sound : (t : Sign at Kinds.leftParen own) (l : ℕ) → Quiet (Operand.parseParenthesisedOperand s o (t .token)) at Found (own + 1) l
+  pub grouped-sound : (t : Sign at Kinds.leftParen own) (l : ℕ) → Quiet (Operand.parseParenthesisedOperand s (t .token)) at Found (own + 1) l
   unfolding Silent Operand.parseParenthesisedOperand startsABase Operand.parenthesised Operand.parenthesisedExpression
   grouped-sound t l =
       let based = base-sound (t .token) l (Spelling.alone t) .all in
-      let expressed : Silent (Operand.parenthesised s o (t .token)) at Found (own + 1) l
+      let expressed : Silent (Operand.parenthesised s (t .token)) at Found (own + 1) l
       = call (expression-spelled at count ends own few (s .limit) (own + 1) l (omega arith, λ z. absurd (omega arith))) λ j m. elim [
         | read e ↦ λ a h. after-sound e t m (omega arith) (h .1) .all
         | reported ↦ λ a h. absurd h

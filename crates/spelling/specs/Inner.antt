@@ -33,9 +33,9 @@ use Rattle.spelling.specs.Names
 use Rattle.spelling.specs.Looks.{held, looks-register, starts, Stops, stops-comma, stops-close, stops-bracket}
 use Rattle.spelling.specs.Parts.{letter-read, no-letter, registered, looks-index, looks-bases, index-read, index-seen, index-rises, sized-rises, begun, bases-read}
 
-pub ordinary-free : (s : Setting) (i : ℕ) (x : List ℕ) → ordinary s i x ≡ true → reserved x ≡ false
+pub ordinary-free : (mark i : ℕ) (x : List ℕ) → ordinary mark i x ≡ true → reserved x ≡ false
 unfolding ordinary
-ordinary-free s i x q = Names.not-true (reserved x) (Names.both-first (not (reserved x)) _ q)
+ordinary-free mark i x q = Names.not-true (reserved x) (Names.both-first (not (reserved x)) _ q)
 
 -- an expression ends before a size
 pub letter-ends : {at : ℕ → Place} {j n : ℕ} → Letter at j n → Ends at 1 j
@@ -44,16 +44,16 @@ letter-ends t = ends-by 1 (t .sign) (omega arith)
 
 module _ (s : Setting) (at : ℕ → Place) (count : ℕ) (ends : (j : ℕ) (k : Token) (x : List ℕ) → at j ≡ stands k x → j < count) (few : count ≤ fuel) (own : ℕ) where
   abbrev Plain : ℕ → ℕ → Expr → Type 0
-  Plain i j e = Expression s at (ordinary s) own i j e
+  Plain i j e = Expression s at (ordinary (s .mark)) own i j e
 
   pub behind-own : {i j : ℕ} {e : Expr} → Plain i j e → own < i → Ends at 1 j → (l : ℕ) → Reads (parseExpression (s .limit)) at i l j (read e)
-  behind-own h low stop = expression-read at count ends few own (ordinary s) (ordinary-free s) h (omega arith) (λ e t. omega arith) stop
+  behind-own h low stop = expression-read at count ends few own (ordinary (s .mark)) (ordinary-free (s .mark)) h (omega arith) (λ e t. omega arith) stop
 
-  pub displacement-read : {i j n size z : ℕ} {e : Expr} (o : ℕ) → Plain i j e → Sized at 0 j n size z → own < i → Stops at n → (l : ℕ)
-      → Reads (Operand.parseSizedDisplacement s o) at i l n (some (displaced e size))
+  pub displacement-read : {i j n size z : ℕ} {e : Expr} → Plain i j e → Sized at 0 j n size z → own < i → Stops at n → (l : ℕ)
+      → Reads (Operand.parseSizedDisplacement s) at i l n (some (displaced e size))
   unfolding Operand.parseSizedDisplacement Operand.displacementValue Operand.sized
-  displacement-read o h no-size low stop l = then (behind-own h low (stop .level) l) λ m. then (no-letter _ _ (stop .size)) λ m₂. answers
-  displacement-read o h (a-size t) low stop l = then (behind-own h low (letter-ends t) l) λ m. then (letter-read _ _ t) λ m₂. answers
+  displacement-read h no-size low stop l = then (behind-own h low (stop .level) l) λ m. then (no-letter _ _ (stop .size)) λ m₂. answers
+  displacement-read h (a-size t) low stop l = then (behind-own h low (letter-ends t) l) λ m. then (letter-read _ _ t) λ m₂. answers
 
   -- an expression begins with neither a base nor an index
   no-index : {i j : ℕ} {e : Expr} → Plain i j e → holds (anIndex s i) (at i) ≡ false
@@ -65,41 +65,41 @@ module _ (s : Setting) (at : ℕ → Place) (count : ℕ) (ends : (j : ℕ) (k :
   no-bases h = looks-bases (starts h .looks)
 
   -- I
-  pub inside-read : {i j : ℕ} {d : Displacement} {r : Registers} (o : ℕ) → Inside s at (ordinary s) own i j d r → own < i → Sign at Kinds.rightBracket j → (l : ℕ)
-      → Reads (Operand.parseInner s o) at i l j (some (inner d r))
+  pub inside-read : {i j : ℕ} {d : Displacement} {r : Registers} → Inside s at (ordinary (s .mark)) own i j d r → own < i → Sign at Kinds.rightBracket j → (l : ℕ)
+      → Reads (Operand.parseInner s) at i l j (some (inner d r))
   unfolding Operand.parseInner Operand.innerDisplaced Operand.innerRegisters
-  inside-read o Spelling.empty low c l = from-here (sees (omega arith) (c .there) (kinded c Kinds.rightBracket refl) answers)
-  inside-read o (Spelling.displacement h sz) low c l =
-      let b = starts h in
+  inside-read Spelling.empty low c l = from-here (sees (omega arith) (c .there) (kinded c Kinds.rightBracket refl) answers)
+  inside-read (Spelling.displacement h sz) low c l =
+      let b = starts {s = s} h in
       from-here (misses (omega arith) (other (b .sign) Kinds.rightBracket (b .rightBracket)) (misses (omega arith) (no-bases h)
-      (then (displacement-read o h sz low (stops-bracket c) l) λ m. passes (other c Kinds.comma refl) answers)))
-  inside-read o (Spelling.both h sz k r) low c l =
-      let b = starts h in
+      (then (displacement-read h sz low (stops-bracket c) l) λ m. passes (other c Kinds.comma refl) answers)))
+  inside-read (Spelling.both h sz k r) low c l =
+      let b = starts {s = s} h in
       from-here (misses (omega arith) (other (b .sign) Kinds.rightBracket (b .rightBracket)) (misses (omega arith) (no-bases h)
-      (then (displacement-read o h sz low (stops-comma k) l) λ m. steps (k .there) (kinded k Kinds.comma refl)
-      (then (bases-read o 9 r (stops-bracket c) (other c Kinds.comma refl) _) λ m₂. answers))))
-  inside-read o (Spelling.bases r) low c l =
+      (then (displacement-read h sz low (stops-comma k) l) λ m. steps (k .there) (kinded k Kinds.comma refl)
+      (then (bases-read 9 r (stops-bracket c) (other c Kinds.comma refl) _) λ m₂. answers))))
+  inside-read (Spelling.bases r) low c l =
       let b = begun r in
       from-here (misses (omega arith) (other (b .name) Kinds.rightBracket refl) (sees (omega arith) (b .name .there) (b .passed)
-      (then (bases-read o 9 r (stops-bracket c) (other c Kinds.comma refl) l) λ m₂. answers)))
+      (then (bases-read 9 r (stops-bracket c) (other c Kinds.comma refl) l) λ m₂. answers)))
 
   -- T
-  pub behind-read : {i j n : ℕ} {x y : Index} {d : Displacement} (o : ℕ) → Behind s at (ordinary s) own x i j y n d → own ≤ i → Sign at Kinds.rightParen j → (l : ℕ)
-      → Reads (Operand.parseOuter s o x) at i l j (some (outer y n d))
+  pub behind-read : {i j n : ℕ} {x y : Index} {d : Displacement} → Behind s at (ordinary (s .mark)) own x i j y n d → own ≤ i → Sign at Kinds.rightParen j → (l : ℕ)
+      → Reads (Operand.parseOuter s x) at i l j (some (outer y n d))
   unfolding Operand.parseOuter Operand.outerIndex Operand.outerIndexed Operand.outerDisplaced
-  behind-read o Spelling.empty low c l = passes (other c Kinds.comma refl) answers
-  behind-read o (Spelling.displacement k h sz) low c l =
+  behind-read Spelling.empty low c l = passes (other c Kinds.comma refl) answers
+  behind-read (Spelling.displacement k h sz) low c l =
       steps (k .there) (kinded k Kinds.comma refl) (from-here (misses (omega arith) (no-index h)
-      (then (displacement-read o h sz (omega arith) (stops-close c) _) λ m. answers)))
-  behind-read o (Spelling.index k x) low c l =
+      (then (displacement-read h sz (omega arith) (stops-close c) _) λ m. answers)))
+  behind-read (Spelling.index k x) low c l =
       let z = index-seen x in
       steps (k .there) (kinded k Kinds.comma refl) (from-here (sees (omega arith) (z .there) (z .passed)
-      (then (index-read x (stops-close c) o 9 _) λ m. passes (other c Kinds.comma refl) answers)))
-  behind-read o (Spelling.both k x k₂ h sz) low c l =
+      (then (index-read x (stops-close c) 9 _) λ m. passes (other c Kinds.comma refl) answers)))
+  behind-read (Spelling.both k x k₂ h sz) low c l =
       let z = index-seen x in
       steps (k .there) (kinded k Kinds.comma refl) (from-here (sees (omega arith) (z .there) (z .passed)
-      (then (index-read x (stops-comma k₂) o 9 _) λ m. steps (k₂ .there) (kinded k₂ Kinds.comma refl)
-      (then (displacement-read o h sz (omega (arith, index-rises x)) (stops-close c) _) λ m₂. answers))))
+      (then (index-read x (stops-comma k₂) 9 _) λ m. steps (k₂ .there) (kinded k₂ Kinds.comma refl)
+      (then (displacement-read h sz (omega (arith, index-rises x)) (stops-close c) _) λ m₂. answers))))
 
 bases-rise : {s : Setting} {at : ℕ → Place} {i j : ℕ} {r : Registers} → BaseAndIndex s at i j r → i ≤ j
 bases-rise (Spelling.base b) = omega arith
@@ -128,11 +128,11 @@ first-at (last (a-range p m q low)) = p
 first-at (more (a-single p) k h) = p
 first-at (more (a-range p m q low) k h) = p
 
-module _ (s : Setting) (at : ℕ → Place) (count : ℕ) (ends : (j : ℕ) (k : Token) (x : List ℕ) → at j ≡ stands k x → j < count) (few : count ≤ fuel) (o : ℕ) where
+module _ (s : Setting) (at : ℕ → Place) (count : ℕ) (ends : (j : ℕ) (k : Token) (x : List ℕ) → at j ≡ stands k x → j < count) (few : count ≤ fuel) where
   -- one turn of the loop
   turned : {i l j : ℕ} {y : Operand} (items : List RegisterListItem) (r : Register)
-      → Reads (Operand.listItem r >>= Operand.nextItem (Operand.listLoop fuel o) o items) at i l j (some y) → Reads (Operand.listLoop fuel o items r) at i l j (some y)
-  turned {i} {l} items r h = record { end = h .end; same = list-equation at count ends few o items r i l ∙ h .same }
+      → Reads (Operand.listItem r >>= Operand.nextItem (Operand.listLoop fuel s) s items) at i l j (some y) → Reads (Operand.listLoop fuel s items r) at i l j (some y)
+  turned {i} {l} items r h = record { end = h .end; same = list-equation at count ends few s items r i l ∙ h .same }
 
   single-item : (i l : ℕ) (r : Register) → holds (is Kinds.minus) (at i) ≡ false → run (Operand.listItem r) at i l ≡ reading i l [] (some (single r))
   unfolding run Operand.listItem
@@ -148,14 +148,14 @@ module _ (s : Setting) (at : ℕ → Place) (count : ℕ) (ends : (j : ℕ) (k :
 
   -- behind the last item
   list-ends : {j : ℕ} (e : ℕ) (items : List RegisterListItem) (x : RegisterListItem) → holds (is Kinds.slash) (at j) ≡ false
-      → Reads (Operand.nextItem (Operand.listLoop fuel o) o items (some x)) at j e j (some (O.registerList (items ++ (x ∷ [])) (span o e)))
+      → Reads (Operand.nextItem (Operand.listLoop fuel s) s items (some x)) at j e j (some (O.registerList (items ++ (x ∷ [])) (span (s .start) e)))
   unfolding Operand.nextItem Operand.listed
   list-ends e items x q = passes q (from-here answers)
 
   -- behind an item and a slash
   list-goes-on : {j n z : ℕ} (e : ℕ) (items : List RegisterListItem) (x : RegisterListItem) (xs : List RegisterListItem) {r : Register} → Sign at Kinds.slash j → RegisterAt at (j + 1) r
-      → Reads (Operand.listLoop fuel o (items ++ (x ∷ [])) r) at (j + 1 + 1) (r .span .end) n (some (O.registerList ((items ++ (x ∷ [])) ++ xs) (span o z)))
-      → Reads (Operand.nextItem (Operand.listLoop fuel o) o items (some x)) at j e n (some (O.registerList (items ++ (x ∷ xs)) (span o z)))
+      → Reads (Operand.listLoop fuel s (items ++ (x ∷ [])) r) at (j + 1 + 1) (r .span .end) n (some (O.registerList ((items ++ (x ∷ [])) ++ xs) (span (s .start) z)))
+      → Reads (Operand.nextItem (Operand.listLoop fuel s) s items (some x)) at j e n (some (O.registerList (items ++ (x ∷ xs)) (span (s .start) z)))
   unfolding Operand.nextItem
   list-goes-on e items x xs k (a-register {r = n} t q) h =
       steps (k .there) (kinded k Kinds.slash refl) (steps (t .there) (held aRegister t (looks-register {s = s} (a-register t q) .registers))
@@ -163,7 +163,7 @@ module _ (s : Setting) (at : ℕ → Place) (count : ℕ) (ends : (j : ℕ) (k :
 
   -- the loop, behind the list's first register
   pub items-read : {i j e : ℕ} {xs : List RegisterListItem} (h : Items s at i j xs e) (items : List RegisterListItem) → holds (is Kinds.minus) (at j) ≡ false
-      → holds (is Kinds.slash) (at j) ≡ false → Reads (Operand.listLoop fuel o items (first h)) at (i + 1) (first h .span .end) j (some (O.registerList (items ++ xs) (span o e)))
+      → holds (is Kinds.slash) (at j) ≡ false → Reads (Operand.listLoop fuel s items (first h)) at (i + 1) (first h .span .end) j (some (O.registerList (items ++ xs) (span (s .start) e)))
   unfolding first
   items-read {i} (last (a-single {r = r} p)) items a b = turned items r (then-at (single-item _ _ r a) (list-ends _ items (single r) b))
   items-read {i} (last (a-range {r = r} {q = q} p m g low)) items a b =

@@ -90,7 +90,7 @@ module _ {s : Setting} {at : ℕ → Place} {i : ℕ} where
       looks-name t (Names.suppressed-unregistered (t .text) h) (Names.suppressed-uncounted (t .text) h) λ f n. rw (c .unmarked, c .suppressed) refl
 
   -- a name that an expression may have
-  pub looks-ordinary : (t : Name at i) → ordinary s i (t .text) ≡ true → Looks s at i Reg.Not false Suppressed.Not
+  pub looks-ordinary : (t : Name at i) → ordinary (s .mark) i (t .text) ≡ true → Looks s at i Reg.Not false Suppressed.Not
   unfolding ordinary isSuppressed
   looks-ordinary t q =
       let free = Names.not-true (reserved (t .text)) (Names.both-first (not (reserved (t .text))) _ q) in
@@ -148,7 +148,7 @@ module _ {s : Setting} {at : ℕ → Place} where
         special = comes (name λ x. isSpecial (specialOf x)) t (rw (ap (λ k. eqb k Kinds.identifier) (t .of) ∙ a));
       }
 
-  started-name : {i : ℕ} (t : Name at i) → ordinary s i (t .text) ≡ true → Started s at i
+  started-name : {i : ℕ} (t : Name at i) → ordinary (s .mark) i (t .text) ≡ true → Started s at i
   unfolding ordinary
   started-name t q =
       record {
@@ -167,7 +167,7 @@ module _ {s : Setting} {at : ℕ → Place} where
   started-unary t E.minus = started t refl refl refl refl refl
   started-unary t E.complement = started t refl refl refl refl refl
 
-  pub starts : {own m room i j : ℕ} {e : Expr} → Spells at (ordinary s) own m room i j e → Started s at i
+  pub starts : {own m room i j : ℕ} {e : Expr} → Spells at (ordinary (s .mark)) own m room i j e → Started s at i
   starts (a-number t w) = started t refl refl refl refl refl
   starts (a-literal t) = started t refl refl refl refl refl
   starts (a-name t q) = started-name t q

@@ -43,7 +43,7 @@ example t ts y = record { text = bytes t; tokens = ts; operand = y }
 -- read from the first token on, with at most 64 terms open and no symbol mark
 unfoldable pub readings : List Example → List (Reading (Maybe Operand))
 readings [] = []
-readings (e ∷ es) = readingOf (record { limit = 64; mark = 255 }) (place (e .text) (e .tokens)) 0 ∷ readings es
+readings (e ∷ es) = readingOf 64 255 (place (e .text) (e .tokens)) 0 ∷ readings es
 
 -- the operand, with every token consumed up to the text's end, and no diagnostic
 unfoldable pub expected : List Example → List (Reading (Maybe Operand))

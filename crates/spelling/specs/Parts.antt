@@ -80,24 +80,24 @@ module _ {at : ℕ → Place} where
   unfolding takeSizeSuffix
   no-letter from l q = passes q answers
 
-  scale-read : {z j n scale y : ℕ} (o shape : ℕ) (r : Register) (size : ℕ) (b : Bool) → Scaled at z j n scale y → Stops at n → (l : ℕ)
-      → Reads (Operand.indexScale o shape (before r size b z)) at j l n
+  scale-read : {z j n scale y : ℕ} (s : Setting) (shape : ℕ) (r : Register) (size : ℕ) (b : Bool) → Scaled at z j n scale y → Stops at n → (l : ℕ)
+      → Reads (Operand.indexScale s shape (before r size b z)) at j l n
       (some (record { register = r; size = size; scale = scale; suppressed = b; span = span (r .span .start) y }))
   unfolding Operand.indexScale Operand.scaled valued
-  scale-read o shape r size b no-scale stop l = passes (stop .star) answers
-  scale-read o shape r size b (a-scale star t q f) stop l =
+  scale-read s shape r size b no-scale stop l = passes (stop .star) answers
+  scale-read s shape r size b (a-scale star t q f) stop l =
       steps (star .there) (kinded star Kinds.star refl) (steps (t .there) (kinded t Kinds.number refl) (rw q (then answers λ n. rw (factor f) answers)))
 
   scale-unsized : {z j n scale y : ℕ} → Scaled at z j n scale y → Stops at n → holds (is Kinds.sizeSuffix) (at j) ≡ false
   scale-unsized no-scale stop = stop .size
   scale-unsized (a-scale star t q f) stop = other star Kinds.sizeSuffix refl
 
-  tails-read : {i j n size scale z y : ℕ} (o shape : ℕ) (r : Register) (b : Bool) → Sized at (r .span .end) i j size z → Scaled at z j n scale y → Stops at n → (l : ℕ)
-      → Reads (Operand.indexRegister o shape r b) at i l n
+  tails-read : {i j n size scale z y : ℕ} (s : Setting) (shape : ℕ) (r : Register) (b : Bool) → Sized at (r .span .end) i j size z → Scaled at z j n scale y → Stops at n → (l : ℕ)
+      → Reads (Operand.indexRegister s shape r b) at i l n
       (some (record { register = r; size = size; scale = scale; suppressed = b; span = span (r .span .start) y }))
   unfolding Operand.indexRegister Operand.indexSize
-  tails-read o shape r b no-size sc stop l = then (no-letter _ _ (scale-unsized sc stop)) λ m. scale-read o shape r 0 b sc stop m
-  tails-read o shape r b (a-size {n = n} t) sc stop l = then (letter-read _ _ t) λ m. scale-read o shape r n b sc stop m
+  tails-read s shape r b no-size sc stop l = then (no-letter _ _ (scale-unsized sc stop)) λ m. scale-read s shape r 0 b sc stop m
+  tails-read s shape r b (a-size {n = n} t) sc stop l = then (letter-read _ _ t) λ m. scale-read s shape r n b sc stop m
 
 -- neither follows
 no-tail : {at : ℕ → Place} {j : ℕ} → Stops at j → holds sizeOrScale (at j) ≡ false
@@ -151,22 +151,22 @@ pub record Begun (s : Setting) (at : ℕ → Place) (i : ℕ) : Type 0 where
   pub passed : aBaseOrAnIndex s i (name .token) (name .text) ≡ true
 
 -- behind a base that no index follows
-base-alone : (s : Setting) {at : ℕ → Place} {j : ℕ} (o shape : ℕ) (b : BaseRegister) → holds (is Kinds.comma) (at j) ≡ false → (l : ℕ)
-    → Reads (Operand.afterBaseRegister s o shape b) at j l j (some (registers b Index.Unindexed))
+base-alone : (s : Setting) {at : ℕ → Place} {j : ℕ} (shape : ℕ) (b : BaseRegister) → holds (is Kinds.comma) (at j) ≡ false → (l : ℕ)
+    → Reads (Operand.afterBaseRegister s shape b) at j l j (some (registers b Index.Unindexed))
 unfolding Operand.afterBaseRegister
-base-alone s o shape b q l = from-here (either-way refl (λ t x h g. passes q answers) λ g. answers)
+base-alone s shape b q l = from-here (either-way refl (λ t x h g. passes q answers) λ g. answers)
 
 module _ {s : Setting} {at : ℕ → Place} where
-  pub index-read : {i n : ℕ} {x : IndexRegister} → Indexes s at i n x → Stops at n → (o shape l : ℕ) → Reads (Operand.parseIndexRegister s o shape) at i l n (some x)
+  pub index-read : {i n : ℕ} {x : IndexRegister} → Indexes s at i n x → Stops at n → (shape l : ℕ) → Reads (Operand.parseIndexRegister s shape) at i l n (some x)
   unfolding Operand.parseIndexRegister suppressedIndex isSuppressed isSuppressedRegister
-  index-read (an-index (plain (a-register {r = r} t q)) sz sc) stop o shape l =
+  index-read (an-index (plain (a-register {r = r} t q)) sz sc) stop shape l =
       let k = looks-register {s = s} (a-register t q) in
-      from-here (steps (t .there) (held aRegister t (k .registers)) (rw (registered (t .token) (t .text) r q) (tails-read o shape _ false sz sc stop _)))
-  index-read {i = i} (an-index (suppressed {r = r} z) sz sc) stop o shape l =
+      from-here (steps (t .there) (held aRegister t (k .registers)) (rw (registered (t .token) (t .text) r q) (tails-read s shape _ false sz sc stop _)))
+  index-read {i = i} (an-index (suppressed {r = r} z) sz sc) stop shape l =
       let k = looks-suppressed z refl in
       let t = z .name in
       from-here (passes (k .registers) (steps (t .there) (held (unmarked s i isSuppressedRegister) t (k .suppressions isSuppressedRegister refl))
-      (rw (z .suppressed) (tails-read o shape _ true sz sc stop _))))
+      (rw (z .suppressed) (tails-read s shape _ true sz sc stop _))))
 
   pub looks-index : {i : ℕ} {r : Reg} {pc : Bool} {z : Suppressed} → Looks s at i r pc z → holds (anIndex s i) (at i) ≡ either (isRegister r) (isSuppressedRegister z)
   unfolding holds anIndex isSuppressedRegister
@@ -197,40 +197,40 @@ module _ {s : Setting} {at : ℕ → Place} where
   -- ---- bases
 
   -- behind a base, a comma and an index
-  base-indexed : {j n : ℕ} {x : IndexRegister} (o shape : ℕ) (b : BaseRegister) → Sign at Kinds.comma j → Indexes s at (j + 1) n x → Stops at n → (l : ℕ)
-      → Reads (Operand.afterBaseRegister s o shape b) at j l n (some (registers b (Index.Indexed x)))
+  base-indexed : {j n : ℕ} {x : IndexRegister} (shape : ℕ) (b : BaseRegister) → Sign at Kinds.comma j → Indexes s at (j + 1) n x → Stops at n → (l : ℕ)
+      → Reads (Operand.afterBaseRegister s shape b) at j l n (some (registers b (Index.Indexed x)))
   unfolding Operand.afterBaseRegister Operand.indexAlone
-  base-indexed o shape b c x stop l =
+  base-indexed shape b c x stop l =
       let z = index-seen x in
-      from-here (sees refl (z .there) (z .passed) (steps (c .there) (kinded c Kinds.comma refl) (then (index-read x stop o shape _) λ m. answers)))
+      from-here (sees refl (z .there) (z .passed) (steps (c .there) (kinded c Kinds.comma refl) (then (index-read x stop shape _) λ m. answers)))
 
-  base-read : {i j : ℕ} {b : BaseRegister} {a : Registers} (o shape : ℕ) → Bases s at i b → Stops at (i + 1)
-      → ((l : ℕ) → Reads (Operand.afterBaseRegister s o shape b) at (i + 1) l j (some a)) → (l : ℕ)
-      → Reads (Operand.parseBaseAndIndexRegisters s o shape) at i l j (some a)
+  base-read : {i j : ℕ} {b : BaseRegister} {a : Registers} (shape : ℕ) → Bases s at i b → Stops at (i + 1)
+      → ((l : ℕ) → Reads (Operand.afterBaseRegister s shape b) at (i + 1) l j (some a)) → (l : ℕ)
+      → Reads (Operand.parseBaseAndIndexRegisters s shape) at i l j (some a)
   unfolding Operand.parseBaseAndIndexRegisters suppressedIndex isAddress isSuppressed isSuppressedRegister isSuppressedAddress
-  base-read o shape (Spelling.address (Spelling.an-address (a-register {r = r} t q) low)) stop h l =
+  base-read shape (Spelling.address (Spelling.an-address (a-register {r = r} t q) low)) stop h l =
       let k = looks-register {s = s} (a-register t q) in
       from-here (passes (k .counters) (passes (k .suppressions _ refl) (misses refl (no-tail stop) (steps (t .there) (held anAddressRegister t (k .addresses ∙ le-leb 8 r low))
       (rw (registered (t .token) (t .text) r q) (h _))))))
-  base-read o shape (Spelling.counter c) stop h l =
+  base-read shape (Spelling.counter c) stop h l =
       let k = looks-counter {s = s} c in
       from-here (steps (c .name .there) (held aProgramCounter (c .name) (k .counters)) (h _))
-  base-read {i = i} o shape (Spelling.suppressed-address {r = r} z low) stop h l =
+  base-read {i = i} shape (Spelling.suppressed-address {r = r} z low) stop h l =
       let k = looks-suppressed z refl in
       from-here (passes (k .counters) (passes (k .suppressions _ refl) (misses refl (no-tail stop) (passes (k .addresses)
       (steps (z .name .there) (held (unmarked s i isSuppressedAddress) (z .name) (k .suppressions isSuppressedAddress refl ∙ le-leb 8 r low))
       (rw (z .suppressed) (h _)))))))
-  base-read {i = i} o shape (Spelling.suppressed-counter z) stop h l =
+  base-read {i = i} shape (Spelling.suppressed-counter z) stop h l =
       let k = looks-suppressed z refl in
       from-here (passes (k .counters) (steps (z .name .there) (held _ (z .name) (k .suppressions _ refl)) (h _)))
 
   -- an index and no base, once it is known to be none
-  no-base : {i n : ℕ} {x : IndexRegister} (o shape : ℕ) → Indexes s at i n x → Stops at n → (l : ℕ)
-      → Reads (Operand.noBase s o shape) at i l n (some (registers BaseRegister.Omitted (Index.Indexed x)))
+  no-base : {i n : ℕ} {x : IndexRegister} (shape : ℕ) → Indexes s at i n x → Stops at n → (l : ℕ)
+      → Reads (Operand.noBase s shape) at i l n (some (registers BaseRegister.Omitted (Index.Indexed x)))
   unfolding Operand.noBase Operand.indexAlone
-  no-base o shape x stop l =
+  no-base shape x stop l =
       let z = index-seen x in
-      from-here (sees (omega arith) (z .there) (z .passed) (then (index-read x stop o shape _) λ m. answers))
+      from-here (sees (omega arith) (z .there) (z .passed) (then (index-read x stop shape _) λ m. answers))
 
   indexing : {i : ℕ} {b : Bool} {r : Register} → IndexAt s at i b r → Indexing s at i (r .index)
   unfolding isAddress isSuppressed isSuppressedRegister isSuppressedAddress
@@ -252,29 +252,29 @@ module _ {s : Setting} {at : ℕ → Place} where
       }
 
   -- X where X is no B
-  index-alone : {i n : ℕ} {x : IndexRegister} (o shape : ℕ) → Indexes s at i n x → (x .register .index < 8) ⊎ (i + 1 < n) → Stops at n → (l : ℕ)
-      → Reads (Operand.parseBaseAndIndexRegisters s o shape) at i l n (some (registers BaseRegister.Omitted (Index.Indexed x)))
+  index-alone : {i n : ℕ} {x : IndexRegister} (shape : ℕ) → Indexes s at i n x → (x .register .index < 8) ⊎ (i + 1 < n) → Stops at n → (l : ℕ)
+      → Reads (Operand.parseBaseAndIndexRegisters s shape) at i l n (some (registers BaseRegister.Omitted (Index.Indexed x)))
   unfolding Operand.parseBaseAndIndexRegisters sizeOrScale
-  index-alone {i = i} o shape (an-index p no-size no-scale) h stop l =
+  index-alone {i = i} shape (an-index p no-size no-scale) h stop l =
       let k = indexing p in
       let small = first-of h (omega arith) in
       from-here (passes (k .counters) (passes (k .notCounter) (misses refl (no-tail stop) (passes (k .addresses small) (passes (k .suppressions small)
-      (no-base o shape (an-index p no-size no-scale) stop l))))))
-  index-alone o shape (an-index p (a-size t) sc) h stop l =
+      (no-base shape (an-index p no-size no-scale) stop l))))))
+  index-alone shape (an-index p (a-size t) sc) h stop l =
       let k = indexing p in
       from-here (passes (k .counters) (passes (k .notCounter) (sees refl (t .sign .there) (rw (t .sign .of) refl)
-      (no-base o shape (an-index p (a-size t) sc) stop l))))
-  index-alone o shape (an-index p no-size (a-scale star t q f)) h stop l =
+      (no-base shape (an-index p (a-size t) sc) stop l))))
+  index-alone shape (an-index p no-size (a-scale star t q f)) h stop l =
       let k = indexing p in
       from-here (passes (k .counters) (passes (k .notCounter) (sees refl (star .there) (rw (star .of) refl)
-      (no-base o shape (an-index p no-size (a-scale star t q f)) stop l))))
+      (no-base shape (an-index p no-size (a-scale star t q f)) stop l))))
 
   -- BI, where no comma follows
-  pub bases-read : {i j : ℕ} {r : Registers} (o shape : ℕ) → BaseAndIndex s at i j r → Stops at j → holds (is Kinds.comma) (at j) ≡ false → (l : ℕ)
-      → Reads (Operand.parseBaseAndIndexRegisters s o shape) at i l j (some r)
-  bases-read o shape (Spelling.base {b = b} h) stop q l = base-read o shape h stop (base-alone s o shape b q) l
-  bases-read o shape (Spelling.base-index {b = b} h c x) stop q l = base-read o shape h (stops-comma c) (base-indexed o shape b c x stop) l
-  bases-read o shape (Spelling.index x h) stop q l = index-alone o shape x h stop l
+  pub bases-read : {i j : ℕ} {r : Registers} (shape : ℕ) → BaseAndIndex s at i j r → Stops at j → holds (is Kinds.comma) (at j) ≡ false → (l : ℕ)
+      → Reads (Operand.parseBaseAndIndexRegisters s shape) at i l j (some r)
+  bases-read shape (Spelling.base {b = b} h) stop q l = base-read shape h stop (base-alone s shape b q) l
+  bases-read shape (Spelling.base-index {b = b} h c x) stop q l = base-read shape h (stops-comma c) (base-indexed shape b c x stop) l
+  bases-read shape (Spelling.index x h) stop q l = index-alone shape x h stop l
 
   begun-base : {i : ℕ} {b : BaseRegister} → Bases s at i b → Begun s at i
   unfolding isSuppressed

@@ -49,5 +49,5 @@ unfoldable pub unreserved : ℕ → List ℕ → Bool
 unreserved i x = not (reserved x)
 
 -- and, where it may be doubtful what is spelled, no Z either
-unfoldable pub ordinary : Setting → ℕ → List ℕ → Bool
-ordinary s i x = both (not (reserved x)) (not (both (not (eqb (s .mark) i)) (isSuppressed (suppressedOf x))))
+unfoldable pub ordinary : ℕ → ℕ → List ℕ → Bool
+ordinary mark i x = both (not (reserved x)) (not (both (not (eqb mark i)) (isSuppressed (suppressedOf x))))

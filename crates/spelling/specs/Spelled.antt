@@ -54,24 +54,24 @@ dec : (b : Bool) → (b ≡ true) ⊎ (b ≡ false)
 dec true = inl refl
 dec false = inr refl
 
-module _ (s : Setting) (at : ℕ → Place) (count : ℕ) (ends : (j : ℕ) (k : Token) (x : List ℕ) → at j ≡ stands k x → j < count) (few : count ≤ fuel) (own o : ℕ) where
+module _ (s : Setting) (at : ℕ → Place) (count : ℕ) (ends : (j : ℕ) (k : Token) (x : List ℕ) → at j ≡ stands k x → j < count) (few : count ≤ fuel) (own : ℕ) where
   abbrev Plain : ℕ → ℕ → Expr → Type 0
-  Plain i j e = Expression s at (ordinary s) own i j e
+  Plain i j e = Expression s at (ordinary (s .mark)) own i j e
 
   -- ---- 1: immediate
 
   immediate-read : {j l : ℕ} {y : Operand} {e : Expr} (t : Sign at Kinds.hash own) → Plain (own + 1) j e → Ends at 1 j → {n : ℕ}
-      → ((l : ℕ) → Reads (Operand.immediateValue o (t .token) (read e)) at j l n (some y)) → Reads (operandFrom s o) at own l n (some y)
+      → ((l : ℕ) → Reads (Operand.immediateValue s (t .token) (read e)) at j l n (some y)) → Reads (operandFrom s) at own l n (some y)
   unfolding operandFrom Operand.parseImmediate
   immediate-read t h stop g =
       misses (omega arith) (other t Kinds.comma refl) (steps (t .there) (kinded t Kinds.hash refl) (then (behind-own s at count ends few own h (omega arith) stop _) g))
 
   -- ---- 2, 3: a register
 
-  direct-read : {l : ℕ} {r : Register} → RegisterAt at own r → Closed at (own + 1) → Reads (operandFrom s o) at own l (own + 1) (some (Operand.registerDirect r (r .span)))
+  direct-read : {l : ℕ} {r : Register} → RegisterAt at own r → Closed at (own + 1) → Reads (operandFrom s) at own l (own + 1) (some (Operand.registerDirect r (r .span)))
   unfolding Operand.nameOrExpression Operand.parseRegisterOperand
   direct-read (a-register {r = r} t q) c =
-      begins-name s at own o t (steps (t .there) (held aRegister t (looks-register {s = s} (a-register t q) .registers))
+      begins-name s at own t (steps (t .there) (held aRegister t (looks-register {s = s} (a-register t q) .registers))
       (misses (omega arith) (closed-fails (λ k y. either (eqb (k .kind) Kinds.minus) (eqb (k .kind) Kinds.slash)) (λ k x e. rw e refl) (λ k x e. rw e refl) c)
       (rw (registered (t .token) (t .text) r q) answers)))
 
@@ -90,7 +90,7 @@ module _ (s : Setting) (at : ℕ → Place) (count : ℕ) (ends : (j : ℕ) (k :
   shut-comma t = record { kind = Kinds.comma; sign = t; attached = refl; shuts = refl }
 
   abbrev BaseRead : ℕ → ℕ → Displacement → Operand → Type 0
-  BaseRead i j d y = (k : Token) (l : ℕ) → Reads (Operand.parseBaseAndIndex s o k d) at i l j (some y)
+  BaseRead i j d y = (k : Token) (l : ℕ) → Reads (Operand.parseBaseAndIndex s k d) at i l j (some y)
 
   base-unbracketed : {i : ℕ} → BaseLike s at i → holds (is Kinds.leftBracket) (at i) ≡ false
   base-unbracketed (address t k low) = other t Kinds.leftBracket refl
@@ -101,40 +101,40 @@ module _ (s : Setting) (at : ℕ → Place) (count : ℕ) (ends : (j : ℕ) (k :
   paren-ends t = ends-by 1 t (omega arith)
 
   -- a parenthesis and an expression
-  expression-opens : (k : Token) {i j : ℕ} {y : Operand} {e : Expr} → Plain (own + 1) i e → (l : ℕ) → Reads (Operand.parenthesised s o k) at (own + 1) l j (some y)
-      → Reads (Operand.parseParenthesisedOperand s o k) at (own + 1) l j (some y)
+  expression-opens : (k : Token) {i j : ℕ} {y : Operand} {e : Expr} → Plain (own + 1) i e → (l : ℕ) → Reads (Operand.parenthesised s k) at (own + 1) l j (some y)
+      → Reads (Operand.parseParenthesisedOperand s k) at (own + 1) l j (some y)
   unfolding Operand.parseParenthesisedOperand
   expression-opens k e l h = let b = starts e in passes (other (b .sign) Kinds.leftBracket (b .leftBracket)) (no-full s _ _ (b .looks) (no-start s _ _ (b .looks) h))
 
   -- the way to the base
-  opening-read : {i j l : ℕ} {d : Displacement} {y : Operand} → Opening s at (ordinary s) own i d → BaseLike s at i → Shut at (i + 1) → BaseRead i j d y
-      → Reads (operandFrom s o) at own l j (some y)
-  unfolding Operand.parseParenthesisedOperand Operand.parenthesised Operand.parenthesisedExpression Operand.afterExpression Operand.groupedOperand Operand.displacementTail Operand.parseExpressionOperand Operand.expressionOperand
+  opening-read : {i j l : ℕ} {d : Displacement} {y : Operand} → Opening s at (ordinary (s .mark)) own i d → BaseLike s at i → Shut at (i + 1) → BaseRead i j d y
+      → Reads (operandFrom s) at own l j (some y)
+  unfolding Operand.parseParenthesisedOperand Operand.parenthesised Operand.parenthesisedExpression Operand.afterExpression Operand.displacementTail Operand.parseExpressionOperand Operand.expressionOperand
   opening-read (Spelling.alone t) b c g =
-      begins-group s at own o t λ l. passes (base-unbracketed b) (base-not-full s _ _ b c (base-starts s _ _ b c (g (t .token) l)))
+      begins-group s at own t λ l. passes (base-unbracketed b) (base-not-full s _ _ b c (base-starts s _ _ b c (g (t .token) l)))
   opening-read (Spelling.displacing (Spelling.inside t e k)) b c g =
-      begins-group s at own o t λ l. expression-opens (t .token) e l (then (behind-own s at count ends few own e (omega arith) (stops-comma k .level) l) λ l₂.
+      begins-group s at own t λ l. expression-opens (t .token) e l (then (behind-own s at count ends few own e (omega arith) (stops-comma k .level) l) λ l₂.
       steps (k .there) (kinded k Kinds.comma refl) (base-not-full s _ _ b c (g (t .token) _)))
   opening-read (Spelling.displacing (Spelling.before (Spelling.group t e k) p)) b c g =
-      begins-group s at own o t λ l. expression-opens (t .token) e l (then (behind-own s at count ends few own e (omega arith) (stops-close k .level) l) λ l₂.
+      begins-group s at own t λ l. expression-opens (t .token) e l (then (behind-own s at count ends few own e (omega arith) (stops-close k .level) l) λ l₂.
       passes (other k Kinds.comma refl) (steps (k .there) (kinded k Kinds.rightParen refl) (steps (p .there) (kinded p Kinds.leftParen refl) (g (p .token) _))))
   opening-read (Spelling.displacing (Spelling.before (Spelling.bare {k = n} t q e) p)) b c g =
-      begins-expression s at own o e (other t Kinds.leftParen (ne-eqb n Kinds.leftParen q))
-      (then (expression-read at count ends few own (ordinary s) (ordinary-free s) e (omega arith) (λ z u. q (same-sign t u)) (paren-ends p) _) λ l₂.
+      begins-expression s at own e (other t Kinds.leftParen (ne-eqb n Kinds.leftParen q))
+      (then (expression-read at count ends few own (ordinary (s .mark)) (ordinary-free (s .mark)) e (omega arith) (λ z u. q (same-sign t u)) (paren-ends p) _) λ l₂.
       steps (p .there) (kinded p Kinds.leftParen refl) (g (p .token) _))
 
-  expect : {i l : ℕ} (k : Token) (shape : ℕ) (c : Sign at Kinds.rightParen i) → Reads (Operand.expectClose o k shape) at i l (i + 1) (some (c .token .end))
+  expect : {i l : ℕ} (k : Token) (shape : ℕ) (c : Sign at Kinds.rightParen i) → Reads (Operand.expectClose s k shape) at i l (i + 1) (some (c .token .end))
   unfolding Operand.expectClose
   expect k shape c = steps (c .there) (kinded c Kinds.rightParen refl) answers
 
   address-base : {i j : ℕ} {r : Register} (d : Displacement) {y : Operand} → AddressAt at i r
-      → ((k : Token) (l : ℕ) → Reads (Operand.afterBase s o k d r) at (i + 1) l j (some y)) → BaseRead i j d y
+      → ((k : Token) (l : ℕ) → Reads (Operand.afterBase s k d r) at (i + 1) l j (some y)) → BaseRead i j d y
   unfolding Operand.parseBaseAndIndex isAddress
   address-base d (an-address (a-register {r = r} t q) low) h k l =
       steps (t .there) (held anAddressRegister t (looks-register {s = s} (a-register t q) .addresses ∙ le-leb 8 r low)) (rw (registered (t .token) (t .text) r q) (h k _))
 
   counter-base : {i j : ℕ} (d : Displacement) {y : Operand} → CounterAt at i
-      → ((k : Token) (l : ℕ) → Reads (Operand.afterCounter s o k d) at (i + 1) l j (some y)) → BaseRead i j d y
+      → ((k : Token) (l : ℕ) → Reads (Operand.afterCounter s k d) at (i + 1) l j (some y)) → BaseRead i j d y
   unfolding Operand.parseBaseAndIndex isAddress
   counter-base d c h k l =
       let z = looks-counter {s = s} c in
@@ -142,27 +142,27 @@ module _ (s : Setting) (at : ℕ → Place) (count : ℕ) (ends : (j : ℕ) (k :
 
   -- `,X)`
   address-index : {i n : ℕ} (r : Register) (d : Displacement) {x : IndexRegister} {y : Operand} → Sign at Kinds.comma i → Indexes s at (i + 1) n x → (c : Sign at Kinds.rightParen n)
-      → pick (x .suppressed) (O.fullIndex d (BaseRegister.Address r) (Index.Indexed x) 0 undisplaced (span o (c .token .end))) (O.index d r x (span o (c .token .end))) ≡ y
-      → (k : Token) (l : ℕ) → Reads (Operand.afterBase s o k d r) at i l (n + 1) (some y)
+      → pick (x .suppressed) (O.fullIndex d (BaseRegister.Address r) (Index.Indexed x) 0 undisplaced (span (s .start) (c .token .end))) (O.index d r x (span (s .start) (c .token .end))) ≡ y
+      → (k : Token) (l : ℕ) → Reads (Operand.afterBase s k d r) at i l (n + 1) (some y)
   unfolding Operand.afterBase Operand.closedIndex Operand.indexedOperand
   address-index r d m x c e k l =
-      passes (other m Kinds.rightParen refl) (steps (m .there) (kinded m Kinds.comma refl) (then (index-read x (stops-close c) o 6 _)
+      passes (other m Kinds.rightParen refl) (steps (m .there) (kinded m Kinds.comma refl) (then (index-read x (stops-close c) 6 _)
       λ l₂. then (expect k 6 c) λ l₃. rw e answers))
 
   counter-index : {i n : ℕ} (d : Displacement) {x : IndexRegister} {y : Operand} → Sign at Kinds.comma i → Indexes s at (i + 1) n x → (c : Sign at Kinds.rightParen n)
-      → pick (x .suppressed) (O.fullIndex d BaseRegister.ProgramCounter (Index.Indexed x) 0 undisplaced (span o (c .token .end))) (O.pcIndex d x (span o (c .token .end))) ≡ y
-      → (k : Token) (l : ℕ) → Reads (Operand.afterCounter s o k d) at i l (n + 1) (some y)
+      → pick (x .suppressed) (O.fullIndex d BaseRegister.ProgramCounter (Index.Indexed x) 0 undisplaced (span (s .start) (c .token .end))) (O.pcIndex d x (span (s .start) (c .token .end))) ≡ y
+      → (k : Token) (l : ℕ) → Reads (Operand.afterCounter s k d) at i l (n + 1) (some y)
   unfolding Operand.afterCounter Operand.closedIndex Operand.indexedOperand
   counter-index d m x c e k l =
-      passes (other m Kinds.rightParen refl) (steps (m .there) (kinded m Kinds.comma refl) (then (index-read x (stops-close c) o 8 _)
+      passes (other m Kinds.rightParen refl) (steps (m .there) (kinded m Kinds.comma refl) (then (index-read x (stops-close c) 8 _)
       λ l₂. then (expect k 8 c) λ l₃. rw e answers))
 
   -- ---- 12: full
 
   full-read : {i n : ℕ} {r : Registers} (k : Token) (d : Displacement) → BaseAndIndex s at i n r → (c : Sign at Kinds.rightParen n) → (l : ℕ)
-      → Reads (Operand.parseFullIndex s o k d) at i l (n + 1) (some (O.fullIndex d (r .base) (r .index) 0 undisplaced (span o (c .token .end))))
+      → Reads (Operand.parseFullIndex s k d) at i l (n + 1) (some (O.fullIndex d (r .base) (r .index) 0 undisplaced (span (s .start) (c .token .end))))
   unfolding Operand.parseFullIndex Operand.closedRegisters Operand.fullIndexed
-  full-read k d b c l = then (bases-read o 6 b (stops-close c) (other c Kinds.comma refl) l) λ l₂. then (expect k 6 c) λ l₃. answers
+  full-read k d b c l = then (bases-read 6 b (stops-close c) (other c Kinds.comma refl) l) λ l₂. then (expect k 6 c) λ l₃. answers
 
   -- ---- 13: absolute
 
@@ -175,35 +175,35 @@ module _ (s : Setting) (at : ℕ → Place) (count : ℕ) (ends : (j : ℕ) (k :
   absolute-open (a-size t) c = other (t .sign) Kinds.leftParen refl
 
   finish-read : {j n size z : ℕ} (e : Expr) → Sized at (spanE e .end) j n size z → Closed at n → (l : ℕ)
-      → Reads (Operand.finishExpressionOperand o e) at j l n (some (O.absolute e size (span o z)))
+      → Reads (Operand.finishExpressionOperand s e) at j l n (some (O.absolute e size (span (s .start) z)))
   unfolding Operand.finishExpressionOperand Operand.absoluteSize
   finish-read e no-size c l = then (no-letter _ _ (stops-closed c .size)) λ l₂. answers
   finish-read e (a-size t) c l = then (letter-read _ _ t) λ l₂. answers
 
   absolute-bare : {j n size z l : ℕ} {e : Expr} → Plain own j e → Sized at (spanE e .end) j n size z → Closed at n → holds (is Kinds.leftParen) (at own) ≡ false
-      → Reads (operandFrom s o) at own l n (some (O.absolute e size (span o z)))
+      → Reads (operandFrom s) at own l n (some (O.absolute e size (span (s .start) z)))
   unfolding Operand.parseExpressionOperand Operand.expressionOperand Operand.displacementTail
   absolute-bare {e = e} h sz c p =
-      begins-expression s at own o h p (then (expression-read at count ends few own (ordinary s) (ordinary-free s) h (omega arith) (λ z t. true-false (sym (comes (is Kinds.leftParen) t (kinded t Kinds.leftParen refl)) ∙ p)) (absolute-ends sz c) _)
+      begins-expression s at own h p (then (expression-read at count ends few own (ordinary (s .mark)) (ordinary-free (s .mark)) h (omega arith) (λ z t. true-false (sym (comes (is Kinds.leftParen) t (kinded t Kinds.leftParen refl)) ∙ p)) (absolute-ends sz c) _)
       λ l₂. passes (absolute-open sz c) (finish-read e sz c l₂))
 
   -- from the operand's own group on
-  grouped-from : {start e : Expr} {mid j n size z l : ℕ} → First at count ends few own (ordinary s) (s .limit) own mid start → Sign at Kinds.leftParen own
+  grouped-from : {start e : Expr} {mid j n size z l : ℕ} → First at count ends few own (ordinary (s .mark)) (s .limit) own mid start → Sign at Kinds.leftParen own
       → holds (is Kinds.leftParen) (at mid) ≡ false → ((l : ℕ) → Reads (expressionFrom (s .limit) start) at mid l j e) → Sized at (spanE e .end) j n size z → Closed at n
-      → Reads (operandFrom s o) at own l n (some (O.absolute e size (span o z)))
-  unfolding Operand.parenthesised Operand.parenthesisedExpression Operand.afterExpression Operand.groupedOperand Operand.displacementTail
+      → Reads (operandFrom s) at own l n (some (O.absolute e size (span (s .start) z)))
+  unfolding Operand.parenthesised Operand.parenthesisedExpression Operand.afterExpression Operand.displacementTail
   grouped-from (a-term b h) p unopened on sz c = absurd (b refl p)
   grouped-from {e = e} (the-own q m t h r k) p unopened on sz c =
-      begins-group s at own o t λ l. expression-opens (t .token) h l (then (r l) λ l₂.
+      begins-group s at own t λ l. expression-opens (t .token) h l (then (r l) λ l₂.
       passes (other k Kinds.comma refl) (steps (k .there) (kinded k Kinds.rightParen refl) (passes (rw m at unopened) (then ((rw m at on) _) λ l₃. finish-read e sz c l₃))))
 
   absolute-grouped : {j n size z l : ℕ} {e : Expr} → Plain own j e → Sized at (spanE e .end) j n size z → Closed at n → Sign at Kinds.leftParen own
-      → Reads (operandFrom s o) at own l n (some (O.absolute e size (span o z)))
+      → Reads (operandFrom s) at own l n (some (O.absolute e size (span (s .start) z)))
   unfolding expressionFrom
   absolute-grouped {j} {n} {size} {z} {l} {e} h sz c p =
-      let g = leads at count ends few own (ordinary s) (ordinary-free s) h (omega arith) (looser (omega arith) (absolute-ends sz c)) in
+      let g = leads at count ends few own (ordinary (s .mark)) (ordinary-free (s .mark)) h (omega arith) (looser (omega arith) (absolute-ends sz c)) in
       grouped-from (g .first) p (elim (g .next) [ inl q ↦ rw q (absolute-open sz c) | inr q ↦ q ])
-      (g .climbs 1 j e (omega arith) λ l. climb-stop at count ends few own (ordinary s) fuel (s .limit) 1 j l e (absolute-ends sz c)) sz c
+      (g .climbs 1 j e (omega arith) λ l. climb-stop at count ends few own (ordinary (s .mark)) fuel (s .limit) 1 j l e (absolute-ends sz c)) sz c
 
   -- ---- the cases one by one
 
@@ -216,33 +216,33 @@ module _ (s : Setting) (at : ℕ → Place) (count : ℕ) (ends : (j : ℕ) (k :
   direct-address r h = rw (le-leb 8 (r .index) h)
 
   special-read : {n l : ℕ} (t : Name at own) → specialOf (t .text) ≡ SpecialRegister.Is n
-      → Reads (operandFrom s o) at own l (own + 1) (some (O.specialRegister n (spanOf (t .token))))
+      → Reads (operandFrom s) at own l (own + 1) (some (O.specialRegister n (spanOf (t .token))))
   unfolding Operand.nameOrExpression Operand.specialIndex aRegister
   special-read {n} t q =
-      begins-name s at own o t (passes (comes aRegister t (rw (t .of) (Names.special-unregistered (t .text) n q))) (steps (t .there) (rw (t .of, q) refl) (rw q answers)))
+      begins-name s at own t (passes (comes aRegister t (rw (t .of) (Names.special-unregistered (t .text) n q))) (steps (t .there) (rw (t .of, q) refl) (rw q answers)))
 
   indirect-closed : {i : ℕ} {r : Register} (c : Sign at Kinds.rightParen i) → Closed at (i + 1) → (k : Token) (l : ℕ)
-      → Reads (Operand.afterBase s o k undisplaced r) at i l (i + 1) (some (O.indirect r (span o (c .token .end))))
+      → Reads (Operand.afterBase s k undisplaced r) at i l (i + 1) (some (O.indirect r (span (s .start) (c .token .end))))
   unfolding Operand.afterBase Operand.closedBase
   indirect-closed c e k l = steps (c .there) (kinded c Kinds.rightParen refl) (passes (closed-kind Kinds.plus refl refl e) answers)
 
   postincrement-closed : {i : ℕ} {r : Register} → Sign at Kinds.rightParen i → (p : Sign at Kinds.plus (i + 1)) → (k : Token) (l : ℕ)
-      → Reads (Operand.afterBase s o k undisplaced r) at i l (i + 1 + 1) (some (O.postincrement r (span o (p .token .end))))
+      → Reads (Operand.afterBase s k undisplaced r) at i l (i + 1 + 1) (some (O.postincrement r (span (s .start) (p .token .end))))
   unfolding Operand.afterBase Operand.closedBase
   postincrement-closed c p k l = steps (c .there) (kinded c Kinds.rightParen refl) (steps (p .there) (kinded p Kinds.plus refl) answers)
 
   displacement-closed : {i : ℕ} {e : Expr} {r : Register} (c : Sign at Kinds.rightParen i) → (k : Token) (l : ℕ)
-      → Reads (Operand.afterBase s o k (displaced e 0) r) at i l (i + 1) (some (O.displacement e r (span o (c .token .end))))
+      → Reads (Operand.afterBase s k (displaced e 0) r) at i l (i + 1) (some (O.displacement e r (span (s .start) (c .token .end))))
   unfolding Operand.afterBase Operand.closedBase
   displacement-closed c k l = steps (c .there) (kinded c Kinds.rightParen refl) answers
 
   counter-closed : {i : ℕ} {e : Expr} (c : Sign at Kinds.rightParen i) → (k : Token) (l : ℕ)
-      → Reads (Operand.afterCounter s o k (displaced e 0)) at i l (i + 1) (some (O.pcDisplacement e (span o (c .token .end))))
+      → Reads (Operand.afterCounter s k (displaced e 0)) at i l (i + 1) (some (O.pcDisplacement e (span (s .start) (c .token .end))))
   unfolding Operand.afterCounter Operand.closedCounter
   counter-closed c k l = steps (c .there) (kinded c Kinds.rightParen refl) answers
 
   predecrement-read : {l : ℕ} {r : Register} (m : Sign at Kinds.minus own) → Sign at Kinds.leftParen (own + 1) → AddressAt at (own + 1 + 1) r
-      → (c : Sign at Kinds.rightParen (own + 1 + 1 + 1)) → Reads (operandFrom s o) at own l (own + 1 + 1 + 1 + 1) (some (O.predecrement r (span (m .token .start) (c .token .end))))
+      → (c : Sign at Kinds.rightParen (own + 1 + 1 + 1)) → Reads (operandFrom s) at own l (own + 1 + 1 + 1 + 1) (some (O.predecrement r (span (m .token .start) (c .token .end))))
   unfolding operandFrom Operand.minusOperand Operand.parsePredecrement Operand.over Operand.predecrementClose Operand.predecremented
   predecrement-read m t (an-address (a-register {r = r} p q) low) c =
       misses (omega arith) (other m Kinds.comma refl) (passes (other m Kinds.hash refl) (passes (other m Kinds.leftParen refl)
@@ -252,44 +252,44 @@ module _ (s : Setting) (at : ℕ → Place) (count : ℕ) (ends : (j : ℕ) (k :
       (rw (registered (p .token) (p .text) r q, le-leb 8 r low) (then (expect (t .token) 4 c) λ l₂. answers))))))))))
 
   full-alone : {n l : ℕ} {r : Registers} → Sign at Kinds.leftParen own → Full s at (own + 1) n r → (c : Sign at Kinds.rightParen n)
-      → Reads (operandFrom s o) at own l (n + 1) (some (O.fullIndex undisplaced (r .base) (r .index) 0 undisplaced (span o (c .token .end))))
+      → Reads (operandFrom s) at own l (n + 1) (some (O.fullIndex undisplaced (r .base) (r .index) 0 undisplaced (span (s .start) (c .token .end))))
   unfolding Operand.parseParenthesisedOperand
   full-alone t f c =
       let b = full-bases f in
-      begins-group s at own o t λ l. passes (other (begun b .name) Kinds.leftBracket refl) (full-starts s _ _ f c (full-read (t .token) undisplaced b c l))
+      begins-group s at own t λ l. passes (other (begun b .name) Kinds.leftBracket refl) (full-starts s _ _ f c (full-read (t .token) undisplaced b c l))
 
   full-displaced : {j n l : ℕ} {e : Expr} {r : Registers} → Sign at Kinds.leftParen own → Plain (own + 1) j e → Sign at Kinds.comma j → Full s at (j + 1) n r
       → (c : Sign at Kinds.rightParen n)
-      → Reads (operandFrom s o) at own l (n + 1) (some (O.fullIndex (displaced e 0) (r .base) (r .index) 0 undisplaced (span o (c .token .end))))
+      → Reads (operandFrom s) at own l (n + 1) (some (O.fullIndex (displaced e 0) (r .base) (r .index) 0 undisplaced (span (s .start) (c .token .end))))
   unfolding Operand.parenthesised Operand.parenthesisedExpression Operand.afterExpression
   full-displaced {e = e} t h m f c =
-      begins-group s at own o t λ l. expression-opens (t .token) h l (then (behind-own s at count ends few own h (omega arith) (stops-comma m .level) l) λ l₂.
+      begins-group s at own t λ l. expression-opens (t .token) h l (then (behind-own s at count ends few own h (omega arith) (stops-comma m .level) l) λ l₂.
       steps (m .there) (kinded m Kinds.comma refl) (full-starts s _ _ f c (full-read (t .token) (displaced e 0) (full-bases f) c _)))
 
   full-sized : {j n l size : ℕ} {e : Expr} {r : Registers} → Sign at Kinds.leftParen own → Plain (own + 1) j e → Letter at j size → Sign at Kinds.comma (j + 1)
       → BaseAndIndex s at (j + 1 + 1) n r → (c : Sign at Kinds.rightParen n)
-      → Reads (operandFrom s o) at own l (n + 1) (some (O.fullIndex (displaced e size) (r .base) (r .index) 0 undisplaced (span o (c .token .end))))
+      → Reads (operandFrom s) at own l (n + 1) (some (O.fullIndex (displaced e size) (r .base) (r .index) 0 undisplaced (span (s .start) (c .token .end))))
   unfolding Operand.parenthesised Operand.parenthesisedExpression Operand.afterExpression Operand.sizedBase Operand.over
   full-sized {size = size} {e = e} t h z m b c =
-      begins-group s at own o t λ l. expression-opens (t .token) h l (then (behind-own s at count ends few own h (omega arith) (letter-ends z) l) λ l₂.
+      begins-group s at own t λ l. expression-opens (t .token) h l (then (behind-own s at count ends few own h (omega arith) (letter-ends z) l) λ l₂.
       passes (other (z .sign) Kinds.comma refl) (passes (other (z .sign) Kinds.rightParen refl) (sees (omega arith) (z .sign .there) (kinded (z .sign) Kinds.sizeSuffix refl)
       (sees refl (m .there) (kinded m Kinds.comma refl) (then (letter-read _ _ z) λ l₃. steps (m .there) refl (full-read (t .token) (displaced e size) b c _))))))
 
   memory-read : {j n l indirection : ℕ} {d u : Displacement} {r : Registers} {x : Index} → Sign at Kinds.leftParen own → Sign at Kinds.leftBracket (own + 1)
-      → Inside s at (ordinary s) own (own + 1 + 1) j d r → Sign at Kinds.rightBracket j → Behind s at (ordinary s) own (r .index) (j + 1) n x indirection u → (c : Sign at Kinds.rightParen n)
-      → Reads (operandFrom s o) at own l (n + 1) (some (O.fullIndex d (r .base) x indirection u (span o (c .token .end))))
+      → Inside s at (ordinary (s .mark)) own (own + 1 + 1) j d r → Sign at Kinds.rightBracket j → Behind s at (ordinary (s .mark)) own (r .index) (j + 1) n x indirection u → (c : Sign at Kinds.rightParen n)
+      → Reads (operandFrom s) at own l (n + 1) (some (O.fullIndex d (r .base) x indirection u (span (s .start) (c .token .end))))
   unfolding Operand.parseParenthesisedOperand Operand.parseMemoryIndirect Operand.innerClosed Operand.outerClosed Operand.memoryIndirect
   memory-read t b h z u c =
-      begins-group s at own o t λ l. steps (b .there) (kinded b Kinds.leftBracket refl) (then (inside-read s at count ends few own o h (omega arith) z _) λ l₂.
-      steps (z .there) (kinded z Kinds.rightBracket refl) (then (behind-read s at count ends few own o u (omega (arith, inside-rises h)) c _) λ l₃.
+      begins-group s at own t λ l. steps (b .there) (kinded b Kinds.leftBracket refl) (then (inside-read s at count ends few own h (omega arith) z _) λ l₂.
+      steps (z .there) (kinded z Kinds.rightBracket refl) (then (behind-read s at count ends few own u (omega (arith, inside-rises h)) c _) λ l₃.
       then (expect (t .token) 9 c) λ l₄. answers))
 
   absolute-read : {j n size z l : ℕ} {e : Expr} → Plain own j e → Sized at (spanE e .end) j n size z → Closed at n
-      → Reads (operandFrom s o) at own l n (some (O.absolute e size (span o z)))
+      → Reads (operandFrom s) at own l n (some (O.absolute e size (span (s .start) z)))
   unfolding holds
   absolute-read {j} {n} {size} {z} {l} {e} h sz c = go (at own) refl
     where
-      go : (p : Place) → at own ≡ p → Reads (operandFrom s o) at own l n (some (O.absolute e size (span o z)))
+      go : (p : Place) → at own ≡ p → Reads (operandFrom s) at own l n (some (O.absolute e size (span (s .start) z)))
       go nothing q = absolute-bare h sz c (rw q refl)
       go (stands k x) q = elim (dec (eqb (k .kind) Kinds.leftParen)) [
         | inl y ↦ absolute-grouped h sz c (record { token = k; text = x; there = q; of = eqb-true _ _ y })
@@ -298,21 +298,21 @@ module _ (s : Setting) (at : ℕ → Place) (count : ℕ) (ends : (j : ℕ) (k :
 
   list-from : {j l : ℕ} {r : Register} {y : Operand} → RegisterAt at own r
       → Seen at (λ k y. either (eqb (k .kind) Kinds.minus) (eqb (k .kind) Kinds.slash)) (own + 1)
-      → Reads (Operand.listLoop fuel o [] r) at (own + 1) (r .span .end) j (some y) → Reads (operandFrom s o) at own l j (some y)
+      → Reads (Operand.listLoop fuel s [] r) at (own + 1) (r .span .end) j (some y) → Reads (operandFrom s) at own l j (some y)
   unfolding Operand.nameOrExpression Operand.parseRegisterOperand Operand.parseRegisterList
   list-from (a-register {r = r} t q) z h =
-      begins-name s at own o t (steps (t .there) (held aRegister t (looks-register {s = s} (a-register t q) .registers))
+      begins-name s at own t (steps (t .there) (held aRegister t (looks-register {s = s} (a-register t q) .registers))
       (sees (omega arith) (z .there) (z .passed) (rw (registered (t .token) (t .text) r q) h)))
 
   list-read : {j e l : ℕ} {xs : List RegisterListItem} → Items s at own j xs e → own + 1 < j → Closed at j
-      → Reads (operandFrom s o) at own l j (some (O.registerList xs (span o e)))
+      → Reads (operandFrom s) at own l j (some (O.registerList xs (span (s .start) e)))
   list-read h long c =
       list-from (first-at h) (second h long)
-      (items-read s at count ends few o h [] (closed-kind Kinds.minus refl refl c) (closed-kind Kinds.slash refl refl c))
+      (items-read s at count ends few h [] (closed-kind Kinds.minus refl refl c) (closed-kind Kinds.slash refl refl c))
 
   -- ---- each spelling
 
-  pub operand-read : {j : ℕ} {y : Operand} → Spelling s at (ordinary s) own o j y → Closed at j → (l : ℕ) → Reads (operandFrom s o) at own l j (some y)
+  pub operand-read : {j : ℕ} {y : Operand} → Spelling s at (ordinary (s .mark)) own j y → Closed at j → (l : ℕ) → Reads (operandFrom s) at own l j (some y)
   unfolding Operand.immediateValue Operand.immediateSize
   operand-read (Spelling.immediate t h) c l =
       immediate-read t h (stops-closed c .level) λ l₂. then (no-letter _ _ (stops-closed c .size)) λ l₃. answers

@@ -20,7 +20,7 @@ use Rattle.expressions.specs.Trees.{Expr, spanE}
 use Rattle.expressions.specs.declared.reading.Setting.{Setting}
 use Rattle.operand.specs.Operands.{Displacement, displaced, undisplaced, RegisterListItem, single, range, Operand}
 use Rattle.operand.specs.Operands as O
-use Rattle.operand.specs.Operand.{isSuppressed, registers, noRegisters}
+use Rattle.operand.specs.Operand.{isSuppressed, registers, noRegisters, settingFrom}
 use Rattle.operand.specs.declared.forms.Register.{Register}
 use Rattle.operand.specs.declared.forms.IndexRegister.{IndexRegister}
 use Rattle.operand.specs.declared.forms.BaseRegister.{BaseRegister}
@@ -141,62 +141,62 @@ module _ (s : Setting) (at : ℕ → Place) where
       both : {i j n p size z : ℕ} {e : Expr} {x : IndexRegister} → Sign at Kinds.comma i → Indexes (i + 1) j x → Sign at Kinds.comma j
           → Expression (j + 1) n e → Sized at 0 n p size z → Behind Index.Unindexed i p (Index.Indexed x) 2 (displaced e size)
 
-    -- Spelling o j y: from the operand's first place, where its first token starts at the offset o, up to the place j stands the operand y
-    pub data Spelling (o : ℕ) : ℕ → Operand → Type 0 where
+    -- Spelling j y: from the operand's first place, where its first token starts at the setting's start, up to the place j stands the operand y
+    pub data Spelling : ℕ → Operand → Type 0 where
       -- 1: `#E`, `#E.l`
       immediate : {j : ℕ} {e : Expr} (t : Sign at Kinds.hash own) → Expression (own + 1) j e
-          → Spelling o j (O.immediate e false (span (t .token .start) (spanE e .end)))
+          → Spelling j (O.immediate e false (span (t .token .start) (spanE e .end)))
       immediate-long : {j : ℕ} {e : Expr} (t : Sign at Kinds.hash own) → Expression (own + 1) j e → (l : Letter at j 3)
-          → Spelling o (j + 1) (O.immediate e true (span (t .token .start) (l .sign .token .end)))
+          → Spelling (j + 1) (O.immediate e true (span (t .token .start) (l .sign .token .end)))
       -- 2, 3, 4: Dn; An or `sp`; special register
-      data-register : {r : Register} → RegisterAt at own r → r .index < 8 → Spelling o (own + 1) (O.dataRegisterDirect r (r .span))
-      address-register : {r : Register} → AddressAt at own r → Spelling o (own + 1) (O.addressRegisterDirect r (r .span))
-      special-register : {n : ℕ} (t : Name at own) → specialOf (t .text) ≡ SpecialRegister.Is n → Spelling o (own + 1) (O.specialRegister n (spanOf (t .token)))
+      data-register : {r : Register} → RegisterAt at own r → r .index < 8 → Spelling (own + 1) (O.dataRegisterDirect r (r .span))
+      address-register : {r : Register} → AddressAt at own r → Spelling (own + 1) (O.addressRegisterDirect r (r .span))
+      special-register : {n : ℕ} (t : Name at own) → specialOf (t .text) ≡ SpecialRegister.Is n → Spelling (own + 1) (O.specialRegister n (spanOf (t .token)))
       -- 5, 6, 7: `(An)`; `(An)+`; `-(An)`
       indirect : {r : Register} → Sign at Kinds.leftParen own → AddressAt at (own + 1) r → (c : Sign at Kinds.rightParen (own + 1 + 1))
-          → Spelling o (own + 1 + 1 + 1) (O.indirect r (span o (c .token .end)))
+          → Spelling (own + 1 + 1 + 1) (O.indirect r (span (s .start) (c .token .end)))
       postincrement : {r : Register} → Sign at Kinds.leftParen own → AddressAt at (own + 1) r → Sign at Kinds.rightParen (own + 1 + 1)
-          → (p : Sign at Kinds.plus (own + 1 + 1 + 1)) → Spelling o (own + 1 + 1 + 1 + 1) (O.postincrement r (span o (p .token .end)))
+          → (p : Sign at Kinds.plus (own + 1 + 1 + 1)) → Spelling (own + 1 + 1 + 1 + 1) (O.postincrement r (span (s .start) (p .token .end)))
       predecrement : {r : Register} (m : Sign at Kinds.minus own) → Sign at Kinds.leftParen (own + 1) → AddressAt at (own + 1 + 1) r
-          → (c : Sign at Kinds.rightParen (own + 1 + 1 + 1)) → Spelling o (own + 1 + 1 + 1 + 1) (O.predecrement r (span (m .token .start) (c .token .end)))
+          → (c : Sign at Kinds.rightParen (own + 1 + 1 + 1)) → Spelling (own + 1 + 1 + 1 + 1) (O.predecrement r (span (m .token .start) (c .token .end)))
       -- 8: `E(An)`, `(E,An)`; 9: `(An,R)`, `E(An,R)`, `(E,An,R)`
       displacement : {j : ℕ} {e : Expr} {r : Register} → Displaced j e → AddressAt at j r → (c : Sign at Kinds.rightParen (j + 1))
-          → Spelling o (j + 1 + 1) (O.displacement e r (span o (c .token .end)))
+          → Spelling (j + 1 + 1) (O.displacement e r (span (s .start) (c .token .end)))
       index : {j n : ℕ} {d : Displacement} {r : Register} {x : IndexRegister} → Opening j d → AddressAt at j r → Sign at Kinds.comma (j + 1)
-          → Indexes (j + 1 + 1) n x → x .suppressed ≡ false → (c : Sign at Kinds.rightParen n) → Spelling o (n + 1) (O.index d r x (span o (c .token .end)))
+          → Indexes (j + 1 + 1) n x → x .suppressed ≡ false → (c : Sign at Kinds.rightParen n) → Spelling (n + 1) (O.index d r x (span (s .start) (c .token .end)))
       -- 10: as 8, with PC; 11: as 9, with PC
       counter-displacement : {j : ℕ} {e : Expr} → Displaced j e → CounterAt at j → (c : Sign at Kinds.rightParen (j + 1))
-          → Spelling o (j + 1 + 1) (O.pcDisplacement e (span o (c .token .end)))
+          → Spelling (j + 1 + 1) (O.pcDisplacement e (span (s .start) (c .token .end)))
       counter-index : {j n : ℕ} {d : Displacement} {x : IndexRegister} → Opening j d → CounterAt at j → Sign at Kinds.comma (j + 1)
-          → Indexes (j + 1 + 1) n x → x .suppressed ≡ false → (c : Sign at Kinds.rightParen n) → Spelling o (n + 1) (O.pcIndex d x (span o (c .token .end)))
+          → Indexes (j + 1 + 1) n x → x .suppressed ≡ false → (c : Sign at Kinds.rightParen n) → Spelling (n + 1) (O.pcIndex d x (span (s .start) (c .token .end)))
       -- 12: 9 or 11 with suppressed X for R
       suppressed-index : {j n : ℕ} {d : Displacement} {r : Register} {x : IndexRegister} → Opening j d → AddressAt at j r → Sign at Kinds.comma (j + 1)
           → Indexes (j + 1 + 1) n x → x .suppressed ≡ true → (c : Sign at Kinds.rightParen n)
-          → Spelling o (n + 1) (O.fullIndex d (BaseRegister.Address r) (Index.Indexed x) 0 undisplaced (span o (c .token .end)))
+          → Spelling (n + 1) (O.fullIndex d (BaseRegister.Address r) (Index.Indexed x) 0 undisplaced (span (s .start) (c .token .end)))
       counter-suppressed-index : {j n : ℕ} {d : Displacement} {x : IndexRegister} → Opening j d → CounterAt at j → Sign at Kinds.comma (j + 1)
           → Indexes (j + 1 + 1) n x → x .suppressed ≡ true → (c : Sign at Kinds.rightParen n)
-          → Spelling o (n + 1) (O.fullIndex d BaseRegister.ProgramCounter (Index.Indexed x) 0 undisplaced (span o (c .token .end)))
+          → Spelling (n + 1) (O.fullIndex d BaseRegister.ProgramCounter (Index.Indexed x) 0 undisplaced (span (s .start) (c .token .end)))
       -- 12: `(F)`; `(E,F)`; `(E.s,BI)` with size; `([I]T)`
       full : {j : ℕ} {r : Registers} → Sign at Kinds.leftParen own → Full (own + 1) j r → (c : Sign at Kinds.rightParen j)
-          → Spelling o (j + 1) (O.fullIndex undisplaced (r .base) (r .index) 0 undisplaced (span o (c .token .end)))
+          → Spelling (j + 1) (O.fullIndex undisplaced (r .base) (r .index) 0 undisplaced (span (s .start) (c .token .end)))
       displaced-full : {j n : ℕ} {e : Expr} {r : Registers} → Sign at Kinds.leftParen own → Expression (own + 1) j e → Sign at Kinds.comma j
           → Full (j + 1) n r → (c : Sign at Kinds.rightParen n)
-          → Spelling o (n + 1) (O.fullIndex (displaced e 0) (r .base) (r .index) 0 undisplaced (span o (c .token .end)))
+          → Spelling (n + 1) (O.fullIndex (displaced e 0) (r .base) (r .index) 0 undisplaced (span (s .start) (c .token .end)))
       sized-full : {j n size : ℕ} {e : Expr} {r : Registers} → Sign at Kinds.leftParen own → Expression (own + 1) j e → Letter at j size
           → Sign at Kinds.comma (j + 1) → BaseAndIndex (j + 1 + 1) n r → (c : Sign at Kinds.rightParen n)
-          → Spelling o (n + 1) (O.fullIndex (displaced e size) (r .base) (r .index) 0 undisplaced (span o (c .token .end)))
+          → Spelling (n + 1) (O.fullIndex (displaced e size) (r .base) (r .index) 0 undisplaced (span (s .start) (c .token .end)))
       memory-indirect : {j n indirection : ℕ} {d u : Displacement} {r : Registers} {x : Index} → Sign at Kinds.leftParen own
           → Sign at Kinds.leftBracket (own + 1) → Inside (own + 1 + 1) j d r → Sign at Kinds.rightBracket j → Behind (r .index) (j + 1) n x indirection u
           → (c : Sign at Kinds.rightParen n)
-          → Spelling o (n + 1) (O.fullIndex d (r .base) x indirection u (span o (c .token .end)))
+          → Spelling (n + 1) (O.fullIndex d (r .base) x indirection u (span (s .start) (c .token .end)))
       -- 13: `E.s`
-      absolute : {j n size z : ℕ} {e : Expr} → Expression own j e → Sized at (spanE e .end) j n size z → Spelling o n (O.absolute e size (span o z))
+      absolute : {j n size z : ℕ} {e : Expr} → Expression own j e → Sized at (spanE e .end) j n size z → Spelling n (O.absolute e size (span (s .start) z))
       -- 14: registers and ranges joined by `/`, not one lone register
-      list : {j e : ℕ} {xs : List RegisterListItem} → Items own j xs e → own + 1 < j → Spelling o j (O.registerList xs (span o e))
+      list : {j e : ℕ} {xs : List RegisterListItem} → Items own j xs e → own + 1 < j → Spelling j (O.registerList xs (span (s .start) e))
 
 -- from the place i up to j stands the operand y
-pub record Spelled (s : Setting) (at : ℕ → Place) (allowed : ℕ → List ℕ → Bool) (i j : ℕ) (y : Operand) : Type 0 where
+pub record Spelled (limit mark : ℕ) (at : ℕ → Place) (allowed : ℕ → List ℕ → Bool) (i j : ℕ) (y : Operand) : Type 0 where
   pub first : Token
   pub text : List ℕ
   pub there : at i ≡ stands first text
-  pub spelling : Spelling s at allowed i (first .start) j y
+  pub spelling : Spelling (settingFrom limit mark first) at allowed i j y

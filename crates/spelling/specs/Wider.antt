@@ -54,7 +54,7 @@ module _ {a b : ℕ → List ℕ → Bool} (more : (i : ℕ) (x : List ℕ) → 
     wider-behind (Behind.index c x) = Behind.index c x
     wider-behind (Behind.both c x k h z) = Behind.both c x k (wider h) z
 
-    wider-spelling : {o j : ℕ} {y : Operand} → Spelling s at a own o j y → Spelling s at b own o j y
+    wider-spelling : {j : ℕ} {y : Operand} → Spelling s at a own j y → Spelling s at b own j y
     wider-spelling (Spelling.immediate t h) = Spelling.immediate t (wider h)
     wider-spelling (Spelling.immediate-long t h l) = Spelling.immediate-long t (wider h) l
     wider-spelling (Spelling.data-register p q) = Spelling.data-register p q
@@ -77,10 +77,10 @@ module _ {a b : ℕ → List ℕ → Bool} (more : (i : ℕ) (x : List ℕ) → 
     wider-spelling (Spelling.list h long) = Spelling.list h long
 
 -- a name that is ordinary is not reserved
-pub ordinary-unreserved : (s : Setting) (i : ℕ) (x : List ℕ) → ordinary s i x ≡ true → unreserved i x ≡ true
+pub ordinary-unreserved : (mark i : ℕ) (x : List ℕ) → ordinary mark i x ≡ true → unreserved i x ≡ true
 unfolding ordinary unreserved
-ordinary-unreserved s i x q = both-first (not (reserved x)) _ q
+ordinary-unreserved mark i x q = both-first (not (reserved x)) _ q
 
 -- so the spellings that are read without doubt are among those that are found
-pub ordinary-spelled : {s : Setting} {at : ℕ → Place} {i j : ℕ} {y : Operand} → Spelled s at (ordinary s) i j y → Spelled s at unreserved i j y
-ordinary-spelled {s} h = record { first = h .first; text = h .text; there = h .there; spelling = wider-spelling (ordinary-unreserved s) (h .spelling) }
+pub ordinary-spelled : {limit mark : ℕ} {at : ℕ → Place} {i j : ℕ} {y : Operand} → Spelled limit mark at (ordinary mark) i j y → Spelled limit mark at unreserved i j y
+ordinary-spelled {mark = mark} h = record { first = h .first; text = h .text; there = h .there; spelling = wider-spelling (ordinary-unreserved mark) (h .spelling) }

@@ -9,16 +9,16 @@ use lib.ListN.{length, replicate, length-append}
 use Rattle.records.specs.Nodes.{lowFirst}
 use Rattle.records.specs.Stores.{written}
 use Rattle.records.specs.Written.{written-more}
-use Rattle.operand.specs.Forms.{bytesOf}
+use Rattle.operand.specs.Layout.{bytesOf}
 use Rattle.operand.specs.Entry.{Input}
-use Rattle.operand.specs.Promise.{given, EntryPromise}
+use Rattle.layout.specs.Promise.{given, EntryPromise}
 use Rattle.operand.specs.Conditions.{Valid}
-use Rattle.operand.specs.Answers as Answers
-use Rattle.operand.specs.declared.entry.Answer.{Answer}
-use Rattle.operand.specs.declared.entry.Found.{Found}
-use Rattle.operand.specs.declared.entry.Missed.{Missed}
-use Rattle.layout.specs.Lengths.{length-twenty}
-use Rattle.layout.specs.Answered.{operand-valid, missed-valid, found-fits, cursor-small}
+use Rattle.layout.specs.Answers as Answers
+use Rattle.layout.specs.Answers.{operand-valid, missed-valid, cursor-small}
+use Rattle.layout.specs.declared.answer.Answer.{Answer}
+use Rattle.layout.specs.declared.answer.Found.{Found}
+use Rattle.layout.specs.declared.answer.Missed.{Missed}
+use Rattle.operand.specs.Lengths.{length-bytes}
 use Rattle.terminal.specs.Exported.{told, numberOf, outAfter, answered, exported}
 use Rattle.terminal.specs.Inner.{FoundAsks, MissedAsks, AnswerPut}
 
@@ -39,7 +39,7 @@ unfolding given numberOf outAfter lowFirst
 found-put x O P Q R B h e p q r =
     let head : List ℕ = 0 ∷ x .cursor ∷ x .nodes ∷ x .diagnostics % 256 ∷ x .diagnostics / 256 % 256 ∷ [] in
     let mask : List ℕ = x .operand .mask % 256 ∷ x .operand .mask / 256 % 256 ∷ [] in
-    let l : length B ≡ 20 = length-twenty B (x .operand) e in
+    let l : length B ≡ 20 = ap length e ∙ length-bytes (x .operand) in
     record {
       number = refl;
       out = three O P Q R head B mask 5 25 p q r (omega arith) (omega arith) (omega arith) ∙ ap (λ b. written O 0 (head ++ (b ++ mask))) e;
@@ -77,7 +77,6 @@ module _ (a : Input) (N D : List ℕ) where
       let v : Valid a = operand-valid (Answers.total a N D (Answer.Operand x) p) in
       record {
         room = h;
-        base = found-fits a N D x p;
         cursor-small = cursor-small a N D (Answer.Operand x) p v;
         nodes-few = omega (arith, Answers.nodes-enough a N D (Answer.Operand x) p v);
       }

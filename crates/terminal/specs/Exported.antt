@@ -9,7 +9,7 @@ use Rattle.records.specs.Nodes.{lowFirst}
 use Rattle.records.specs.Stores.{written}
 use Rattle.operand.specs.Entry.{Input, Outcome, outcome}
 use Rattle.operand.specs.Entry as Entry
-use Rattle.operand.specs.Promise.{nesting}
+use Rattle.layout.specs.Promise.{nesting}
 
 -- the number that is returned: 0 with an answer, else the refusal's
 unfoldable pub numberOf : Entry.Answer → ℕ

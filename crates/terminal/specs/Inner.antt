@@ -4,17 +4,15 @@ use mathlib.Core.Path.{_≡_}
 use mathlib.Core.List.{List}
 use Prim.Native.Nat.{ℕ, _≤_, _<_}
 use lib.ListN.{length}
-use Rattle.operand.specs.Promise.{given}
-use Rattle.operand.specs.declared.entry.Answer.{Answer}
-use Rattle.operand.specs.declared.entry.Found.{Found}
-use Rattle.operand.specs.declared.entry.Missed.{Missed}
-use Rattle.layout.specs.Bases.{BaseFits}
+use Rattle.layout.specs.Promise.{given}
+use Rattle.layout.specs.declared.answer.Answer.{Answer}
+use Rattle.layout.specs.declared.answer.Found.{Found}
+use Rattle.layout.specs.declared.answer.Missed.{Missed}
 use Rattle.terminal.specs.Exported.{numberOf, outAfter}
 
 -- room, and each number is a byte
 pub record FoundAsks (O : List ℕ) (x : Found) : Type 0 where
   pub room : 27 ≤ length O
-  pub base : BaseFits (x .operand .base)
   pub cursor-small : x .cursor < 256
   pub nodes-few : x .nodes < 256
 

@@ -12,7 +12,7 @@ use Rattle.names.specs.Choice.{pick}
 use Rattle.operand.specs.Operands.{Operand, Maybe, some, none}
 use Rattle.expressions.specs.Reader.{Reading}
 use Rattle.operand.specs.Entry.{Input, readingAt, refusal, answerOf, outcome, outcomeOf}
-use Rattle.operand.specs.Promise.{nesting}
+use Rattle.layout.specs.Promise.{nesting}
 use Rattle.terminal.specs.Exported.{Exported, told, numberOf, outAfter, answered, exported}
 
 none-refused : (r : Reading (Maybe Operand)) (v : Maybe Operand) → numberOf (answerOf r v) ≡ 0

@@ -1,13 +1,13 @@
 // The entry with C's calling convention: a slice is a pointer and a length.
 use entry::parse_operand;
+use layout::Answer;
+use layout::Found;
+use layout::Missed;
 use layout::operand_bytes;
-use operand::Answer;
-use operand::Found;
-use operand::Missed;
-use records::write;
+use layout::write;
 ghost use mathlib.Core.Path.{_≡_};
 ghost use Rattle.operand.specs.Entry.{call};
-ghost use Rattle.operand.specs.declared.entry.Answer.the-variants as answer;
+ghost use Rattle.layout.specs.declared.answer.Answer.the-variants as answer;
 ghost use Rattle.terminal.specs.Exported.{exported, told};
 ghost use Rattle.terminal.specs.Inner.{FoundAsks, MissedAsks, AnswerPut};
 

@@ -33,12 +33,13 @@ use Rattle.expressions.specs.Laws.{holds}
 use Rattle.expressions.specs.Costs.{size-withSpan, size-pos}
 use Rattle.terms.specs.Answers.{what-read, what-reported, what-absent}
 use Rattle.terms.proofs.Branches as branch
-use Rattle.terms.proofs.Groups.{not-closed, spanE-withSpan, widened}
+use Rattle.terms.specs.Roots.{spanE-withSpan, widened}
+use Rattle.terms.proofs.Groups.{not-closed}
 use Rattle.terms.proofs.Returns.{retold, reports-more}
 
 -- ---- the end of a group: the expression there answers r
 
-module _ (L T N D N₁ D₁ : List ℕ) (c : Counters) (room : ℕ) (k : Token) (r : Step) (long : 14 * c .nodes ≤ length N) (all : 3570 ≤ length N₁) (top : r .counters .nodes ≤ 255)
+module _ (L T N D N₁ D₁ : List ℕ) (c : Counters) (room : ℕ) (k : Token) (r : Step) (long : 10 * c .nodes ≤ length N) (all : 10 * r .counters .nodes ≤ length N₁)
     (g : ExpressionTold L T N D N₁ D₁ c room r) where
   abbrev inner : Reading Term
   inner = run (parseExpression room) (place L T) (c .at) (c .end)
@@ -88,14 +89,14 @@ module _ (L T N D N₁ D₁ : List ℕ) (c : Counters) (room : ℕ) (k : Token) 
       })
 
   pub group-closes : {x : Span} {N₂ D₂ : List ℕ} {q : Step} → r .parsed ≡ parsed.Read x → (t : Token) → tokenAt T (r .counters .at) ≡ peeked.Is t → t .kind ≡ Kinds.rightParen
-      → N₂ ≡ written N₁ (14 * (r .counters .nodes - 1) + 4) (k .start ∷ t .end ∷ []) → D₂ ≡ D₁ → q .parsed ≡ parsed.Read (span (k .start) (t .end)) → q .counters ≡ stepped (r .counters) t
+      → N₂ ≡ written N₁ (10 * (r .counters .nodes - 1) + 4) (k .start ∷ t .end ∷ []) → D₂ ≡ D₁ → q .parsed ≡ parsed.Read (span (k .start) (t .end)) → q .counters ≡ stepped (r .counters) t
       → BehindTold (groupTerm room k) L T N D N₂ D₂ c q
   unfolding parsedOf sizeT nodesT
   group-closes {x} {N₂} {D₂} {q} w t e f hn hd hp hc =
       let y = what-read (inner .value) x (sym (g .told .what) ∙ w) in
       let cnt : r .counters .nodes ≡ c .nodes + size (y .0) = g .told .total ∙ ap (λ v. c .nodes + sizeT v) (y .1) in
-      let b : take (14 * r .counters .nodes) N₁ ≡ take (14 * c .nodes) N ++ nodes (c .nodes) (y .0) = g .told .bytes ∙ ap (λ v. take (14 * c .nodes) N ++ nodesT (c .nodes) v) (y .1) in
-      let wide = widened (take (14 * c .nodes) N) N₁ (c .nodes) (r .counters .nodes) (y .0) (span (k .start) (t .end)) b cnt (length-take-le (14 * c .nodes) N long) all top (omega (arith, cnt, size-pos (y .0))) in
+      let b : take (10 * r .counters .nodes) N₁ ≡ take (10 * c .nodes) N ++ nodes (c .nodes) (y .0) = g .told .bytes ∙ ap (λ v. take (10 * c .nodes) N ++ nodesT (c .nodes) v) (y .1) in
+      let wide = widened (take (10 * c .nodes) N) N₁ (c .nodes) (r .counters .nodes) (y .0) (span (k .start) (t .end)) b cnt (length-take-le (10 * c .nodes) N long) all (omega (arith, cnt, size-pos (y .0))) in
       let th : place L T (inner .cursor) ≡ stands t (textOf L (t .start) (t .end)) = rw (g .told .at) at (Places.there L T (r .counters .at) t e) in
       let at′ : q .counters .at ≡ r .counters .at + 1 = ap (λ z. z .at) hc in
       let nodes′ : q .counters .nodes ≡ r .counters .nodes = ap (λ z. z .nodes) hc in

@@ -25,7 +25,7 @@ use Rattle.terms.specs.declared.terms.Parsed.the-variants as parsed
 use Rattle.records.specs.Diagnostics.{plain, nestingTooDeep, numberTooLarge, registerInExpression}
 use Rattle.expressions.specs.Reader.{Reader, reading, run, answer, _>>=_}
 use Rattle.expressions.specs.Expressions.{Term, read, reported, absent, valued, numberTerm, named, leafTerm}
-use Rattle.records.specs.Nodes.{record14, lowFirst, own}
+use Rattle.records.specs.Nodes.{nodeRecord, words, own}
 use Rattle.expressions.specs.Records.{nodes}
 use Rattle.records.specs.Stores.{added, PushTold}
 use Rattle.records.specs.Written.{added-append}
@@ -51,20 +51,20 @@ added-one D D′ d x r h = h .more
 -- ---- a leaf
 
 -- a name's or a literal's own span, as a number of eight bytes
-pub own-bytes : (s : Span) → s .start < 256 → s .end < 256 → lowFirst 8 (s .start + 256 * s .end) ≡ own s
-unfolding lowFirst
+pub own-bytes : (s : Span) → s .start < 65536 → s .end < 65536 → words 4 (s .start + 65536 * s .end) ≡ own s
+unfolding words
 own-bytes s a b =
-    let d₀ : s .start / 256 ≡ 0 = div-eq-of-lt a in
-    let d₁ : (s .start + 256 * s .end) / 256 ≡ s .end = add-mul-div-left (s .start) (s .end) {y = 256} (omega arith) ∙ omega (arith, d₀) in
-    let d₂ : s .end / 256 ≡ 0 = div-eq-of-lt b in
-    let e₀ : (s .start + 256 * s .end) % 256 ≡ s .start = omega (arith, d₁, div-add-mod (s .start + 256 * s .end) 256) in
-    let e₁ : s .end % 256 ≡ s .end = omega (arith, d₂, div-add-mod (s .end) 256) in
+    let d₀ : s .start / 65536 ≡ 0 = div-eq-of-lt a in
+    let d₁ : (s .start + 65536 * s .end) / 65536 ≡ s .end = add-mul-div-left (s .start) (s .end) {y = 65536} (omega arith) ∙ omega (arith, d₀) in
+    let d₂ : s .end / 65536 ≡ 0 = div-eq-of-lt b in
+    let e₀ : (s .start + 65536 * s .end) % 65536 ≡ s .start = omega (arith, d₁, div-add-mod (s .start + 65536 * s .end) 65536) in
+    let e₁ : s .end % 65536 ≡ s .end = omega (arith, d₂, div-add-mod (s .end) 65536) in
     rw (e₀, d₁, e₁, d₂)
 
 module _ (N N′ D D′ : List ℕ) (c : Counters) (r : Step) where
   -- the node e, behind the diagnostics ds
   pub leaf-told : (e : Expr) (kind detail value d : ℕ) (s : Span) (ds : List Diagnostic) → LeafTold N N′ c kind detail s value r
-      → nodes (c .nodes) e ≡ record14 kind detail 255 255 s (lowFirst 8 value) → spanE e ≡ s → size e ≡ 1 → D′ ≡ added D d ds → c .diagnostics ≡ d + length ds
+      → nodes (c .nodes) e ≡ nodeRecord kind detail 65535 65535 s (words 4 value) → spanE e ≡ s → size e ≡ 1 → D′ ≡ added D d ds → c .diagnostics ≡ d + length ds
       → Told (reading (c .at) (c .end) ds (read e)) N D N′ D′ (c .nodes) d r
   unfolding parsedOf sizeT nodesT
   leaf-told e kind detail value d s ds h b sp one a m = record {
@@ -146,7 +146,7 @@ module _ (N D : List ℕ) (c : Counters) (k : Token) (x : List ℕ) where
     past = λ j b. refl;
   }
 
-  pub name-read : {N′ : List ℕ} {r : Step} {s : Span} {v : ℕ} {b : Bool} → b ≡ false → s ≡ spanOf k → (v ≡ s .start + 256 * s .end) × (s .start < 256) × (s .end < 256)
+  pub name-read : {N′ : List ℕ} {r : Step} {s : Span} {v : ℕ} {b : Bool} → b ≡ false → s ≡ spanOf k → (v ≡ s .start + 65536 * s .end) × (s .start < 65536) × (s .end < 65536)
       → LeafTold N N′ c 3 0 s v r → ReaderTold (named k b) N D N′ D c r
   unfolding run named nodes spanE size
   name-read {N′} {r} {v = v} e g q h = record {
@@ -180,7 +180,7 @@ module _ (N D : List ℕ) (c : Counters) (k : Token) (x : List ℕ) where
     spared h j b = h .put .past j (omega (arith, b, h .at, ap (λ z. z .at) step, ap (λ z. z .nodes) step))
 
     pub star-told : k .kind ≡ Kinds.star → LeafTold N N′ q 4 0 s 0 r → TokenTold leafTerm k x N D N′ D c r
-    unfolding nodes spanE size lowFirst
+    unfolding nodes spanE size words
     star-told e h = record {
       told = λ at there.
           rw (leaf-star at (c .at) (c .end) k x there e)
@@ -188,8 +188,8 @@ module _ (N D : List ℕ) (c : Counters) (k : Token) (x : List ℕ) where
       past = spared h;
     }
 
-    module _ {v detail : ℕ} (w : (v ≡ s .start + 256 * s .end) × (s .start < 256) × (s .end < 256)) where
-      own-told : (e : Expr) (kind : ℕ) → LeafTold N N′ q kind detail s v r → nodes (c .nodes) e ≡ record14 kind detail 255 255 (spanOf k) (own (spanOf k)) → spanE e ≡ spanOf k → size e ≡ 1
+    module _ {v detail : ℕ} (w : (v ≡ s .start + 65536 * s .end) × (s .start < 65536) × (s .end < 65536)) where
+      own-told : (e : Expr) (kind : ℕ) → LeafTold N N′ q kind detail s v r → nodes (c .nodes) e ≡ nodeRecord kind detail 65535 65535 (spanOf k) (own (spanOf k)) → spanE e ≡ spanOf k → size e ≡ 1
           → Told (reading (c .at + 1) (k .end) [] (read e)) N D N′ D (c .nodes) (c .diagnostics) r
       own-told e kind h b f g =
           let z = rw sp at w in

@@ -6,4 +6,5 @@ pub mod Groups
 pub mod Returns
 pub mod Closings
 pub mod Climbs
+pub mod Turns
 pub mod Kept

@@ -5,7 +5,7 @@ use mathlib.Core.Bool.{true}
 use mathlib.Core.List.{List, [], _∷_, _++_, append-assoc, append-nil}
 use Prim.Native.Nat.{ℕ, _+_, _-_, _*_, _<_, _≤_}
 use native.Mathlib.Omega.{arith}
-use lib.ListN.{length, take, length-append}
+use lib.ListN.{length, take, drop, length-append}
 use lib.Seq.{take-take, take-at, length-take-le}
 use Rattle.names.specs.Kinds
 use Rattle.names.specs.Tokens.{count, tokenAt}
@@ -24,7 +24,7 @@ use Rattle.terms.specs.declared.terms.Chain.{Chain}
 use Rattle.records.specs.Diagnostics.{plain, expressionExpected, plusIsNotAUnaryOperator}
 use Rattle.expressions.specs.Reader.{Reading, reading, Reader, run}
 use Rattle.expressions.specs.Expressions.{Term, read, reported, absent, unaryOperator, isUnary, leafTerm, parsePrefix, parseExpression, parseExpressionFrom, fuel}
-use Rattle.records.specs.Nodes.{record14, lowFirst}
+use Rattle.records.specs.Nodes.{nodeRecord, words}
 use Rattle.expressions.specs.Records.{nodes}
 use Rattle.records.specs.Stores.{written}
 use Rattle.records.specs.Counting.{stepped}
@@ -33,6 +33,7 @@ use Rattle.expressions.specs.Laws as laws
 use Rattle.expressions.specs.Laws.{law-run}
 use Rattle.expressions.specs.Costs.{Cost, prefix-cost, expression-cost}
 use Rattle.expressions.specs.Fuel.{fuel-enough}
+use Rattle.expressions.specs.Grown.{grown-behind, climb-grows}
 use Rattle.expressions.specs.Reader.{is}
 use Rattle.expressions.specs.Costs.{size-pos, all-clean}
 use Rattle.terms.specs.Answers.{what-read, what-reported, what-absent}
@@ -44,11 +45,11 @@ pub retold : {s : Reading Term} {N D N′ D′ : List ℕ} {n d : ℕ} {r : Step
 retold {s} {N} {D} {N′} {D′} {n} {d} {r} v e h = subst (λ x. Told (reading (s .cursor) (s .end) (s .raised) x) N D N′ D′ n d r) e h
 
 -- the records before a reading still stand, whatever it was
-pub kept : (s : Reading Term) (N D N′ D′ : List ℕ) (n d : ℕ) (r : Step) → Told s N D N′ D′ n d r → 14 * n ≤ length N → take (14 * n) N′ ≡ take (14 * n) N
+pub kept : (s : Reading Term) (N D N′ D′ : List ℕ) (n d : ℕ) (r : Step) → Told s N D N′ D′ n d r → 10 * n ≤ length N → take (10 * n) N′ ≡ take (10 * n) N
 kept s N D N′ D′ n d r h long =
-    sym (take-take (14 * n) (14 * r .counters .nodes) N′ (omega (arith, h .total)))
-    ∙ ap (take (14 * n)) (h .bytes)
-    ∙ take-at (take (14 * n) N) (nodesT n (s .value)) (14 * n) (length-take-le (14 * n) N long)
+    sym (take-take (10 * n) (10 * r .counters .nodes) N′ (omega (arith, h .total)))
+    ∙ ap (take (10 * n)) (h .bytes)
+    ∙ take-at (take (10 * n) N) (nodesT n (s .value)) (10 * n) (length-take-le (10 * n) N long)
 
 -- a tree that was read has a node
 pub read-some : {s : Reading Term} {N D N′ D′ : List ℕ} {n d : ℕ} {r : Step} {x : Span} → Told s N D N′ D′ n d r → r .parsed ≡ parsed.Read x → 0 < r .counters .nodes
@@ -58,7 +59,7 @@ read-some {s = s} {n = n} {x = x} h w =
     omega (arith, size-pos (v .0), h .total ∙ ap (λ y. n + sizeT y) (v .1))
 
 -- a reading that reports, with one diagnostic more than a first one; the count has gone back
-pub reports-more : {s : Reading Term} {N D N₁ D₁ D₂ : List ℕ} {n d : ℕ} {r : Step} {c : Counters} {q : Step} (x : Diagnostic) → Told s N D N₁ D₁ n d r → 14 * n ≤ length N
+pub reports-more : {s : Reading Term} {N D N₁ D₁ D₂ : List ℕ} {n d : ℕ} {r : Step} {c : Counters} {q : Step} (x : Diagnostic) → Told s N D N₁ D₁ n d r → 10 * n ≤ length N
     → c .at ≡ r .counters .at → c .end ≡ r .counters .end → c .nodes ≡ n → c .diagnostics ≡ r .counters .diagnostics → DeepTold D₁ D₂ c x q
     → Told (reading (s .cursor) (s .end) (s .raised ++ (x ∷ [])) reported) N D N₁ D₂ n d q
 unfolding parsedOf sizeT nodesT
@@ -175,11 +176,11 @@ module _ (L T N D : List ℕ) (c : Counters) (room : ℕ) (on : c .at ≤ count 
 
 -- ---- behind a minus or a tilde: the term there answers r
 
-stored-unary : (P : List ℕ) (n x o : ℕ) (e : Expr) (s : Span) → x ≡ n + size e → (P ++ nodes n e) ++ record14 5 o (x - 1) 255 s (lowFirst 8 0) ≡ P ++ nodes n (unary o e s)
-unfolding nodes lowFirst
+stored-unary : (P : List ℕ) (n x o : ℕ) (e : Expr) (s : Span) → x ≡ n + size e → (P ++ nodes n e) ++ nodeRecord 5 o (x - 1) 65535 s (words 4 0) ≡ P ++ nodes n (unary o e s)
+unfolding nodes words
 stored-unary P n x o e s h = rw h (simp append-assoc)
 
-module _ (L T N D N₁ D₁ : List ℕ) (c : Counters) (room : ℕ) (r : Step) (long : 14 * c .nodes ≤ length N) (g : PrefixTold L T N D N₁ D₁ c room r) where
+module _ (L T N D N₁ D₁ : List ℕ) (c : Counters) (room : ℕ) (r : Step) (long : 10 * c .nodes ≤ length N) (g : PrefixTold L T N D N₁ D₁ c room r) where
   abbrev first : Reading Term
   first = run (parsePrefix fuel room) (place L T) (c .at) (c .end)
 
@@ -200,7 +201,7 @@ module _ (L T N D N₁ D₁ : List ℕ) (c : Counters) (room : ℕ) (r : Step) (
 
   module _ (k : Token) where
     pub unary-reads : {x : Span} {N₂ : List ℕ} {o : ℕ} {q : Counters} → r .parsed ≡ parsed.Read x → o ≡ unaryOperator (k .kind)
-        → NodeTold N₁ N₂ (r .counters) (record14 5 o (r .counters .nodes - 1) 255 (span (k .start) (x .end)) (lowFirst 8 0)) q
+        → NodeTold N₁ N₂ (r .counters) (nodeRecord 5 o (r .counters .nodes - 1) 65535 (span (k .start) (x .end)) (words 4 0)) q
         → BehindTold (unaryTerm room k) L T N D N₂ D₁ c (record { parsed = parsed.Read (span (k .start) (x .end)); counters = q })
     unfolding parsedOf sizeT nodesT size spanE
     unary-reads {x} {N₂} {o} {q} w u p =
@@ -217,9 +218,9 @@ module _ (L T N D N₁ D₁ : List ℕ) (c : Counters) (room : ℕ) (r : Step) (
                 seen = p .seen ∙ g .told .seen;
                 bytes =
                     p .put .bytes
-                    ∙ ap (λ z. z ++ record14 5 o (r .counters .nodes - 1) 255 (span (k .start) (x .end)) (lowFirst 8 0)) (g .told .bytes ∙ ap (λ v. take (14 * c .nodes) N ++ nodesT (c .nodes) v) (y .1))
-                    ∙ stored-unary (take (14 * c .nodes) N) (c .nodes) (r .counters .nodes) o (y .0) (span (k .start) (x .end)) cnt
-                    ∙ ap₂ (λ a z. take (14 * c .nodes) N ++ nodes (c .nodes) (unary a (y .0) (span (k .start) (z .end)))) u (y .2);
+                    ∙ ap (λ z. z ++ nodeRecord 5 o (r .counters .nodes - 1) 65535 (span (k .start) (x .end)) (words 4 0)) (g .told .bytes ∙ ap (λ v. take (10 * c .nodes) N ++ nodesT (c .nodes) v) (y .1))
+                    ∙ stored-unary (take (10 * c .nodes) N) (c .nodes) (r .counters .nodes) o (y .0) (span (k .start) (x .end)) cnt
+                    ∙ ap₂ (λ a z. take (10 * c .nodes) N ++ nodes (c .nodes) (unary a (y .0) (span (k .start) (z .end)))) u (y .2);
                 more = g .told .more;
               });
           past = λ j b. p .put .past j (omega (arith, b, p .at, g .few)) ∙ g .past j (omega (arith, b, p .at));
@@ -280,7 +281,7 @@ module _ (L T N D N₁ D₁ : List ℕ) (c : Counters) (room : ℕ) (r : Step) (
                 end = h .end ∙ g .told .end;
                 total = h .same ∙ g .told .total ∙ ap (λ v. c .nodes + sizeT v) (y .1);
                 seen = simp length-append (omega (arith, h .push .next, g .told .seen));
-                bytes = rw (h .same) (g .told .bytes ∙ ap (λ v. take (14 * c .nodes) N ++ nodesT (c .nodes) v) (y .1));
+                bytes = rw (h .same) (g .told .bytes ∙ ap (λ v. take (10 * c .nodes) N ++ nodesT (c .nodes) v) (y .1));
                 more = added-more D (c .diagnostics) (first .raised) (plusIsNotAUnaryOperator (spanOf k) (spanE (y .0)) ∷ []) (g .told .more) (g .told .seen) (added-one D₁ D₂ (r .counters .diagnostics) _ _ (hz .push));
               });
           past = λ j b. g .past j (omega (arith, b, h .at));
@@ -305,14 +306,16 @@ module _ (L T N D N₁ D₁ : List ℕ) (c : Counters) (room : ℕ) (r : Step) (
       let y = what-absent (first .value) (sym (g .told .what) ∙ w) in
       bounded (parseExpression room) L T N D N₁ D₁ c r (g .past) (expression-bounds on) (rw (branch.expression-absent room (place L T) (c .at) (c .end) first refl y) (retold absent y (g .told)))
 
-  pub expression-reads : {x : Span} {N₂ D₂ : List ℕ} {q : Chain} → c .at ≤ count T → count T ≤ 255 → r .parsed ≡ parsed.Read x → ClimbTold L T N₁ D₁ N₂ D₂ (r .counters) x 1 room q
+  pub expression-reads : {x : Span} {N₂ D₂ : List ℕ} {q : Chain} → c .at ≤ count T → count T ≤ 1023 → r .parsed ≡ parsed.Read x → ClimbTold L T N₁ D₁ N₂ D₂ (r .counters) x 1 room q
       → ExpressionTold L T N D N₂ D₂ c room (record { parsed = parsed.Read (q .span); counters = q .counters })
   unfolding parsedOf sizeT nodesT
   expression-reads {x} {N₂} {D₂} {q} on few w h =
       let y = what-read (first .value) x (sym (g .told .what) ∙ w) in
       let Q = run (parseExpressionFrom fuel (parsePrefix fuel room) 1 (y .0)) (place L T) (r .counters .at) (r .counters .end) in
-      let sq : Says Q D₁ N₂ D₂ (take (14 * c .nodes) N) (c .nodes) (r .counters .diagnostics) q
-      = h .told fuel (omega (arith, fuel-enough)) (take (14 * c .nodes) N) (c .nodes) (y .0) (g .told .bytes ∙ ap (λ v. take (14 * c .nodes) N ++ nodesT (c .nodes) v) (y .1)) (g .told .total ∙ ap (λ v. c .nodes + sizeT v) (y .1)) (y .2) in
+      let sq : Says Q D₁ N₂ D₂ (take (10 * r .counters .nodes) N₁) (c .nodes) (size (y .0)) (r .counters .diagnostics) q
+      = h .told fuel (omega (arith, fuel-enough)) (c .nodes) (y .0) (g .told .total ∙ ap (λ v. c .nodes + sizeT v) (y .1)) (y .2) in
+      let P : List ℕ = take (10 * c .nodes) N in
+      let st : take (10 * r .counters .nodes) N₁ ≡ P ++ nodes (c .nodes) (y .0) = g .told .bytes ∙ ap (λ v. P ++ nodesT (c .nodes) v) (y .1) in
       bounded (parseExpression room) L T N D N₂ D₂ c _ (λ j b. h .past j (omega (arith, b, g .few)) ∙ g .past j (omega (arith, b, h .on))) (expression-bounds on)
       (rw (branch.expression-read room (place L T) (c .at) (c .end) first refl (y .0) (y .1) Q (rw (g .told .at, g .told .end)))
       (record {
@@ -321,6 +324,8 @@ module _ (L T N D N₁ D₁ : List ℕ) (c : Counters) (room : ℕ) (r : Step) (
         end = sq .end;
         total = sq .total;
         seen = simp length-append (omega (arith, sq .seen, g .told .seen));
-        bytes = sq .bytes;
+        bytes = sq .bytes
+            ∙ ap (λ z. z ++ drop (10 * size (y .0)) (nodes (c .nodes) (Q .value))) st
+            ∙ grown-behind P (climb-grows (c .nodes) fuel (parsePrefix fuel room) 1 (y .0) (place L T) (r .counters .at) (r .counters .end));
         more = added-more D (c .diagnostics) (first .raised) (Q .raised) (g .told .more) (g .told .seen) (sq .more);
       }))

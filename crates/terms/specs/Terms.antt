@@ -21,7 +21,7 @@ use Rattle.terms.specs.declared.terms.Chain.{Chain}
 use Rattle.records.specs.Diagnostics.{unclosedParenthesis}
 use Rattle.expressions.specs.Reader.{Reading, Reader, run, _>>=_}
 use Rattle.expressions.specs.Expressions.{Term, precedence, read, reported, absent, tooDeep, fuel, negated, plussed, grouped, parsePrefix, parseExpression, parseExpressionFrom}
-use Rattle.records.specs.Nodes.{record14, lowFirst}
+use Rattle.records.specs.Nodes.{nodeRecord, words}
 use Rattle.expressions.specs.Records.{nodes}
 use Rattle.records.specs.Counting.{stepped}
 use Rattle.records.specs.Stores.{written, added, PutTold, PushTold}
@@ -50,12 +50,12 @@ pub record Told (s : Reading Term) (N D N′ D′ : List ℕ) (n d : ℕ) (r : S
   pub end : r .counters .end ≡ s .end
   pub total : r .counters .nodes ≡ n + sizeT (s .value)
   pub seen : r .counters .diagnostics ≡ d + length (s .raised)
-  pub bytes : take (14 * r .counters .nodes) N′ ≡ take (14 * n) N ++ nodesT n (s .value)
+  pub bytes : take (10 * r .counters .nodes) N′ ≡ take (10 * n) N ++ nodesT n (s .value)
   pub more : D′ ≡ added D d (s .raised)
 
 -- From the counters c to r a record is written for each consumed token at the most: the records past these stay
 abbrev pub Spared : List ℕ → List ℕ → Counters → Counters → Type 0
-Spared N N′ c r = (k : ℕ) → c .nodes + r .at ≤ k + c .at → drop (14 * k) N′ ≡ drop (14 * k) N
+Spared N N′ c r = (k : ℕ) → c .nodes + r .at ≤ k + c .at → drop (10 * k) N′ ≡ drop (10 * k) N
 
 -- ---- the parts that are no readers of their own
 
@@ -64,7 +64,7 @@ pub record LeafTold (N N′ : List ℕ) (c : Counters) (kind detail : ℕ) (s : 
   pub at : r .counters .at ≡ c .at
   pub end : r .counters .end ≡ c .end
   pub seen : r .counters .diagnostics ≡ c .diagnostics
-  pub put : PutTold N N′ (c .nodes) (record14 kind detail 255 255 s (lowFirst 8 value)) (r .counters .nodes)
+  pub put : PutTold N N′ (c .nodes) (nodeRecord kind detail 65535 65535 s (words 4 value)) (r .counters .nodes)
 
 pub record DeepTold (D D′ : List ℕ) (c : Counters) (x : Diagnostic) (r : Step) : Type 0 where
   pub what : r .parsed ≡ parsed.Reported
@@ -82,16 +82,16 @@ pub record NodeTold (N N′ : List ℕ) (c : Counters) (b : List ℕ) (r : Count
 
 -- ---- what a term of one token asks, behind that token, and what it tells
 
-pub record LeafAsks (N D : List ℕ) (c : Counters) : Type 0 where
-  pub number : c .nodes < 255
-  pub long : 3570 ≤ length N
-  pub room : 10 * c .diagnostics + 10 ≤ length D
+pub record LeafAsks (N : List ℕ) (c : Counters) : Type 0 where
+  pub number : c .nodes < 65535
+  pub long : 10 * c .nodes + 10 ≤ length N
+  pub seen : c .diagnostics < 65535
 
 -- the reader p, which looks at no place, from the counters c on
 pub record ReaderTold (p : Reader Term) (N D N′ D′ : List ℕ) (c : Counters) (r : Step) : Type 0 where
   pub told : (at : ℕ → Place) → Told (run p at (c .at) (c .end)) N D N′ D′ (c .nodes) (c .diagnostics) r
   pub stays : r .counters .at ≡ c .at
-  pub past : (k : ℕ) → c .nodes < k → drop (14 * k) N′ ≡ drop (14 * k) N
+  pub past : (k : ℕ) → c .nodes < k → drop (10 * k) N′ ≡ drop (10 * k) N
 
 -- the reader p, where the token k with the text x stands at the cursor
 pub record TokenTold (p : Reader Term) (k : Token) (x : List ℕ) (N D N′ D′ : List ℕ) (c : Counters) (r : Step) : Type 0 where
@@ -102,38 +102,7 @@ pub record TokenTold (p : Reader Term) (k : Token) (x : List ℕ) (N D N′ D′
 pub record DepthTold (T D D′ : List ℕ) (c : Counters) (r : Step) : Type 0 where
   pub told : (L N : List ℕ) → Told (run tooDeep (place L T) (c .at) (c .end)) N D N D′ (c .nodes) (c .diagnostics) r
 
--- ---- the readers that call each other: what they ask
-
-pub record Fit (T N D : List ℕ) (c : Counters) : Type 0 where
-  pub few : count T ≤ 255
-  pub within : c .at ≤ count T
-  pub nodesFit : c .nodes + count T ≤ 255 + c .at
-  pub nodesLong : 3570 ≤ length N
-  pub diagsFit : 10 * c .diagnostics + 10 * count T + 10 ≤ length D + 10 * c .at
-
--- behind a token, which has left room for a node and a diagnostic
-pub record FitBehind (T N D : List ℕ) (c : Counters) : Type 0 where
-  pub few : count T ≤ 255
-  pub within : c .at ≤ count T
-  pub nodesFit : c .nodes + count T + 1 ≤ 255 + c .at
-  pub nodesLong : 3570 ≤ length N
-  pub diagsFit : 10 * c .diagnostics + 10 * count T + 20 ≤ length D + 10 * c .at
-
--- behind a tree
-pub record FitClimb (T N D : List ℕ) (c : Counters) : Type 0 where
-  pub few : count T ≤ 255
-  pub within : c .at ≤ count T
-  pub nodesFit : c .nodes + count T ≤ 255 + c .at
-  pub nodesLong : 3570 ≤ length N
-  pub diagsFit : 10 * c .diagnostics + 10 * count T ≤ length D + 10 * c .at
-  pub some : 0 < c .nodes
-
--- an operator t of the climb stands at the cursor
-pub record OperatedAsks (T : List ℕ) (c : Counters) (min : ℕ) (t : Token) : Type 0 where
-  pub there : tokenAt T (c .at) ≡ peeked.Is t
-  pub level : min ≤ precedence (t .kind)
-
--- ---- and what they tell
+-- ---- the readers that call each other
 
 pub record TermTold (s : Reading Term) (T N D N′ D′ : List ℕ) (c : Counters) (r : Step) : Type 0 where
   pub told : Told s N D N′ D′ (c .nodes) (c .diagnostics) r
@@ -161,26 +130,26 @@ groupTerm room k = parseExpression room >>= grouped k
 
 pub record BehindTold (p : Reader Term) (L T N D N′ D′ : List ℕ) (c : Counters) (r : Step) : Type 0 where
   pub told : Told (run p (place L T) (c .at) (c .end)) N D N′ D′ (c .nodes) (c .diagnostics) r
-  pub past : (k : ℕ) → c .nodes + r .counters .at + 1 ≤ k + c .at → drop (14 * k) N′ ≡ drop (14 * k) N
+  pub past : (k : ℕ) → c .nodes + r .counters .at + 1 ≤ k + c .at → drop (10 * k) N′ ≡ drop (10 * k) N
   pub on : c .at ≤ r .counters .at
   pub within : r .counters .at ≤ count T
   pub few : r .counters .nodes + c .at ≤ c .nodes + r .counters .at + 1
   pub quiet : r .counters .diagnostics + c .at ≤ c .diagnostics + r .counters .at + 2
 
--- the climb s, of a tree whose records stand from b on, behind P
-pub record Says (s : Reading Expr) (D N′ D′ P : List ℕ) (b d : ℕ) (r : Chain) : Type 0 where
+-- the climb s of a tree of m nodes, the first of which has the number b: it adds records behind those that stand, P
+pub record Says (s : Reading Expr) (D N′ D′ P : List ℕ) (b m d : ℕ) (r : Chain) : Type 0 where
   pub span : r .span ≡ spanE (s .value)
   pub at : r .counters .at ≡ s .cursor
   pub end : r .counters .end ≡ s .end
   pub total : r .counters .nodes ≡ b + size (s .value)
   pub seen : r .counters .diagnostics ≡ d + length (s .raised)
-  pub bytes : take (14 * r .counters .nodes) N′ ≡ P ++ nodes b (s .value)
+  pub bytes : take (10 * r .counters .nodes) N′ ≡ P ++ drop (10 * m) (nodes b (s .value))
   pub more : D′ ≡ added D d (s .raised)
 
--- whatever tree e the last records hold, and with fuel enough
+-- whatever tree e of this span the left side is, with fuel enough. What stands in the store is not looked at
 pub record ClimbTold (L T N D N′ D′ : List ℕ) (c : Counters) (left : Span) (min room : ℕ) (r : Chain) : Type 0 where
-  pub told : (g : ℕ) → count T ≤ g + c .at → (P : List ℕ) (b : ℕ) (e : Expr) → take (14 * c .nodes) N ≡ P ++ nodes b e → c .nodes ≡ b + size e → left ≡ spanE e
-      → Says (run (parseExpressionFrom g (parsePrefix fuel room) min e) (place L T) (c .at) (c .end)) D N′ D′ P b (c .diagnostics) r
+  pub told : (g : ℕ) → count T ≤ g + c .at → (b : ℕ) (e : Expr) → c .nodes ≡ b + size e → left ≡ spanE e
+      → Says (run (parseExpressionFrom g (parsePrefix fuel room) min e) (place L T) (c .at) (c .end)) D N′ D′ (take (10 * c .nodes) N) b (size e) (c .diagnostics) r
   pub past : Spared N N′ c (r .counters)
   pub some : 0 < r .counters .nodes
   pub on : c .at ≤ r .counters .at
@@ -188,15 +157,22 @@ pub record ClimbTold (L T N D N′ D′ : List ℕ) (c : Counters) (left : Span)
   pub few : r .counters .nodes + c .at ≤ c .nodes + r .counters .at
   pub quiet : r .counters .diagnostics + c .at ≤ c .diagnostics + r .counters .at
 
--- ---- the end of a group
+-- the left side is longer by the operator t and its right side: what the climb from there tells, the climb from before tells
+pub record Longer (L T N D N′ D′ : List ℕ) (c : Counters) (left : Span) (room : ℕ) (t : Token) (s : Span) (r : Counters) : Type 0 where
+  pub whole : (min : ℕ) → min ≤ precedence (t .kind) → (N″ D″ : List ℕ) (q : Chain) → ClimbTold L T N′ D′ N″ D″ r s min room q → ClimbTold L T N D N″ D″ c left min room q
+  pub some : 0 < r .nodes
+  pub on : c .at < r .at
+  pub within : r .at ≤ count T
+  pub few : r .nodes + c .at ≤ c .nodes + r .at
+  pub quiet : r .diagnostics + c .at ≤ c .diagnostics + r .at
 
-pub record CloseAsks (T N D : List ℕ) (first : ℕ) (c : Counters) : Type 0 where
-  pub few : count T ≤ 255
-  pub within : c .at ≤ count T
-  pub nodesFit : c .nodes ≤ 255
-  pub nodesLong : 3570 ≤ length N
-  pub room : 10 * c .diagnostics + 10 ≤ length D
-  pub some : 0 < c .nodes
+-- behind the operator t; or no term is read there, and the climb ends
+pub data OperatedTold (L T N D N′ D′ : List ℕ) (c : Counters) (left : Span) (room : ℕ) (t : Token) (r : Step) : Type 0 where
+  longer : (s : Span) → r .parsed ≡ parsed.Read s → Longer L T N D N′ D′ c left room t s (r .counters) → OperatedTold L T N D N′ D′ c left room t r
+  ended : r .parsed ≡ parsed.Reported
+      → ((min : ℕ) → min ≤ precedence (t .kind) → ClimbTold L T N D N′ D′ c left min room (record { span = left; counters = r .counters })) → OperatedTold L T N D N′ D′ c left room t r
+
+-- ---- the end of a group
 
 abbrev pub withNodes : Counters → ℕ → Counters
 withNodes c n = record { at = c .at; end = c .end; nodes = n; diagnostics = c .diagnostics }
@@ -204,7 +180,7 @@ withNodes c n = record { at = c .at; end = c .end; nodes = n; diagnostics = c .d
 -- a parenthesis t closes the group k, whose root gets the whole span; or none does
 pub data CloseTold (T N D N′ D′ : List ℕ) (first : ℕ) (c : Counters) (k : Token) (r : Step) : Type 0 where
   closed : (t : Token) → tokenAt T (c .at) ≡ peeked.Is t → t .kind ≡ Kinds.rightParen
-      → N′ ≡ written N (14 * (c .nodes - 1) + 4) (k .start ∷ t .end ∷ []) → D′ ≡ D
+      → N′ ≡ written N (10 * (c .nodes - 1) + 4) (k .start ∷ t .end ∷ []) → D′ ≡ D
       → r .parsed ≡ parsed.Read (span (k .start) (t .end)) → r .counters ≡ stepped c t → CloseTold T N D N′ D′ first c k r
   unclosed : ((t : Token) → tokenAt T (c .at) ≡ peeked.Is t → t .kind ≡ Kinds.rightParen → ⊥) → N′ ≡ N
       → DeepTold D D′ (withNodes c first) (unclosedParenthesis (spanOf k)) r → CloseTold T N D N′ D′ first c k r

@@ -1,6 +1,7 @@
 // Terms of one token, and the nodes of terms.
 use crate::reports::plain;
 use crate::reports::report;
+use crate::steps::step_over;
 use crate::terms::Parsed;
 use crate::terms::Step;
 use names::Number;
@@ -11,43 +12,45 @@ use records::Span;
 use records::push_diagnostic;
 use records::put_node;
 use records::span_of;
-use records::step_over;
 ghost use mathlib.Core.Path.{_≡_};
 ghost use Prim.Native.Nat.{_+_, _*_, _≤_, _<_};
 ghost use lib.ListN.{length};
 ghost use Rattle.names.specs.Places.{textOf};
 ghost use Rattle.names.specs.Registers.{reserved};
 ghost use Rattle.expressions.specs.Expressions.{numberTerm, named, leafTerm};
-ghost use Rattle.records.specs.Nodes.{record14, lowFirst};
+ghost use Rattle.records.specs.Nodes.{nodeRecord, words};
 ghost use Rattle.records.specs.Stores.{PutAsks};
 ghost use Rattle.terms.specs.Terms.{NodeTold, LeafAsks, LeafTold, ReaderTold, TokenTold};
 
-// A name's or a literal's own span, as the last eight bytes of its record hold it.
+// No child.
+pub(crate) const ABSENT: u16 = 65535;
+
+// A name's or a literal's own span, as the last four words of its record hold it.
 pub(crate) fn own(span: Span) -> u64
-    ensures { λ r. ⌜ (r ≡ span .start + 256 * span .end) × (span .start < 256) × (span .end < 256) ⌝ }
+    ensures { λ r. ⌜ (r ≡ span .start + 65536 * span .end) × (span .start < 65536) × (span .end < 65536) ⌝ }
 {
-    (span.start as u64) + 256 * (span.end as u64)
+    (span.start as u64) + 65536 * (span.end as u64)
 }
 
 // A node without children, and the term that it is.
 pub(crate) fn read_leaf(
-    nodes: &mut [u8],
+    nodes: &mut [u16],
     c: Counters,
-    kind: u8,
-    detail: u8,
+    kind: u16,
+    detail: u16,
     span: Span,
     value: u64,
 ) -> Step
-    requires { ⌜ (c .nodes < 255) × (3570 ≤ length (now nodes)) ⌝ }
+    requires { ⌜ PutAsks (now nodes) (c .nodes) ⌝ }
     ensures { λ r. ⌜ LeafTold (now (nodes .entry)) (now (nodes .exit)) c kind detail span value r ⌝ }
 {
-    let m = put_node(nodes, c.nodes, kind, detail, 255, 255, span, value);
+    put_node(nodes, c.nodes, kind, detail, ABSENT, ABSENT, span, value);
     Step {
         parsed: Parsed::Read(span),
         counters: Counters {
             at: c.at,
             end: c.end,
-            nodes: m,
+            nodes: c.nodes + 1,
             diagnostics: c.diagnostics,
         },
     }
@@ -55,22 +58,22 @@ pub(crate) fn read_leaf(
 
 // Puts the node of an operator behind those of its sides.
 pub(crate) fn put_operator(
-    nodes: &mut [u8],
+    nodes: &mut [u16],
     c: Counters,
-    kind: u8,
-    operator: u8,
-    left: u32,
-    right: u32,
+    kind: u16,
+    operator: u16,
+    left: u16,
+    right: u16,
     span: Span,
 ) -> Counters
-    requires { ⌜ PutAsks (now nodes) (c .nodes) left right ⌝ }
-    ensures { λ r. ⌜ NodeTold (now (nodes .entry)) (now (nodes .exit)) c (record14 kind operator left right span (lowFirst 8 0)) r ⌝ }
+    requires { ⌜ PutAsks (now nodes) (c .nodes) ⌝ }
+    ensures { λ r. ⌜ NodeTold (now (nodes .entry)) (now (nodes .exit)) c (nodeRecord kind operator left right span (words 4 0)) r ⌝ }
 {
-    let m = put_node(nodes, c.nodes, kind, operator, left, right, span, 0);
+    put_node(nodes, c.nodes, kind, operator, left, right, span, 0);
     Counters {
         at: c.at,
         end: c.end,
-        nodes: m,
+        nodes: c.nodes + 1,
         diagnostics: c.diagnostics,
     }
 }
@@ -78,12 +81,12 @@ pub(crate) fn put_operator(
 // A number's term, behind its token.
 pub(crate) fn number_leaf(
     line: &[u8],
-    nodes: &mut [u8],
-    diagnostics: &mut [u8],
+    nodes: &mut [u16],
+    diagnostics: &mut [u16],
     c: Counters,
     token: Token,
 ) -> Step
-    requires { ⌜ LeafAsks (now nodes) (now diagnostics) c ⌝ }
+    requires { ⌜ LeafAsks (now nodes) c ⌝ }
     ensures { λ r. ⌜ ReaderTold (numberTerm token (textOf (now (line .entry)) (token .start) (token .end))) (now (nodes .entry)) (now (diagnostics .entry)) (now (nodes .exit)) (now (diagnostics .exit)) c r ⌝ }
 {
     let text = names::text_of(line, token);
@@ -93,12 +96,12 @@ pub(crate) fn number_leaf(
     match number {
         Number::Value(v) => read_leaf(nodes, c, 1, detail, span, v),
         Number::TooLarge => {
-            let d = push_diagnostic(diagnostics, c.diagnostics, plain(1, span, span));
+            push_diagnostic(diagnostics, c.diagnostics, plain(1, span, span));
             let e = Counters {
                 at: c.at,
                 end: c.end,
                 nodes: c.nodes,
-                diagnostics: d,
+                diagnostics: c.diagnostics + 1,
             };
             read_leaf(nodes, e, 1, detail, span, 0)
         }
@@ -109,12 +112,12 @@ pub(crate) fn number_leaf(
 // A name's term, behind its token: a reserved name is none.
 pub(crate) fn name_leaf(
     line: &[u8],
-    nodes: &mut [u8],
-    diagnostics: &mut [u8],
+    nodes: &mut [u16],
+    diagnostics: &mut [u16],
     c: Counters,
     token: Token,
 ) -> Step
-    requires { ⌜ LeafAsks (now nodes) (now diagnostics) c ⌝ }
+    requires { ⌜ LeafAsks (now nodes) c ⌝ }
     ensures { λ r. ⌜ ReaderTold (named token (reserved (textOf (now (line .entry)) (token .start) (token .end)))) (now (nodes .entry)) (now (diagnostics .entry)) (now (nodes .exit)) (now (diagnostics .exit)) c r ⌝ }
 {
     let text = names::text_of(line, token);
@@ -128,12 +131,12 @@ pub(crate) fn name_leaf(
 // A term of one token, which stands at the cursor.
 pub(crate) fn parse_leaf(
     line: &[u8],
-    nodes: &mut [u8],
-    diagnostics: &mut [u8],
+    nodes: &mut [u16],
+    diagnostics: &mut [u16],
     c: Counters,
     token: Token,
 ) -> Step
-    requires { ⌜ LeafAsks (now nodes) (now diagnostics) c × (c .at < 256) ⌝ }
+    requires { ⌜ LeafAsks (now nodes) c × (c .at < 1023) ⌝ }
     ensures { λ r. ⌜ TokenTold leafTerm token (textOf (now (line .entry)) (token .start) (token .end)) (now (nodes .entry)) (now (diagnostics .entry)) (now (nodes .exit)) (now (diagnostics .exit)) c r ⌝ }
 {
     let e = step_over(c, token);

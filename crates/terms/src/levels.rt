@@ -38,7 +38,7 @@ const LEVELS: [u8; 30] = [
 ];
 
 // The number of each kind as a binary operator, 9 for a kind that is none.
-const OPERATORS: [u8; 30] = [
+const OPERATORS: [u16; 30] = [
     9,
     9,
     9,
@@ -71,7 +71,7 @@ const OPERATORS: [u8; 30] = [
     9,
 ];
 
-pub(crate) fn precedence(kind: u8) -> u8
+pub(crate) fn precedence(kind: u16) -> u8
     ensures { λ r. ⌜ r ≡ precedence kind ⌝ }
 {
     if 30 <= kind {
@@ -81,7 +81,7 @@ pub(crate) fn precedence(kind: u8) -> u8
     LEVELS[i]
 }
 
-pub(crate) fn binary_operator(kind: u8) -> u8
+pub(crate) fn binary_operator(kind: u16) -> u16
     ensures { λ r. ⌜ r ≡ binaryOperator kind ⌝ }
 {
     if 30 <= kind {
@@ -92,7 +92,7 @@ pub(crate) fn binary_operator(kind: u8) -> u8
 }
 
 // A unary operator's number.
-pub(crate) fn unary_operator(kind: u8) -> u8
+pub(crate) fn unary_operator(kind: u16) -> u16
     ensures { λ r. ⌜ r ≡ unaryOperator kind ⌝ }
 {
     if kind == kinds::MINUS { 0 } else { 1 }

@@ -1,10 +1,13 @@
-// Expressions: terms, levels and trees, read into lent stores of records.
+// Expressions: terms, levels and trees, read into stores of records.
 mod leaf;
 mod levels;
 mod reading;
 mod reports;
+mod steps;
 mod terms;
 
+pub use reading::ChainAnswer;
+pub use reading::ExpressionAnswer;
 pub use reading::expression;
 pub use reading::expression_from;
 pub use terms::Chain;

@@ -10,42 +10,41 @@ use records::diagnostic;
 use records::push_diagnostic;
 use records::span_of;
 ghost use mathlib.Core.Path.{_≡_};
-ghost use Prim.Native.Nat.{_+_, _*_, _≤_};
-ghost use lib.ListN.{length};
+ghost use Prim.Native.Nat.{_<_};
 ghost use Rattle.records.specs.Spans.{spanOf};
 ghost use Rattle.records.specs.Diagnostics.{plain, expressionExpected, unclosedParenthesis};
 ghost use Rattle.terms.specs.Terms.{DeepTold, DepthTold, withNodes};
 
 // A diagnostic with no shape and no problem.
-pub(crate) fn plain(kind: u8, span: Span, text: Span) -> Diagnostic
+pub(crate) fn plain(kind: u16, span: Span, text: Span) -> Diagnostic
     ensures { λ r. ⌜ r ≡ plain kind span text ⌝ }
 {
     diagnostic(kind, 0, 0, span, text)
 }
 
 // Raises a diagnostic: the term has failed and leaves no node.
-pub(crate) fn report(diagnostics: &mut [u8], c: Counters, x: Diagnostic) -> Step
-    requires { ⌜ 10 * c .diagnostics + 10 ≤ length (now diagnostics) ⌝ }
+pub(crate) fn report(diagnostics: &mut [u16], c: Counters, x: Diagnostic) -> Step
+    requires { ⌜ c .diagnostics < 65535 ⌝ }
     ensures { λ r. ⌜ DeepTold (now (diagnostics .entry)) (now (diagnostics .exit)) c x r ⌝ }
 {
-    let raised = push_diagnostic(diagnostics, c.diagnostics, x);
+    push_diagnostic(diagnostics, c.diagnostics, x);
     Step {
         parsed: Parsed::Reported,
         counters: Counters {
             at: c.at,
             end: c.end,
             nodes: c.nodes,
-            diagnostics: raised,
+            diagnostics: c.diagnostics + 1,
         },
     }
 }
 
 // More terms are open than may be: told at the token that stands at the cursor, or at the end of the last one.
-pub(crate) fn too_deep(tokens: &[u8], diagnostics: &mut [u8], c: Counters) -> Step
-    requires { ⌜ 10 * c .diagnostics + 10 ≤ length (now diagnostics) ⌝ }
+pub(crate) fn too_deep(tokens: &[u16], diagnostics: &mut [u16], c: Counters) -> Step
+    requires { ⌜ c .diagnostics < 65535 ⌝ }
     ensures { λ r. ⌜ DepthTold (now (tokens .entry)) (now (diagnostics .entry)) (now (diagnostics .exit)) c r ⌝ }
 {
-    let at = c.at;
+    let at = c.at as usize;
     let p = names::token_at(tokens, at);
     match p {
         Peeked::Is(t) => {
@@ -75,8 +74,8 @@ pub(crate) fn expected_after(token: Token) -> Diagnostic
 }
 
 // A group that is never closed: its nodes, from `first` on, are given up.
-pub(crate) fn unclosed(diagnostics: &mut [u8], first: u32, c: Counters, token: Token) -> Step
-    requires { ⌜ 10 * c .diagnostics + 10 ≤ length (now diagnostics) ⌝ }
+pub(crate) fn unclosed(diagnostics: &mut [u16], first: u16, c: Counters, token: Token) -> Step
+    requires { ⌜ c .diagnostics < 65535 ⌝ }
     ensures { λ r. ⌜ DeepTold (now (diagnostics .entry)) (now (diagnostics .exit)) (withNodes c first) (unclosedParenthesis (spanOf token)) r ⌝ }
 {
     let back = Counters {

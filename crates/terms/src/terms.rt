@@ -1,4 +1,5 @@
 // Terms, expressions and the climb over levels: `parse_prefix`, `parse_expression` and `parse_expression_from` call each other.
+use crate::leaf::ABSENT;
 use crate::leaf::parse_leaf;
 use crate::leaf::put_operator;
 use crate::levels::binary_operator;
@@ -9,15 +10,19 @@ use crate::reports::plain;
 use crate::reports::report;
 use crate::reports::too_deep;
 use crate::reports::unclosed;
+use crate::steps::step_over;
 use names::Peeked;
 use names::Token;
 use names::kinds;
 use records::Counters;
 use records::Span;
 use records::span_of;
-use records::step_over;
 use records::widen;
-ghost use Rattle.terms.specs.Terms.{OperatedAsks, Fit, FitBehind, FitClimb, PrefixTold, ExpressionTold, BehindTold, ClimbTold, CloseAsks, CloseTold, unaryTerm, plusTerm, groupTerm};
+ghost use mathlib.Core.Path.{_≡_};
+ghost use Rattle.names.specs.Tokens.{tokenAt};
+ghost use Rattle.names.specs.declared.tokens.Peeked.the-variants as peeked;
+ghost use Rattle.records.specs.Rooms.{NodeRoom};
+ghost use Rattle.terms.specs.Terms.{OperatedTold, PrefixTold, ExpressionTold, BehindTold, ClimbTold, CloseTold, unaryTerm, plusTerm, groupTerm};
 
 // A term: read, with its root's span; failed and reported; or not there.
 pub enum Parsed {
@@ -39,17 +44,17 @@ pub struct Chain {
 
 // Behind the expression of a group, whose tree begins at the node `first`: the parenthesis closes it and widens its root, or it is told.
 fn close_group(
-    tokens: &[u8],
-    nodes: &mut [u8],
-    diagnostics: &mut [u8],
-    first: u32,
+    tokens: &[u16],
+    nodes: &mut [u16],
+    diagnostics: &mut [u16],
+    first: u16,
     c: Counters,
     token: Token,
 ) -> Step
-    requires { ⌜ CloseAsks (now tokens) (now nodes) (now diagnostics) first c ⌝ }
+    requires { ⌜ NodeRoom (now tokens) (now nodes) c 1 0 1 ⌝ }
     ensures { λ r. ⌜ CloseTold (now (tokens .entry)) (now (nodes .entry)) (now (diagnostics .entry)) (now (nodes .exit)) (now (diagnostics .exit)) first c token r ⌝ }
 {
-    let at = c.at;
+    let at = c.at as usize;
     let p = names::token_at(tokens, at);
     match p {
         Peeked::Is(t) => {
@@ -73,19 +78,19 @@ fn close_group(
 // A term, with at most `room` terms open in it.
 fn parse_prefix(
     line: &[u8],
-    tokens: &[u8],
-    nodes: &mut [u8],
-    diagnostics: &mut [u8],
+    tokens: &[u16],
+    nodes: &mut [u16],
+    diagnostics: &mut [u16],
     c: Counters,
     room: usize,
 ) -> Step
-    requires { ⌜ Fit (now tokens) (now nodes) (now diagnostics) c ⌝ }
+    requires { ⌜ NodeRoom (now tokens) (now nodes) c 0 0 1 ⌝ }
     ensures { λ r. ⌜ PrefixTold (now (line .entry)) (now (tokens .entry)) (now (nodes .entry)) (now (diagnostics .entry)) (now (nodes .exit)) (now (diagnostics .exit)) c room r ⌝ }
 {
     if room == 0 {
         return too_deep(tokens, diagnostics, c);
     }
-    let at = c.at;
+    let at = c.at as usize;
     let p = names::token_at(tokens, at);
     match p {
         Peeked::End => Step {
@@ -110,14 +115,14 @@ fn parse_prefix(
 // Behind a minus or a tilde.
 fn parse_unary(
     line: &[u8],
-    tokens: &[u8],
-    nodes: &mut [u8],
-    diagnostics: &mut [u8],
+    tokens: &[u16],
+    nodes: &mut [u16],
+    diagnostics: &mut [u16],
     c: Counters,
     token: Token,
     room: usize,
 ) -> Step
-    requires { ⌜ FitBehind (now tokens) (now nodes) (now diagnostics) c ⌝ }
+    requires { ⌜ NodeRoom (now tokens) (now nodes) c 0 1 2 ⌝ }
     ensures { λ r. ⌜ BehindTold (unaryTerm room token) (now (line .entry)) (now (tokens .entry)) (now (nodes .entry)) (now (diagnostics .entry)) (now (nodes .exit)) (now (diagnostics .exit)) c r ⌝ }
 {
     let r = parse_prefix(line, tokens, nodes, diagnostics, c, room);
@@ -130,7 +135,7 @@ fn parse_unary(
                 end: s.end,
             };
             let operator = unary_operator(token.kind);
-            let f = put_operator(nodes, e, 5, operator, e.nodes - 1, 255, span);
+            let f = put_operator(nodes, e, 5, operator, e.nodes - 1, ABSENT, span);
             Step {
                 parsed: Parsed::Read(span),
                 counters: f,
@@ -144,14 +149,14 @@ fn parse_unary(
 // Behind a plus, which is no unary operator: the term is read all the same.
 fn parse_plus(
     line: &[u8],
-    tokens: &[u8],
-    nodes: &mut [u8],
-    diagnostics: &mut [u8],
+    tokens: &[u16],
+    nodes: &mut [u16],
+    diagnostics: &mut [u16],
     c: Counters,
     token: Token,
     room: usize,
 ) -> Step
-    requires { ⌜ FitBehind (now tokens) (now nodes) (now diagnostics) c ⌝ }
+    requires { ⌜ NodeRoom (now tokens) (now nodes) c 0 1 2 ⌝ }
     ensures { λ r. ⌜ BehindTold (plusTerm room token) (now (line .entry)) (now (tokens .entry)) (now (nodes .entry)) (now (diagnostics .entry)) (now (nodes .exit)) (now (diagnostics .exit)) c r ⌝ }
 {
     let r = parse_prefix(line, tokens, nodes, diagnostics, c, room);
@@ -176,14 +181,14 @@ fn parse_plus(
 // Behind the parenthesis of a group.
 fn parse_group(
     line: &[u8],
-    tokens: &[u8],
-    nodes: &mut [u8],
-    diagnostics: &mut [u8],
+    tokens: &[u16],
+    nodes: &mut [u16],
+    diagnostics: &mut [u16],
     c: Counters,
     token: Token,
     room: usize,
 ) -> Step
-    requires { ⌜ FitBehind (now tokens) (now nodes) (now diagnostics) c ⌝ }
+    requires { ⌜ NodeRoom (now tokens) (now nodes) c 0 1 2 ⌝ }
     ensures { λ r. ⌜ BehindTold (groupTerm room token) (now (line .entry)) (now (tokens .entry)) (now (nodes .entry)) (now (diagnostics .entry)) (now (nodes .exit)) (now (diagnostics .exit)) c r ⌝ }
 {
     let r = parse_expression(line, tokens, nodes, diagnostics, c, room);
@@ -199,13 +204,13 @@ fn parse_group(
 // An expression: a term, and the climb from it.
 pub(crate) fn parse_expression(
     line: &[u8],
-    tokens: &[u8],
-    nodes: &mut [u8],
-    diagnostics: &mut [u8],
+    tokens: &[u16],
+    nodes: &mut [u16],
+    diagnostics: &mut [u16],
     c: Counters,
     room: usize,
 ) -> Step
-    requires { ⌜ Fit (now tokens) (now nodes) (now diagnostics) c ⌝ }
+    requires { ⌜ NodeRoom (now tokens) (now nodes) c 0 0 1 ⌝ }
     ensures { λ r. ⌜ ExpressionTold (now (line .entry)) (now (tokens .entry)) (now (nodes .entry)) (now (diagnostics .entry)) (now (nodes .exit)) (now (diagnostics .exit)) c room r ⌝ }
 {
     let r = parse_prefix(line, tokens, nodes, diagnostics, c, room);
@@ -229,67 +234,60 @@ pub(crate) fn parse_expression(
 // The climb from a left side, the tree of the last records, over operators of at least a level.
 pub(crate) fn parse_expression_from(
     line: &[u8],
-    tokens: &[u8],
-    nodes: &mut [u8],
-    diagnostics: &mut [u8],
+    tokens: &[u16],
+    nodes: &mut [u16],
+    diagnostics: &mut [u16],
     c: Counters,
     left: Span,
     minimum: u8,
     room: usize,
 ) -> Chain
-    requires { ⌜ FitClimb (now tokens) (now nodes) (now diagnostics) c ⌝ }
+    requires { ⌜ NodeRoom (now tokens) (now nodes) c 1 0 0 ⌝ }
     ensures { λ r. ⌜ ClimbTold (now (line .entry)) (now (tokens .entry)) (now (nodes .entry)) (now (diagnostics .entry)) (now (nodes .exit)) (now (diagnostics .exit)) c left minimum room r ⌝ }
 {
-    let at = c.at;
-    let p = names::token_at(tokens, at);
-    match p {
-        Peeked::End => Chain {
-            span: left,
-            counters: c,
-        },
-        Peeked::Is(t) => {
-            if precedence(t.kind) < minimum {
-                return Chain {
-                    span: left,
-                    counters: c,
-                };
-            }
-            parse_operated(line, tokens, nodes, diagnostics, c, left, minimum, room, t)
+    let mut e = c;
+    let mut span = left;
+    loop {
+        let at = e.at as usize;
+        let p = names::token_at(tokens, at);
+        let Peeked::Is(t) = p else {
+            break;
+        };
+        if precedence(t.kind) < minimum {
+            break;
         }
+        let r = parse_operated(line, tokens, nodes, diagnostics, e, span, room, t);
+        e = r.counters;
+        let w = r.parsed;
+        let Parsed::Read(longer) = w else {
+            break;
+        };
+        span = longer;
+    }
+    Chain {
+        span: span,
+        counters: e,
     }
 }
 
-// One operator of the climb, which stands at the cursor, and what it goes on with.
+// One operator of the climb, which stands at the cursor: the longer left side; or no term is read behind the operator, and the climb ends.
 fn parse_operated(
     line: &[u8],
-    tokens: &[u8],
-    nodes: &mut [u8],
-    diagnostics: &mut [u8],
+    tokens: &[u16],
+    nodes: &mut [u16],
+    diagnostics: &mut [u16],
     c: Counters,
     left: Span,
-    minimum: u8,
     room: usize,
     t: Token,
-) -> Chain
-    requires { ⌜ FitClimb (now tokens) (now nodes) (now diagnostics) c × OperatedAsks (now tokens) c minimum t ⌝ }
-    ensures { λ r. ⌜ ClimbTold (now (line .entry)) (now (tokens .entry)) (now (nodes .entry)) (now (diagnostics .entry)) (now (nodes .exit)) (now (diagnostics .exit)) c left minimum room r ⌝ }
+) -> Step
+    requires { ⌜ NodeRoom (now tokens) (now nodes) c 1 0 0 × (tokenAt (now tokens) (c .at) ≡ peeked.Is t) ⌝ }
+    ensures { λ r. ⌜ OperatedTold (now (line .entry)) (now (tokens .entry)) (now (nodes .entry)) (now (diagnostics .entry)) (now (nodes .exit)) (now (diagnostics .exit)) c left room t r ⌝ }
 {
     let r = parse_prefix(line, tokens, nodes, diagnostics, step_over(c, t), room);
     let w = r.parsed;
     let f = r.counters;
     match w {
-        Parsed::Reported => Chain {
-            span: left,
-            counters: f,
-        },
-        Parsed::Absent => {
-            let q = report(diagnostics, f, expected_after(t));
-            let e = q.counters;
-            Chain {
-                span: left,
-                counters: e,
-            }
-        }
         Parsed::Read(s) => {
             let above = precedence(t.kind) + 1;
             let q = parse_expression_from(line, tokens, nodes, diagnostics, f, s, above, room);
@@ -301,7 +299,12 @@ fn parse_operated(
             };
             let operator = binary_operator(t.kind);
             let next = put_operator(nodes, e, 6, operator, c.nodes - 1, e.nodes - 1, whole);
-            parse_expression_from(line, tokens, nodes, diagnostics, next, whole, minimum, room)
+            Step {
+                parsed: Parsed::Read(whole),
+                counters: next,
+            }
         }
+        Parsed::Reported => r,
+        Parsed::Absent => report(diagnostics, f, expected_after(t)),
     }
 }

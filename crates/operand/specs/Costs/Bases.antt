@@ -11,7 +11,7 @@ use Rattle.names.specs.declared.tokens.Token.{Token}
 use Rattle.names.specs.Choice.{pick}
 use Rattle.records.specs.Spans.{span}
 use Rattle.records.specs.declared.spans.Span.{Span}
-use Rattle.expressions.specs.Reader.{Reader, _>>=_}
+use Rattle.expressions.specs.Reader.{Reader}
 use Rattle.expressions.specs.Laws.{holds, All, all-choose, Law, call}
 use Rattle.expressions.specs.Costs.{Clean, true-false}
 use Rattle.operand.specs.Operands.{Displacement, displaced, undisplaced, Operand, some, none}
@@ -40,89 +40,89 @@ module _ (at : ℕ → Place) (w : ℕ) (clean : Clean at w) where
   unfolding All Operand.over holds
   over-cost p Q i l d r k x h f = ((λ t y g q. f (t .end)), λ n. absurd (true-false (rw h at n)))
 
-  predecrement-close-cost : (o : ℕ) (a b t : Token) (q : Register) (i l d r : ℕ) → r ≤ i + 2
-      → All (Operand.predecrementClose o a b t q) at (Left at w clean sizeO 1 0 0 i d i) (i + 1 + 1 + 1) l d r
+  predecrement-close-cost : (z : Setting) (a b t : Token) (q : Register) (i l d r : ℕ) → r ≤ i + 2
+      → All (Operand.predecrementClose z a b t q) at (Left at w clean sizeO 1 0 0 i d i) (i + 1 + 1 + 1) l d r
   unfolding All Operand.predecrementClose Operand.predecremented sizeO
-  predecrement-close-cost o a b t q i l d r near =
+  predecrement-close-cost z a b t q i l d r near =
       all-choose (leb 8 (q .index)) _ _ _ _ _ _ _ _
-      (call (close-cost at w clean o b 4 _ _ _ _) λ j e s. elim [ some x ↦ omega arith | none ↦ omega arith ])
-      (call (not-address-cost at w clean sizeO o 4 t 0 0 0 _ _ _ _) λ j e s. elim [ some x ↦ omega arith | none ↦ omega arith ])
+      (call (close-cost at w clean z b 4 _ _ _ _) λ j e s. elim [ some x ↦ omega arith | none ↦ omega arith ])
+      (call (not-address-cost at w clean sizeO z 4 t 0 0 0 _ _ _ _) λ j e s. elim [ some x ↦ omega arith | none ↦ omega arith ])
 
-  pub predecrement-cost : (o : ℕ) (a b t : Token) (x y z : List ℕ) (i l d r : ℕ) → at i ≡ stands a x → at (i + 1) ≡ stands b y → at (i + 2) ≡ stands t z → r ≤ i + 2
-      → Law (Operand.parsePredecrement o a b t z) at (Left at w clean sizeO 1 0 0 i d i) i l d r
+  pub predecrement-cost : (z : Setting) (a b t : Token) (x y v : List ℕ) (i l d r : ℕ) → at i ≡ stands a x → at (i + 1) ≡ stands b y → at (i + 2) ≡ stands t v → r ≤ i + 2
+      → Law (Operand.parsePredecrement z a b t v) at (Left at w clean sizeO 1 0 0 i d i) i l d r
   unfolding Operand.parsePredecrement
-  predecrement-cost o a b t x y z i l d r f g h near = record {
+  predecrement-cost z a b t x y v i l d r f g h near = record {
     all =
         over-cost _ _ i l d r a x f λ m.
         over-cost _ _ (i + 1) m d r b y g λ m₂.
-        over-cost _ _ (i + 1 + 1) m₂ d r t z (let e : i + 1 + 1 ≡ i + 2 = omega arith in rw e h) λ m₃.
-        predecrement-close-cost o a b t _ i m₃ d r near;
+        over-cost _ _ (i + 1 + 1) m₂ d r t v (let e : i + 1 + 1 ≡ i + 2 = omega arith in rw e h) λ m₃.
+        predecrement-close-cost z a b t _ i m₃ d r near;
   }
 
   -- ---- base and index
 
   -- the index x, and then the parenthesis
-  indexed-cost : (o : ℕ) (k : Token) (shape : ℕ) (y : Displacement) (b : BaseRegister) (f : IndexRegister → Span → Operand)
+  indexed-cost : (z : Setting) (k : Token) (shape : ℕ) (y : Displacement) (b : BaseRegister) (f : IndexRegister → Span → Operand)
       → ((x : IndexRegister) (z : Span) → sizeO (f x z) ≡ sizeD y) → (x : IndexRegister) (i l d r : ℕ)
-      → Law (Operand.expectClose o k shape >>= Operand.indexedOperand o y b f x) at (Left at w clean sizeO 1 (sizeD y) 0 i d r) i l d r
+      → Law (Operand.closeIndex z k shape b x y f) at (Left at w clean sizeO 1 (sizeD y) 0 i d r) i l d r
   unfolding All Operand.indexedOperand
-  indexed-cost o k shape y b f e x i l d r = record {
-    all = call (close-cost at w clean o k shape _ _ _ _) λ j e₂ s. elim [
-      | some n ↦ λ a c g h m. let z = indexed-size y b f e x (span o n) (x .suppressed) in omega arith
+  indexed-cost z k shape y b f e x i l d r = record {
+    all = call (close-cost at w clean z k shape _ _ _ _) λ j e₂ s. elim [
+      | some n ↦ λ a c g h m. let z = indexed-size y b f e x (span (z .start) n) (x .suppressed) in omega arith
       | none ↦ omega arith
     ];
   }
 
-  closed-base-cost : (o : ℕ) (q : Register) (y : Displacement) (close : Token) (i l d r : ℕ) → Law (Operand.closedBase o q y close) at (Left at w clean sizeO 0 (sizeD y) 0 i d r) i l d r
+  closed-base-cost : (z : Setting) (q : Register) (y : Displacement) (close : Token) (i l d r : ℕ) → Law (Operand.closedBase z q y close) at (Left at w clean sizeO 0 (sizeD y) 0 i d r) i l d r
   unfolding All Operand.closedBase sizeO sizeD
-  closed-base-cost o q (displaced e n) close i l d r = record { all = omega arith }
-  closed-base-cost o q undisplaced close i l d r = record { all = ((λ k x h p. omega arith), λ p. omega arith) }
+  closed-base-cost z q (displaced e n) close i l d r = record { all = omega arith }
+  closed-base-cost z q undisplaced close i l d r = record { all = ((λ k x h p. omega arith), λ p. omega arith) }
 
-  closed-counter-cost : (o : ℕ) (y : Displacement) (close : Token) (i l d r : ℕ) → Law (Operand.closedCounter o y close) at (Left at w clean sizeO 0 (sizeD y) 0 i d r) i l d r
+  closed-counter-cost : (z : Setting) (y : Displacement) (close : Token) (i l d r : ℕ) → Law (Operand.closedCounter z y close) at (Left at w clean sizeO 0 (sizeD y) 0 i d r) i l d r
   unfolding All Operand.closedCounter sizeO sizeD
-  closed-counter-cost o (displaced e n) close i l d r = record { all = omega arith }
-  closed-counter-cost o undisplaced close i l d r = malformed-cost at w clean sizeO o 7 4 0 0 0 i l d r
+  closed-counter-cost z (displaced e n) close i l d r = record { all = omega arith }
+  closed-counter-cost z undisplaced close i l d r = malformed-cost at w clean sizeO z 7 4 0 0 0 i l d r
 
-  after-base-cost : (z : Setting) (o : ℕ) (k : Token) (y : Displacement) (q : Register) (i l d r : ℕ) → Law (Operand.afterBase z o k y q) at (Left at w clean sizeO 0 (sizeD y) 0 i d r) i l d r
+  after-base-cost : (z : Setting) (k : Token) (y : Displacement) (q : Register) (i l d r : ℕ) → Law (Operand.afterBase z k y q) at (Left at w clean sizeO 0 (sizeD y) 0 i d r) i l d r
   unfolding All Operand.afterBase sizeO Operand.closedIndex
-  after-base-cost z o k y q i l d r = record {
+  after-base-cost z k y q i l d r = record {
     all = (
-      (λ t x h p. call (closed-base-cost o q y t _ _ _ _) λ j e s. elim [ some x ↦ omega arith | none ↦ omega arith ]),
+      (λ t x h p. call (closed-base-cost z q y t _ _ _ _) λ j e s. elim [ some x ↦ omega arith | none ↦ omega arith ]),
       λ p. (
-        (λ t x h p₂. call (index-cost at w clean z o 6 _ _ _ _) λ j e s. elim [
-          | some v ↦ λ a b c g m. call (indexed-cost o k 6 y (BaseRegister.Address q) (λ x. O.index y q x) (λ x z. refl) v _ _ _ _) λ j₂ e₂ s₂. elim [ some x ↦ omega arith | none ↦ omega arith ]
+        (λ t x h p₂. call (index-cost at w clean z 6 _ _ _ _) λ j e s. elim [
+          | some v ↦ λ a b c g m. call (indexed-cost z k 6 y (BaseRegister.Address q) (λ x. O.index y q x) (λ x z. refl) v _ _ _ _) λ j₂ e₂ s₂. elim [ some x ↦ omega arith | none ↦ omega arith ]
           | none ↦ omega arith
         ]),
-        λ p₂. unclosed-cost at w clean sizeO o k _ 3 0 _ 0 _ _ _ _ .all,
+        λ p₂. unclosed-cost at w clean sizeO z k _ 3 0 _ 0 _ _ _ _ .all,
       ),
     );
   }
 
-  after-counter-cost : (z : Setting) (o : ℕ) (k : Token) (y : Displacement) (i l d r : ℕ) → Law (Operand.afterCounter z o k y) at (Left at w clean sizeO 0 (sizeD y) 0 i d r) i l d r
+  after-counter-cost : (z : Setting) (k : Token) (y : Displacement) (i l d r : ℕ) → Law (Operand.afterCounter z k y) at (Left at w clean sizeO 0 (sizeD y) 0 i d r) i l d r
   unfolding All Operand.afterCounter sizeO Operand.closedIndex
-  after-counter-cost z o k y i l d r = record {
+  after-counter-cost z k y i l d r = record {
     all = (
-      (λ t x h p. call (closed-counter-cost o y t _ _ _ _) λ j e s. elim [ some x ↦ omega arith | none ↦ omega arith ]),
+      (λ t x h p. call (closed-counter-cost z y t _ _ _ _) λ j e s. elim [ some x ↦ omega arith | none ↦ omega arith ]),
       λ p. (
-        (λ t x h p₂. call (index-cost at w clean z o 8 _ _ _ _) λ j e s. elim [
-          | some v ↦ λ a b c g m. call (indexed-cost o k 8 y BaseRegister.ProgramCounter (λ x. O.pcIndex y x) (λ x z. refl) v _ _ _ _) λ j₂ e₂ s₂. elim [ some x ↦ omega arith | none ↦ omega arith ]
+        (λ t x h p₂. call (index-cost at w clean z 8 _ _ _ _) λ j e s. elim [
+          | some v ↦ λ a b c g m. call (indexed-cost z k 8 y BaseRegister.ProgramCounter (λ x. O.pcIndex y x) (λ x z. refl) v _ _ _ _) λ j₂ e₂ s₂. elim [ some x ↦ omega arith | none ↦ omega arith ]
           | none ↦ omega arith
         ]),
-        λ p₂. unclosed-cost at w clean sizeO o k 7 3 0 _ 0 _ _ _ _ .all,
+        λ p₂. unclosed-cost at w clean sizeO z k 7 3 0 _ 0 _ _ _ _ .all,
       ),
     );
   }
 
-  pub base-cost : (z : Setting) (o : ℕ) (k : Token) (y : Displacement) (i l d r : ℕ) → Law (Operand.parseBaseAndIndex z o k y) at (Left at w clean sizeO 1 (sizeD y) 0 i d r) i l d r
+  pub base-cost : (z : Setting) (k : Token) (y : Displacement) (i l d r : ℕ) → Law (Operand.parseBaseAndIndex z k y) at (Left at w clean sizeO 1 (sizeD y) 0 i d r) i l d r
   unfolding All Operand.parseBaseAndIndex
-  base-cost z o k y i l d r = record {
+  base-cost z k y i l d r = record {
     all = (
-      (λ t x h p. call (after-base-cost z o k y _ _ _ _ _) λ j e s. elim [ some x ↦ omega arith | none ↦ omega arith ]),
+      (λ t x h p. call (after-base-cost z k y _ _ _ _ _) λ j e s. elim [ some x ↦ omega arith | none ↦ omega arith ]),
       λ p. (
-        (λ t x h p₂. call (after-counter-cost z o k y _ _ _ _) λ j e s. elim [ some x ↦ omega arith | none ↦ omega arith ]),
+        (λ t x h p₂. call (after-counter-cost z k y _ _ _ _) λ j e s. elim [ some x ↦ omega arith | none ↦ omega arith ]),
         λ p₂. (
-          (λ t x h p₃. call (not-address-cost at w clean sizeO o _ t 0 0 0 _ _ _ _) λ j e s. elim [ some x ↦ omega arith | none ↦ omega arith ]),
-          λ p₃. unclosed-cost at w clean sizeO o k _ 5 1 _ 0 _ _ _ _ .all,
+          (λ t x h p₃. call (not-address-cost at w clean sizeO z _ t 0 0 0 _ _ _ _) λ j e s. elim [ some x ↦ omega arith | none ↦ omega arith ]),
+          λ p₃. unclosed-cost at w clean sizeO z k _ 5 1 _ 0 _ _ _ _ .all,
         ),
       ),
     );

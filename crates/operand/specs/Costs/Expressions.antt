@@ -22,27 +22,27 @@ use Rattle.operand.specs.Costs.Malformed.{Left, sm}
 use Rattle.operand.specs.Costs.Bases.{base-cost}
 
 module _ (at : ℕ → Place) (w : ℕ) (clean : Clean at w) where
-  pub finish-cost : (o : ℕ) (x : Expr) (i l d r : ℕ) → Law (Operand.finishExpressionOperand o x) at (Left at w clean sizeO 0 (size x) 0 i d r) i l d r
+  pub finish-cost : (z : Setting) (x : Expr) (i l d r : ℕ) → Law (Operand.finishExpressionOperand z x) at (Left at w clean sizeO 0 (size x) 0 i d r) i l d r
   unfolding All Operand.finishExpressionOperand Operand.absoluteSize sizeO
-  finish-cost o x i l d r = record { all = call (suffix-cost at w clean _ _ _ _ _) λ j e s. elim [ suffixed n t ↦ omega arith | bare ↦ omega arith ] }
+  finish-cost z x i l d r = record { all = call (suffix-cost at w clean _ _ _ _ _) λ j e s. elim [ suffixed n t ↦ omega arith | bare ↦ omega arith ] }
 
   -- behind the expression x
-  operand-cost : (z : Setting) (o : ℕ) (x : Expr) (i l d r : ℕ) → Law (Operand.expressionOperand z o (read x)) at (Left at w clean sizeO 0 (size x) 0 i d r) i l d r
+  operand-cost : (z : Setting) (x : Expr) (i l d r : ℕ) → Law (Operand.expressionOperand z (read x)) at (Left at w clean sizeO 0 (size x) 0 i d r) i l d r
   unfolding All Operand.expressionOperand Operand.displacementTail sizeD
-  operand-cost z o x i l d r = record {
+  operand-cost z x i l d r = record {
     all = (
-      (λ k y h p. call (base-cost at w clean z o k (displaced x 0) _ _ _ _) λ j e s. elim [ some x ↦ omega arith | none ↦ omega arith ]),
-      λ p. finish-cost o x _ _ _ _ .all,
+      (λ k y h p. call (base-cost at w clean z k (displaced x 0) _ _ _ _) λ j e s. elim [ some x ↦ omega arith | none ↦ omega arith ]),
+      λ p. finish-cost z x _ _ _ _ .all,
     );
   }
 
-  pub expression-operand-cost : (z : Setting) (o i l d r : ℕ) → Law (Operand.parseExpressionOperand z o) at (Left at w clean sizeO 1 0 0 i d r) i l d r
-  unfolding All Operand.parseExpressionOperand Operand.expressionOperand
-  expression-operand-cost z o i l d r =
+  pub expression-operand-cost : (z : Setting) (i l d r : ℕ) → Law (Operand.parseExpressionOperand z) at (Left at w clean sizeO 1 0 0 i d r) i l d r
+  unfolding All Operand.parseExpressionOperand Operand.expressionOperand Operand.noExpression
+  expression-operand-cost z i l d r =
       let h = sm at w clean in
       record {
         all = call (expression-cost at w clean _ _ _ _ _) λ j e s. elim [
-          | read x ↦ λ a b c g m. call (operand-cost z o x _ _ _ _) λ j₂ e₂ s₂. elim [ some x ↦ omega arith | none ↦ omega arith ]
+          | read x ↦ λ a b c g m. call (operand-cost z x _ _ _ _) λ j₂ e₂ s₂. elim [ some x ↦ omega arith | none ↦ omega arith ]
           | reported ↦ omega arith
           | absent ↦ λ a b c g m. ((λ k x h p. omega arith), λ p. omega arith)
         ];
@@ -54,11 +54,11 @@ module _ (at : ℕ → Place) (w : ℕ) (clean : Clean at w) where
     signed-cost zero l d r g = absurd (omega arith)
     signed-cost (suc room) l d r g = unary-expression at w clean h q room l d r
 
-    pub signed-operand-cost : (z : Setting) (o l d r : ℕ) → 1 ≤ z .limit → r ≤ i + 2 → Law (Operand.parseExpressionOperand z o) at (Left at w clean sizeO 1 0 0 i d i) i l d r
+    pub signed-operand-cost : (z : Setting) (l d r : ℕ) → 1 ≤ z .limit → r ≤ i + 2 → Law (Operand.parseExpressionOperand z) at (Left at w clean sizeO 1 0 0 i d i) i l d r
     unfolding All Operand.parseExpressionOperand Operand.expressionOperand
-    signed-operand-cost z o l d r lim near = record {
+    signed-operand-cost z l d r lim near = record {
       all = call (signed-cost (z .limit) l d r lim) λ j e s. elim [
-        | read x ↦ λ a b c g m. call (operand-cost z o x _ _ _ _) λ j₂ e₂ s₂. elim [ some x ↦ omega arith | none ↦ omega arith ]
+        | read x ↦ λ a b c g m. call (operand-cost z x _ _ _ _) λ j₂ e₂ s₂. elim [ some x ↦ omega arith | none ↦ omega arith ]
         | reported ↦ omega arith
         | absent ↦ λ a b c g m. absurd g
       ];

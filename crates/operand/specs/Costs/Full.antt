@@ -19,41 +19,41 @@ module _ (at : ℕ → Place) (w : ℕ) (clean : Clean at w) where
   abbrev Registered : ℕ → ℕ → ℕ → ℕ → ℕ → ℕ → Maybe Registers → Type 0
   Registered i d r j e s v = Left at w clean (nil at w clean) 1 0 1 i d r j e s v
 
-  after-register-cost : (z : Setting) (o shape : ℕ) (b : BaseRegister) (i l d r : ℕ) → Law (Operand.afterBaseRegister z o shape b) at (Left at w clean (nil at w clean) 0 0 1 i d r) i l d r
+  after-register-cost : (z : Setting) (shape : ℕ) (b : BaseRegister) (i l d r : ℕ) → Law (Operand.afterBaseRegister z shape b) at (Left at w clean (nil at w clean) 0 0 1 i d r) i l d r
   unfolding All Operand.afterBaseRegister Operand.indexAlone
-  after-register-cost z o shape b i l d r = record {
+  after-register-cost z shape b i l d r = record {
     all = (
       (λ t x h p. (
-        (λ c y h₂ p₂. call (index-cost at w clean z o shape _ _ _ _) λ j e s. elim [ some x ↦ omega arith | none ↦ omega arith ]),
+        (λ c y h₂ p₂. call (index-cost at w clean z shape _ _ _ _) λ j e s. elim [ some x ↦ omega arith | none ↦ omega arith ]),
         λ p₂. omega arith,
       )),
       λ p. omega arith,
     );
   }
 
-  no-base-cost : (z : Setting) (o shape i l d r : ℕ) → Law (Operand.noBase z o shape) at (Registered i d r) i l d r
+  no-base-cost : (z : Setting) (shape i l d r : ℕ) → Law (Operand.noBase z shape) at (Registered i d r) i l d r
   unfolding All Operand.noBase Operand.indexAlone
-  no-base-cost z o shape i l d r = record {
+  no-base-cost z shape i l d r = record {
     all = (
-      (λ t x h p. call (index-cost at w clean z o shape _ _ _ _) λ j e s. elim [ some x ↦ omega arith | none ↦ omega arith ]),
-      λ p. call (stepped-cost at w clean (nil at w clean) o shape 11 1 0 1 _ _ _ _) λ j e s. elim [ some x ↦ omega arith | none ↦ omega arith ],
+      (λ t x h p. call (index-cost at w clean z shape _ _ _ _) λ j e s. elim [ some x ↦ omega arith | none ↦ omega arith ]),
+      λ p. call (stepped-cost at w clean (nil at w clean) z shape 11 1 0 1 _ _ _ _) λ j e s. elim [ some x ↦ omega arith | none ↦ omega arith ],
     );
   }
 
-  pub registers-cost : (z : Setting) (o shape i l d r : ℕ) → Law (Operand.parseBaseAndIndexRegisters z o shape) at (Registered i d r) i l d r
+  pub registers-cost : (z : Setting) (shape i l d r : ℕ) → Law (Operand.parseBaseAndIndexRegisters z shape) at (Registered i d r) i l d r
   unfolding All Operand.parseBaseAndIndexRegisters
-  registers-cost z o shape i l d r = record {
+  registers-cost z shape i l d r = record {
     all = (
-      (λ t x h p. call (after-register-cost z o shape _ _ _ _ _) λ j e s. elim [ some x ↦ omega arith | none ↦ omega arith ]),
+      (λ t x h p. call (after-register-cost z shape _ _ _ _ _) λ j e s. elim [ some x ↦ omega arith | none ↦ omega arith ]),
       λ p. (
-        (λ t x h p₂. call (after-register-cost z o shape _ _ _ _ _) λ j e s. elim [ some x ↦ omega arith | none ↦ omega arith ]),
+        (λ t x h p₂. call (after-register-cost z shape _ _ _ _ _) λ j e s. elim [ some x ↦ omega arith | none ↦ omega arith ]),
         λ p₂. (
-          (λ t x h p₃. call (no-base-cost z o shape _ _ _ _) λ j e s. elim [ some x ↦ omega arith | none ↦ omega arith ]),
+          (λ t x h p₃. call (no-base-cost z shape _ _ _ _) λ j e s. elim [ some x ↦ omega arith | none ↦ omega arith ]),
           λ p₃. (
-            (λ t x h p₄. call (after-register-cost z o shape _ _ _ _ _) λ j e s. elim [ some x ↦ omega arith | none ↦ omega arith ]),
+            (λ t x h p₄. call (after-register-cost z shape _ _ _ _ _) λ j e s. elim [ some x ↦ omega arith | none ↦ omega arith ]),
             λ p₄. (
-              (λ t x h p₅. call (after-register-cost z o shape _ _ _ _ _) λ j e s. elim [ some x ↦ omega arith | none ↦ omega arith ]),
-              λ p₅. call (no-base-cost z o shape _ _ _ _) λ j e s. elim [ some x ↦ omega arith | none ↦ omega arith ],
+              (λ t x h p₅. call (after-register-cost z shape _ _ _ _ _) λ j e s. elim [ some x ↦ omega arith | none ↦ omega arith ]),
+              λ p₅. call (no-base-cost z shape _ _ _ _) λ j e s. elim [ some x ↦ omega arith | none ↦ omega arith ],
             ),
           ),
         ),
@@ -61,11 +61,11 @@ module _ (at : ℕ → Place) (w : ℕ) (clean : Clean at w) where
     );
   }
 
-  pub full-index-cost : (z : Setting) (o : ℕ) (k : Token) (y : Displacement) (i l d r : ℕ) → Law (Operand.parseFullIndex z o k y) at (Left at w clean sizeO 1 (sizeD y) 0 i d r) i l d r
+  pub full-index-cost : (z : Setting) (k : Token) (y : Displacement) (i l d r : ℕ) → Law (Operand.parseFullIndex z k y) at (Left at w clean sizeO 1 (sizeD y) 0 i d r) i l d r
   unfolding All Operand.parseFullIndex Operand.closedRegisters Operand.fullIndexed sizeO sizeD
-  full-index-cost z o k y i l d r = record {
-    all = call (registers-cost z o 6 _ _ _ _) λ j e s. elim [
-      | some v ↦ λ a b c g m. call (close-cost at w clean o k 6 _ _ _ _) λ j₂ e₂ s₂. elim [ some x ↦ omega arith | none ↦ omega arith ]
+  full-index-cost z k y i l d r = record {
+    all = call (registers-cost z 6 _ _ _ _) λ j e s. elim [
+      | some v ↦ λ a b c g m. call (close-cost at w clean z k 6 _ _ _ _) λ j₂ e₂ s₂. elim [ some x ↦ omega arith | none ↦ omega arith ]
       | none ↦ omega arith
     ];
   }

@@ -15,12 +15,12 @@ use Rattle.operand.specs.Records.{sizeO}
 use Rattle.operand.specs.Costs.Malformed.{Left, sm, malformed-cost}
 
 module _ (at : ℕ → Place) (w : ℕ) (clean : Clean at w) where
-  pub immediate-cost : (s : Setting) (o : ℕ) (hash : Token) (i l d r : ℕ) → Law (Operand.parseImmediate s o hash) at (Left at w clean sizeO 0 0 0 i d r) i l d r
+  pub immediate-cost : (z : Setting) (hash : Token) (i l d r : ℕ) → Law (Operand.parseImmediate z hash) at (Left at w clean sizeO 0 0 0 i d r) i l d r
   unfolding All Operand.parseImmediate Operand.immediateValue Operand.immediateSize sizeO
-  immediate-cost s o hash i l d r = record {
+  immediate-cost z hash i l d r = record {
     all = call (expression-cost at w clean _ _ _ _ _) λ j e s. elim [
       | read x ↦ λ a b c g m. call (suffix-cost at w clean _ _ _ _ _) λ j₂ e₂ s₂. elim [
-        | suffixed n z ↦ λ a₂ b₂ c₂ g₂ m₂. all-choose (eqb n 3) _ _ _ _ _ _ _ _ (omega arith) (all-choose (eqb n 0) _ _ _ _ _ _ _ _ (omega arith) (call (malformed-cost at w clean sizeO o 1 1 0 0 0 _ _ _ _) λ j₃ e₃ s₃. elim [ some x ↦ omega arith | none ↦ omega arith ]))
+        | suffixed n t ↦ λ a₂ b₂ c₂ g₂ m₂. all-choose (eqb n 3) _ _ _ _ _ _ _ _ (omega arith) (all-choose (eqb n 0) _ _ _ _ _ _ _ _ (omega arith) (call (malformed-cost at w clean sizeO z 1 1 0 0 0 _ _ _ _) λ j₃ e₃ s₃. elim [ some x ↦ omega arith | none ↦ omega arith ]))
         | bare ↦ omega arith
       ]
       | reported ↦ omega arith

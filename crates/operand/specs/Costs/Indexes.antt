@@ -15,37 +15,37 @@ use Rattle.expressions.specs.declared.reading.Setting.{Setting}
 use Rattle.operand.specs.Costs.Malformed.{Left, nil, malformed-cost, stepped-cost}
 
 module _ (at : ℕ → Place) (w : ℕ) (clean : Clean at w) where
-  scale-cost : (o shape : ℕ) (x : IndexRegister) (i l d r : ℕ) → Law (Operand.indexScale o shape x) at (Left at w clean (nil at w clean) 0 0 0 i d r) i l d r
+  scale-cost : (z : Setting) (shape : ℕ) (x : IndexRegister) (i l d r : ℕ) → Law (Operand.indexScale z shape x) at (Left at w clean (nil at w clean) 0 0 0 i d r) i l d r
   unfolding All Operand.indexScale Operand.scaled
-  scale-cost o shape x i l d r = record {
+  scale-cost z shape x i l d r = record {
     all = (
       (λ k y h p. (
-        (λ t z h₂ p₂. call (valued-cost at w clean t _ _ _ _ _) λ j e s v a b c g m.
+        (λ t y₂ h₂ p₂. call (valued-cost at w clean t _ _ _ _ _) λ j e s v a b c g m.
             all-choose (Operand.scaleOf v) _ _ _ _ _ _ _ _ (omega arith)
-            (call (malformed-cost at w clean (nil at w clean) o shape 7 0 0 0 _ _ _ _) λ j₂ e₂ s₂. elim [ some x ↦ omega arith | none ↦ omega arith ])),
-        λ p₂. call (stepped-cost at w clean (nil at w clean) o shape 7 0 0 0 _ _ _ _) λ j e s. elim [ some x ↦ omega arith | none ↦ omega arith ],
+            (call (malformed-cost at w clean (nil at w clean) z shape 7 0 0 0 _ _ _ _) λ j₂ e₂ s₂. elim [ some x ↦ omega arith | none ↦ omega arith ])),
+        λ p₂. call (stepped-cost at w clean (nil at w clean) z shape 7 0 0 0 _ _ _ _) λ j e s. elim [ some x ↦ omega arith | none ↦ omega arith ],
       )),
       λ p. omega arith,
     );
   }
 
-  index-register-cost : (o shape : ℕ) (q : Register) (b : Bool) (i l d r : ℕ) → Law (Operand.indexRegister o shape q b) at (Left at w clean (nil at w clean) 0 0 0 i d r) i l d r
+  index-register-cost : (z : Setting) (shape : ℕ) (q : Register) (b : Bool) (i l d r : ℕ) → Law (Operand.indexRegister z shape q b) at (Left at w clean (nil at w clean) 0 0 0 i d r) i l d r
   unfolding All Operand.indexRegister Operand.indexSize
-  index-register-cost o shape q b i l d r = record {
+  index-register-cost z shape q b i l d r = record {
     all = call (suffix-cost at w clean _ _ _ _ _) λ j e s. elim [
-      | suffixed n z ↦ λ a b c g m. call (scale-cost o shape _ _ _ _ _) λ j₂ e₂ s₂. elim [ some x ↦ omega arith | none ↦ omega arith ]
-      | bare ↦ λ a b c g m. call (scale-cost o shape _ _ _ _ _) λ j₂ e₂ s₂. elim [ some x ↦ omega arith | none ↦ omega arith ]
+      | suffixed n t ↦ λ a b c g m. call (scale-cost z shape _ _ _ _ _) λ j₂ e₂ s₂. elim [ some x ↦ omega arith | none ↦ omega arith ]
+      | bare ↦ λ a b c g m. call (scale-cost z shape _ _ _ _ _) λ j₂ e₂ s₂. elim [ some x ↦ omega arith | none ↦ omega arith ]
     ];
   }
 
-  pub index-cost : (z : Setting) (o shape i l d r : ℕ) → Law (Operand.parseIndexRegister z o shape) at (Left at w clean (nil at w clean) 1 0 0 i d r) i l d r
+  pub index-cost : (z : Setting) (shape i l d r : ℕ) → Law (Operand.parseIndexRegister z shape) at (Left at w clean (nil at w clean) 1 0 0 i d r) i l d r
   unfolding All Operand.parseIndexRegister
-  index-cost z o shape i l d r = record {
+  index-cost z shape i l d r = record {
     all = (
-      (λ t x h p. call (index-register-cost o shape _ _ _ _ _ _) λ j e s. elim [ some x ↦ omega arith | none ↦ omega arith ]),
+      (λ t x h p. call (index-register-cost z shape _ _ _ _ _ _) λ j e s. elim [ some x ↦ omega arith | none ↦ omega arith ]),
       λ p. (
-        (λ t x h p₂. call (index-register-cost o shape _ _ _ _ _ _) λ j e s. elim [ some x ↦ omega arith | none ↦ omega arith ]),
-        λ p₂. stepped-cost at w clean (nil at w clean) o shape 6 1 0 0 _ _ _ _ .all,
+        (λ t x h p₂. call (index-register-cost z shape _ _ _ _ _ _) λ j e s. elim [ some x ↦ omega arith | none ↦ omega arith ]),
+        λ p₂. stepped-cost at w clean (nil at w clean) z shape 6 1 0 0 _ _ _ _ .all,
       ),
     );
   }

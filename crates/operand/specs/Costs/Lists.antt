@@ -8,11 +8,10 @@ use native.Mathlib.Omega.{arith}
 use lib.Dec.{leb, ltb}
 use lib.ListN.{length, length-append}
 use Rattle.names.specs.Places.{Place}
-use Rattle.names.specs.declared.tokens.Token.{Token}
 use Rattle.names.specs.Choice.{pick}
-use Rattle.records.specs.Spans.{spanOf}
 use Rattle.records.specs.declared.spans.Span.{Span}
 use Rattle.expressions.specs.Expressions.{fuel}
+use Rattle.expressions.specs.declared.reading.Setting.{Setting}
 use Rattle.expressions.specs.Laws.{All, all-choose, Law, call}
 use Rattle.expressions.specs.Costs.{Clean}
 use Rattle.operand.specs.Operands.{RegisterListItem, Operand, some, none}
@@ -48,15 +47,15 @@ module _ (at : ℕ → Place) (w : ℕ) (clean : Clean at w) where
   }
 
   -- the register at i has been consumed, so that every item stands for a token
-  list-cost : (f o : ℕ) (items : List RegisterListItem) (q : Register) (i l d r : ℕ)
-      → Law (Operand.listLoop f o items q) at (Left at w clean sizeO 0 (length items + 1) 0 i d r) i l d r
+  list-cost : (f : ℕ) (z : Setting) (items : List RegisterListItem) (q : Register) (i l d r : ℕ)
+      → Law (Operand.listLoop f z items q) at (Left at w clean sizeO 0 (length items + 1) 0 i d r) i l d r
   unfolding All Operand.listLoop Operand.nextItem Operand.listed sizeO
-  list-cost zero o items q i l d r = record { all = rw length-append (omega arith) }
-  list-cost (suc f) o items q i l d r = record {
+  list-cost zero z items q i l d r = record { all = rw length-append (omega arith) }
+  list-cost (suc f) z items q i l d r = record {
     all = call (item-cost q _ _ _ _) λ j e s. elim [
       | some x ↦ λ a b c g m. (
         (λ k y h p. (
-          (λ t z h₂ p₂. call (list-cost f o _ _ _ _ _ _) λ j₂ e₂ s₂. elim [ some x ↦ rw length-append (omega arith) | none ↦ omega arith ]),
+          (λ t y₂ h₂ p₂. call (list-cost f z _ _ _ _ _ _) λ j₂ e₂ s₂. elim [ some x ↦ rw length-append (omega arith) | none ↦ omega arith ]),
           λ p₂. call (expected-cost sizeO 47 0 0 0 _ _ _ _) λ j₂ e₂ s₂. elim [ some x ↦ omega arith | none ↦ omega arith ],
         )),
         λ p. rw length-append (omega arith),
@@ -65,11 +64,11 @@ module _ (at : ℕ → Place) (w : ℕ) (clean : Clean at w) where
     ];
   }
 
-  pub register-operand-cost : (o : ℕ) (t : Token) (x : List ℕ) (i l d r : ℕ) → Law (Operand.parseRegisterOperand o t x) at (Left at w clean sizeO 0 1 0 i d r) i l d r
+  pub register-operand-cost : (z : Setting) (q : Register) (i l d r : ℕ) → Law (Operand.parseRegisterOperand z q) at (Left at w clean sizeO 0 1 0 i d r) i l d r
   unfolding All Operand.parseRegisterOperand Operand.parseRegisterList
-  register-operand-cost o t x i l d r = record {
+  register-operand-cost z q i l d r = record {
     all = (
-      (λ k y h p. call (list-cost fuel o [] (Operand.registerFrom t x) _ _ _ _) λ j e s. elim [ some x ↦ omega arith | none ↦ omega arith ]),
-      λ p. let z = direct-size (Operand.registerFrom t x) (spanOf t) in omega arith,
+      (λ k y h p. call (list-cost fuel z [] q _ _ _ _) λ j e s. elim [ some x ↦ omega arith | none ↦ omega arith ]),
+      λ p. let z = direct-size q (q .span) in omega arith,
     );
   }

@@ -4,6 +4,7 @@ use Prim.Native.Nat.{ℕ, _+_, _≤_, max}
 use native.Mathlib.Omega.{arith}
 use Rattle.names.specs.Places.{Place}
 use Rattle.names.specs.declared.tokens.Token.{Token}
+use Rattle.expressions.specs.declared.reading.Setting.{Setting}
 use Rattle.expressions.specs.Laws.{All, Law, call}
 use Rattle.expressions.specs.Costs.{Clean}
 use Rattle.operand.specs.Operands.{Operand, Maybe, some, none}
@@ -23,27 +24,27 @@ module _ (at : ℕ → Place) (w : ℕ) (clean : Clean at w) where
   abbrev pub sm : w ≤ 1
   sm = clean .small
 
-  pub malformed-cost : {A : Type 0} (f : A → ℕ) (o shape problem c m g i l d r : ℕ) → Law (Operand.malformed {A = A} o shape problem) at (Left f c m g i d r) i l d r
+  pub malformed-cost : {A : Type 0} (f : A → ℕ) (z : Setting) (shape problem c m g i l d r : ℕ) → Law (Operand.malformed {A = A} z shape problem) at (Left f c m g i d r) i l d r
   unfolding All Operand.malformed
-  malformed-cost f o shape problem c m g i l d r = let h = sm in record { all = omega arith }
+  malformed-cost f z shape problem c m g i l d r = let h = sm in record { all = omega arith }
 
-  pub unclosed-cost : {A : Type 0} (f : A → ℕ) (o : ℕ) (k : Token) (shape problem c m g i l d r : ℕ) → Law (Operand.unclosed {A = A} o k shape problem) at (Left f c m g i d r) i l d r
+  pub unclosed-cost : {A : Type 0} (f : A → ℕ) (z : Setting) (k : Token) (shape problem c m g i l d r : ℕ) → Law (Operand.unclosed {A = A} z k shape problem) at (Left f c m g i d r) i l d r
   unfolding All Operand.unclosed
-  unclosed-cost f o k shape problem c m g i l d r = let h = sm in record { all = omega arith }
+  unclosed-cost f z k shape problem c m g i l d r = let h = sm in record { all = omega arith }
 
-  pub not-address-cost : {A : Type 0} (f : A → ℕ) (o shape : ℕ) (k : Token) (c m g i l d r : ℕ) → Law (Operand.notAnAddressRegister {A = A} o shape k) at (Left f c m g i d r) i l d r
+  pub not-address-cost : {A : Type 0} (f : A → ℕ) (z : Setting) (shape : ℕ) (k : Token) (c m g i l d r : ℕ) → Law (Operand.notAnAddressRegister {A = A} z shape k) at (Left f c m g i d r) i l d r
   unfolding All Operand.notAnAddressRegister
-  not-address-cost f o shape k c m g i l d r = let h = sm in record { all = omega arith }
+  not-address-cost f z shape k c m g i l d r = let h = sm in record { all = omega arith }
 
-  pub stepped-cost : {A : Type 0} (f : A → ℕ) (o shape problem c m g i l d r : ℕ) → Law (Operand.steppedOver {A = A} o shape problem) at (Left f c m g i d r) i l d r
+  pub stepped-cost : {A : Type 0} (f : A → ℕ) (z : Setting) (shape problem c m g i l d r : ℕ) → Law (Operand.steppedOver {A = A} z shape problem) at (Left f c m g i d r) i l d r
   unfolding All Operand.steppedOver
-  stepped-cost f o shape problem c m g i l d r = record {
+  stepped-cost f z shape problem c m g i l d r = record {
     all = (
-      (λ k x h q. call (malformed-cost f o shape problem c m g _ _ _ _) λ j e s. elim [ some x ↦ omega arith | none ↦ omega arith ]),
-      λ q. malformed-cost f o shape problem c m g _ _ _ _ .all,
+      (λ k x h q. call (malformed-cost f z shape problem c m g _ _ _ _) λ j e s. elim [ some x ↦ omega arith | none ↦ omega arith ]),
+      λ q. malformed-cost f z shape problem c m g _ _ _ _ .all,
     );
   }
 
-  pub close-cost : (o : ℕ) (k : Token) (shape i l d r : ℕ) → Law (Operand.expectClose o k shape) at (Left nil 1 0 0 i d r) i l d r
+  pub close-cost : (z : Setting) (k : Token) (shape i l d r : ℕ) → Law (Operand.expectClose z k shape) at (Left nil 1 0 0 i d r) i l d r
   unfolding All Operand.expectClose
-  close-cost o k shape i l d r = record { all = ((λ k x h q. omega arith), λ q. unclosed-cost nil o k shape 3 1 0 0 _ _ _ _ .all) }
+  close-cost z k shape i l d r = record { all = ((λ k x h q. omega arith), λ q. unclosed-cost nil z k shape 3 1 0 0 _ _ _ _ .all) }

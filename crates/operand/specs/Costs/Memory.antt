@@ -18,13 +18,13 @@ use Rattle.operand.specs.Costs.Indexes.{index-cost}
 use Rattle.operand.specs.Costs.Full.{registers-cost}
 
 module _ (at : ℕ → Place) (w : ℕ) (clean : Clean at w) where
-  pub displacement-cost : (z : Setting) (o i l d r : ℕ) → Law (Operand.parseSizedDisplacement z o) at (Left at w clean sizeD 0 0 0 i d r) i l d r
+  pub displacement-cost : (z : Setting) (i l d r : ℕ) → Law (Operand.parseSizedDisplacement z) at (Left at w clean sizeD 0 0 0 i d r) i l d r
   unfolding All Operand.parseSizedDisplacement Operand.displacementValue Operand.sized sizeD
-  displacement-cost z o i l d r = record {
+  displacement-cost z i l d r = record {
     all = call (expression-cost at w clean _ _ _ _ _) λ j e s. elim [
       | read x ↦ λ a b c g m. call (suffix-cost at w clean _ _ _ _ _) λ j₂ e₂ s₂. elim [ suffixed n t ↦ omega arith | bare ↦ omega arith ]
       | reported ↦ omega arith
-      | absent ↦ λ a b c g m. call (stepped-cost at w clean sizeD o 9 10 0 0 0 _ _ _ _) λ j₂ e₂ s₂. elim [ some x ↦ omega arith | none ↦ omega arith ]
+      | absent ↦ λ a b c g m. call (stepped-cost at w clean sizeD z 9 10 0 0 0 _ _ _ _) λ j₂ e₂ s₂. elim [ some x ↦ omega arith | none ↦ omega arith ]
     ];
   }
 
@@ -34,16 +34,16 @@ module _ (at : ℕ → Place) (w : ℕ) (clean : Clean at w) where
   abbrev sizeU : Outer → ℕ
   sizeU u = sizeD (u .displacement)
 
-  pub inner-cost : (z : Setting) (o i l d r : ℕ) → Law (Operand.parseInner z o) at (Left at w clean sizeI 0 0 1 i d r) i l d r
+  pub inner-cost : (z : Setting) (i l d r : ℕ) → Law (Operand.parseInner z) at (Left at w clean sizeI 0 0 1 i d r) i l d r
   unfolding All Operand.parseInner Operand.innerRegisters Operand.innerDisplaced sizeD
-  inner-cost z o i l d r = record {
+  inner-cost z i l d r = record {
     all = (
       (λ k x h p. omega arith),
       λ p. (
-        (λ k x h p₂. call (registers-cost at w clean z o 9 _ _ _ _) λ j e s. elim [ some x ↦ omega arith | none ↦ omega arith ]),
-        λ p₂. call (displacement-cost z o _ _ _ _) λ j e s. elim [
+        (λ k x h p₂. call (registers-cost at w clean z 9 _ _ _ _) λ j e s. elim [ some x ↦ omega arith | none ↦ omega arith ]),
+        λ p₂. call (displacement-cost z _ _ _ _) λ j e s. elim [
           | some y ↦ λ a b c g m. (
-            (λ t x h p₃. call (registers-cost at w clean z o 9 _ _ _ _) λ j₂ e₂ s₂. elim [ some x ↦ omega arith | none ↦ omega arith ]),
+            (λ t x h p₃. call (registers-cost at w clean z 9 _ _ _ _) λ j₂ e₂ s₂. elim [ some x ↦ omega arith | none ↦ omega arith ]),
             λ p₃. omega arith,
           )
           | none ↦ omega arith
@@ -52,41 +52,41 @@ module _ (at : ℕ → Place) (w : ℕ) (clean : Clean at w) where
     );
   }
 
-  outer-index-cost : (z : Setting) (o : ℕ) (v : Index) (i l d r : ℕ) → Law (Operand.outerIndex z o v) at (Left at w clean sizeU 0 0 0 i d r) i l d r
+  outer-index-cost : (z : Setting) (v : Index) (i l d r : ℕ) → Law (Operand.outerIndex z v) at (Left at w clean sizeU 0 0 0 i d r) i l d r
   unfolding All Operand.outerIndex Operand.outerIndexed Operand.outerDisplaced sizeD
-  outer-index-cost z o (Index.Indexed x) i l d r = stepped-cost at w clean sizeU o 9 9 0 0 0 i l d r
-  outer-index-cost z o Index.Unindexed i l d r = record {
-    all = call (index-cost at w clean z o 9 _ _ _ _) λ j e s. elim [
+  outer-index-cost z (Index.Indexed x) i l d r = stepped-cost at w clean sizeU z 9 9 0 0 0 i l d r
+  outer-index-cost z Index.Unindexed i l d r = record {
+    all = call (index-cost at w clean z 9 _ _ _ _) λ j e s. elim [
       | some v ↦ λ a b c g m. (
-        (λ t x h p. call (displacement-cost z o _ _ _ _) λ j₂ e₂ s₂. elim [ some x ↦ omega arith | none ↦ omega arith ]),
+        (λ t x h p. call (displacement-cost z _ _ _ _) λ j₂ e₂ s₂. elim [ some x ↦ omega arith | none ↦ omega arith ]),
         λ p. omega arith,
       )
       | none ↦ omega arith
     ];
   }
 
-  pub outer-cost : (z : Setting) (o : ℕ) (v : Index) (i l d r : ℕ) → Law (Operand.parseOuter z o v) at (Left at w clean sizeU 0 0 0 i d r) i l d r
+  pub outer-cost : (z : Setting) (v : Index) (i l d r : ℕ) → Law (Operand.parseOuter z v) at (Left at w clean sizeU 0 0 0 i d r) i l d r
   unfolding All Operand.parseOuter Operand.outerDisplaced sizeD
-  outer-cost z o v i l d r = record {
+  outer-cost z v i l d r = record {
     all = (
       (λ c y h p. (
-        (λ t x h₂ p₂. call (outer-index-cost z o v _ _ _ _) λ j e s. elim [ some x ↦ omega arith | none ↦ omega arith ]),
-        λ p₂. call (displacement-cost z o _ _ _ _) λ j e s. elim [ some x ↦ omega arith | none ↦ omega arith ],
+        (λ t x h₂ p₂. call (outer-index-cost z v _ _ _ _) λ j e s. elim [ some x ↦ omega arith | none ↦ omega arith ]),
+        λ p₂. call (displacement-cost z _ _ _ _) λ j e s. elim [ some x ↦ omega arith | none ↦ omega arith ],
       )),
       λ p. omega arith,
     );
   }
 
-  pub memory-cost : (z : Setting) (o : ℕ) (k : Token) (i l d r : ℕ) → Law (Operand.parseMemoryIndirect z o k) at (Left at w clean sizeO 1 0 0 i d r) i l d r
+  pub memory-cost : (z : Setting) (k : Token) (i l d r : ℕ) → Law (Operand.parseMemoryIndirect z k) at (Left at w clean sizeO 1 0 0 i d r) i l d r
   unfolding All Operand.parseMemoryIndirect Operand.innerClosed Operand.outerClosed Operand.memoryIndirect sizeO
-  memory-cost z o k i l d r = record {
-    all = call (inner-cost z o _ _ _ _) λ j e s. elim [
+  memory-cost z k i l d r = record {
+    all = call (inner-cost z _ _ _ _) λ j e s. elim [
       | some n ↦ λ a b c g m. (
-        (λ t x h p. call (outer-cost z o _ _ _ _ _) λ j₂ e₂ s₂. elim [
-          | some u ↦ λ a₂ b₂ c₂ g₂ m₂. call (close-cost at w clean o k 9 _ _ _ _) λ j₃ e₃ s₃. elim [ some x ↦ omega arith | none ↦ omega arith ]
+        (λ t x h p. call (outer-cost z _ _ _ _ _) λ j₂ e₂ s₂. elim [
+          | some u ↦ λ a₂ b₂ c₂ g₂ m₂. call (close-cost at w clean z k 9 _ _ _ _) λ j₃ e₃ s₃. elim [ some x ↦ omega arith | none ↦ omega arith ]
           | none ↦ omega arith
         ]),
-        λ p. call (unclosed-cost at w clean sizeO o k 9 8 1 0 0 _ _ _ _) λ j₂ e₂ s₂. elim [ some x ↦ omega arith | none ↦ omega arith ],
+        λ p. call (unclosed-cost at w clean sizeO z k 9 8 1 0 0 _ _ _ _) λ j₂ e₂ s₂. elim [ some x ↦ omega arith | none ↦ omega arith ],
       )
       | none ↦ omega arith
     ];

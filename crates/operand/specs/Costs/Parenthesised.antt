@@ -64,43 +64,43 @@ module _ (at : ℕ → Place) (w : ℕ) (clean : Clean at w) where
         );
       }
 
-  grouped-cost : (z : Setting) (o : ℕ) (k : Token) (x : Expr) (close : Token) (i l d r : ℕ) → Law (Operand.groupedOperand z o k x close) at (Left at w clean sizeO 0 (size x) 0 i d r) i l d r
-  unfolding All Operand.groupedOperand Operand.displacementTail sizeD
-  grouped-cost z o k x close i l d r = record {
+  grouped-cost : (z : Setting) (k : Token) (n : ℕ) (x : Expr) (i l d r : ℕ) → Law (Operand.groupedOperand z k n x) at (Left at w clean sizeO 0 (size x) 0 i d r) i l d r
+  unfolding All Operand.displacementTail sizeD
+  grouped-cost z k n x i l d r = record {
     all = (
-      (λ t y h p. call (base-cost at w clean z o t (displaced x 0) _ _ _ _) λ j e s. elim [ some x ↦ omega arith | none ↦ omega arith ]),
-      λ p. call (from-cost at w clean _ _ _ _ _ _) λ j e s y a b c g m. call (finish-cost at w clean o y _ _ _ _) λ j₂ e₂ s₂. elim [ some v ↦ omega (arith, size-withSpan x (span (k .start) (close .end))) | none ↦ omega arith ],
+      (λ t y h p. call (base-cost at w clean z t (displaced x 0) _ _ _ _) λ j e s. elim [ some x ↦ omega arith | none ↦ omega arith ]),
+      λ p. call (from-cost at w clean _ _ _ _ _ _) λ j e s y a b c g m. call (finish-cost at w clean z y _ _ _ _) λ j₂ e₂ s₂. elim [ some v ↦ omega (arith, size-withSpan x (span (k .start) n)) | none ↦ omega arith ],
     );
   }
 
   -- the comma behind the size has been seen
-  sized-base-cost : (z : Setting) (o : ℕ) (k : Token) (x : Expr) (v : Suffix) (i l d r : ℕ) → Law (Operand.sizedBase z o k x v) at (Left at w clean sizeO 1 (size x) 0 i d r) i l d r
+  sized-base-cost : (z : Setting) (k : Token) (x : Expr) (v : Suffix) (i l d r : ℕ) → Law (Operand.sizedBase z k x v) at (Left at w clean sizeO 1 (size x) 0 i d r) i l d r
   unfolding All Operand.sizedBase Operand.over sizeD
-  sized-base-cost z o k x (suffixed n t) i l d r = record {
+  sized-base-cost z k x (suffixed n t) i l d r = record {
     all = (
-      (λ t y h p. call (full-index-cost at w clean z o k (displaced x n) _ _ _ _) λ j e s. elim [ some x ↦ omega arith | none ↦ omega arith ]),
-      λ p. full-index-cost at w clean z o k (displaced x n) _ _ _ _ .all,
+      (λ t y h p. call (full-index-cost at w clean z k (displaced x n) _ _ _ _) λ j e s. elim [ some x ↦ omega arith | none ↦ omega arith ]),
+      λ p. full-index-cost at w clean z k (displaced x n) _ _ _ _ .all,
     );
   }
-  sized-base-cost z o k x bare i l d r = record {
+  sized-base-cost z k x bare i l d r = record {
     all = (
-      (λ t y h p. call (full-index-cost at w clean z o k (displaced x 0) _ _ _ _) λ j e s. elim [ some x ↦ omega arith | none ↦ omega arith ]),
-      λ p. full-index-cost at w clean z o k (displaced x 0) _ _ _ _ .all,
+      (λ t y h p. call (full-index-cost at w clean z k (displaced x 0) _ _ _ _) λ j e s. elim [ some x ↦ omega arith | none ↦ omega arith ]),
+      λ p. full-index-cost at w clean z k (displaced x 0) _ _ _ _ .all,
     );
   }
 
-  after-expression-cost : (z : Setting) (o : ℕ) (k : Token) (x : Expr) (i l d r : ℕ) → Law (Operand.afterExpression z o k x) at (Left at w clean sizeO 1 (size x) 0 i d r) i l d r
+  after-expression-cost : (z : Setting) (k : Token) (x : Expr) (i l d r : ℕ) → Law (Operand.afterExpression z k x) at (Left at w clean sizeO 1 (size x) 0 i d r) i l d r
   unfolding All Operand.afterExpression sizeD
-  after-expression-cost z o k x i l d r = record {
+  after-expression-cost z k x i l d r = record {
     all = (
       (λ t y h p. call
-          (starts-cost z _ _ (size x) _ _ _ _ (λ s. full-index-cost at w clean z o k (displaced x 0) _ _ _ s) (λ s. base-cost at w clean z o k (displaced x 0) _ _ _ s))
+          (starts-cost z _ _ (size x) _ _ _ _ (λ s. full-index-cost at w clean z k (displaced x 0) _ _ _ s) (λ s. base-cost at w clean z k (displaced x 0) _ _ _ s))
           λ j e s. elim [ some x ↦ omega arith | none ↦ omega arith ]),
       λ p. (
-        (λ t y h p₂. call (grouped-cost z o k x t _ _ _ _) λ j e s. elim [ some x ↦ omega arith | none ↦ omega arith ]),
+        (λ t y h p₂. call (grouped-cost z k _ x _ _ _ _) λ j e s. elim [ some x ↦ omega arith | none ↦ omega arith ]),
         λ p₂. (
           (λ t y h p₃. (
-            (λ u v h₂ p₄. call (suffix-cost at w clean _ _ _ _ _) λ j e s b a c g f m. call (sized-base-cost z o k x b _ _ _ _) λ j₂ e₂ s₂. elim [ some x ↦ omega arith | none ↦ omega arith ]),
+            (λ u v h₂ p₄. call (suffix-cost at w clean _ _ _ _ _) λ j e s b a c g f m. call (sized-base-cost z k x b _ _ _ _) λ j₂ e₂ s₂. elim [ some x ↦ omega arith | none ↦ omega arith ]),
             λ p₄. call (unexpected-cost k 1 (size x) 0 _ _ _ _) λ j e s. elim [ some x ↦ omega arith | none ↦ omega arith ],
           )),
           λ p₃. call (unexpected-cost k 1 (size x) 0 _ _ _ _) λ j e s. elim [ some x ↦ omega arith | none ↦ omega arith ],
@@ -109,24 +109,24 @@ module _ (at : ℕ → Place) (w : ℕ) (clean : Clean at w) where
     );
   }
 
-  parenthesised-cost : (z : Setting) (o : ℕ) (k : Token) (i l d r : ℕ) → Law (Operand.parenthesised z o k) at (Left at w clean sizeO 1 0 0 i d r) i l d r
+  parenthesised-cost : (z : Setting) (k : Token) (i l d r : ℕ) → Law (Operand.parenthesised z k) at (Left at w clean sizeO 1 0 0 i d r) i l d r
   unfolding All Operand.parenthesised Operand.parenthesisedExpression
-  parenthesised-cost z o k i l d r =
+  parenthesised-cost z k i l d r =
       let h = sm at w clean in
       record {
         all = call (expression-cost at w clean _ _ _ _ _) λ j e s. elim [
-          | read x ↦ λ a b c g m. call (after-expression-cost z o k x _ _ _ _) λ j₂ e₂ s₂. elim [ some x ↦ omega arith | none ↦ omega arith ]
+          | read x ↦ λ a b c g m. call (after-expression-cost z k x _ _ _ _) λ j₂ e₂ s₂. elim [ some x ↦ omega arith | none ↦ omega arith ]
           | reported ↦ omega arith
           | absent ↦ omega arith
         ];
       }
 
-  pub parenthesised-operand-cost : (z : Setting) (o : ℕ) (k : Token) (i l d r : ℕ) → Law (Operand.parseParenthesisedOperand z o k) at (Left at w clean sizeO 1 0 0 i d r) i l d r
+  pub parenthesised-operand-cost : (z : Setting) (k : Token) (i l d r : ℕ) → Law (Operand.parseParenthesisedOperand z k) at (Left at w clean sizeO 1 0 0 i d r) i l d r
   unfolding All Operand.parseParenthesisedOperand sizeD
-  parenthesised-operand-cost z o k i l d r = record {
+  parenthesised-operand-cost z k i l d r = record {
     all = (
-      (λ t x h p. call (memory-cost at w clean z o k _ _ _ _) λ j e s. elim [ some x ↦ omega arith | none ↦ omega arith ]),
-      λ p. starts-cost z _ _ 0 _ _ _ _ (λ s. full-index-cost at w clean z o k undisplaced _ _ _ s)
-          (λ s. starts-base-cost _ _ 0 _ _ _ s (λ s₂. base-cost at w clean z o k undisplaced _ _ _ s₂) (λ s₂. parenthesised-cost z o k _ _ _ s₂)) .all,
+      (λ t x h p. call (memory-cost at w clean z k _ _ _ _) λ j e s. elim [ some x ↦ omega arith | none ↦ omega arith ]),
+      λ p. starts-cost z _ _ 0 _ _ _ _ (λ s. full-index-cost at w clean z k undisplaced _ _ _ s)
+          (λ s. starts-base-cost _ _ 0 _ _ _ s (λ s₂. base-cost at w clean z k undisplaced _ _ _ s₂) (λ s₂. parenthesised-cost z k _ _ _ s₂)) .all,
     );
   }

@@ -27,11 +27,11 @@ predecremented start r (some e) = answer (some (O.predecrement r (span start e))
 predecremented start r none = answer none
 
 -- behind the register r, whose token is t
-unfoldable pub predecrementClose : ℕ → Token → Token → Token → Register → Reader (Maybe Operand)
-predecrementClose o minus k t r = choose (leb 8 (r .index)) (expectClose o k 4 >>= predecremented (minus .start) r) (notAnAddressRegister o 4 t)
+unfoldable pub predecrementClose : Setting → Token → Token → Token → Register → Reader (Maybe Operand)
+predecrementClose s minus k t r = choose (leb 8 (r .index)) (expectClose s k 4 >>= predecremented (minus .start) r) (notAnAddressRegister s 4 t)
 
-unfoldable pub parsePredecrement : ℕ → Token → Token → Token → List ℕ → Reader (Maybe Operand)
-parsePredecrement o minus k t x = over (over (over (predecrementClose o minus k t (registerFrom t x))))
+unfoldable pub parsePredecrement : Setting → Token → Token → Token → List ℕ → Reader (Maybe Operand)
+parsePredecrement s minus k t x = over (over (over (predecrementClose s minus k t (registerFrom t x))))
 
 -- ---- parse_base_and_index
 
@@ -41,42 +41,48 @@ baseShape (displaced e size) = 5
 baseShape undisplaced = 2
 
 -- an index written suppressed makes it a full index (`suppressed_index`)
-unfoldable pub indexedOperand : ℕ → Displacement → BaseRegister → (IndexRegister → Span → Operand) → IndexRegister → Maybe ℕ → Reader (Maybe Operand)
-indexedOperand o d base plain x (some e) =
-    answer (some (pick (x .suppressed) (O.fullIndex d base (Index.Indexed x) 0 undisplaced (span o e)) (plain x (span o e))))
-indexedOperand o d base plain x none = answer none
+unfoldable pub indexedOperand : Setting → Displacement → BaseRegister → (IndexRegister → Span → Operand) → IndexRegister → Maybe ℕ → Reader (Maybe Operand)
+indexedOperand s d base plain x (some e) =
+    answer (some (pick (x .suppressed) (O.fullIndex d base (Index.Indexed x) 0 undisplaced (span (s .start) e)) (plain x (span (s .start) e))))
+indexedOperand s d base plain x none = answer none
 
-unfoldable pub closedIndex : ℕ → Token → ℕ → (IndexRegister → Maybe ℕ → Reader (Maybe Operand)) → Maybe IndexRegister → Reader (Maybe Operand)
-closedIndex o k shape f (some x) = expectClose o k shape >>= f x
-closedIndex o k shape f none = answer none
+-- the parenthesis behind the index x
+abbrev pub closeIndex : Setting → Token → ℕ → BaseRegister → IndexRegister → Displacement → (IndexRegister → Span → Operand) → Reader (Maybe Operand)
+closeIndex s k shape base x d plain = expectClose s k shape >>= indexedOperand s d base plain x
 
-unfoldable pub closedBase : ℕ → Register → Displacement → Token → Reader (Maybe Operand)
-closedBase o r (displaced e size) close = answer (some (O.displacement e r (span o (close .end))))
-closedBase o r undisplaced close =
-    bump (is Kinds.plus) (λ plus x. answer (some (O.postincrement r (span o (plus .end))))) λ u.
-    answer (some (O.indirect r (span o (close .end))))
+unfoldable pub closedIndex : Setting → Token → ℕ → BaseRegister → Displacement → (IndexRegister → Span → Operand) → Maybe IndexRegister → Reader (Maybe Operand)
+closedIndex s k shape base d plain (some x) = closeIndex s k shape base x d plain
+closedIndex s k shape base d plain none = answer none
 
-unfoldable pub afterBase : Setting → ℕ → Token → Displacement → Register → Reader (Maybe Operand)
-afterBase s o k d r =
-    bump (is Kinds.rightParen) (λ close x. closedBase o r d close) λ u.
-    bump (is Kinds.comma)
-    (λ c x. parseIndexRegister s o 6 >>= closedIndex o k 6 (indexedOperand o d (BaseRegister.Address r) (λ x. O.index d r x))) λ u.
-    unclosed o k (baseShape d) 3
+-- behind the comma: an index, and the parenthesis
+abbrev pub baseAndIndex : Setting → Token → ℕ → BaseRegister → Displacement → (IndexRegister → Span → Operand) → Reader (Maybe Operand)
+baseAndIndex s k shape base d plain = parseIndexRegister s shape >>= closedIndex s k shape base d plain
 
-unfoldable pub closedCounter : ℕ → Displacement → Token → Reader (Maybe Operand)
-closedCounter o (displaced e size) close = answer (some (O.pcDisplacement e (span o (close .end))))
-closedCounter o undisplaced close = malformed o 7 4
+unfoldable pub closedBase : Setting → Register → Displacement → Token → Reader (Maybe Operand)
+closedBase s r (displaced e size) close = answer (some (O.displacement e r (span (s .start) (close .end))))
+closedBase s r undisplaced close =
+    bump (is Kinds.plus) (λ plus x. answer (some (O.postincrement r (span (s .start) (plus .end))))) λ u.
+    answer (some (O.indirect r (span (s .start) (close .end))))
 
-unfoldable pub afterCounter : Setting → ℕ → Token → Displacement → Reader (Maybe Operand)
-afterCounter s o k d =
-    bump (is Kinds.rightParen) (λ close x. closedCounter o d close) λ u.
-    bump (is Kinds.comma)
-    (λ c x. parseIndexRegister s o 8 >>= closedIndex o k 8 (indexedOperand o d BaseRegister.ProgramCounter (λ x. O.pcIndex d x))) λ u.
-    unclosed o k 7 3
+unfoldable pub afterBase : Setting → Token → Displacement → Register → Reader (Maybe Operand)
+afterBase s k d r =
+    bump (is Kinds.rightParen) (λ close x. closedBase s r d close) λ u.
+    bump (is Kinds.comma) (λ c x. baseAndIndex s k 6 (BaseRegister.Address r) d (λ x. O.index d r x)) λ u.
+    unclosed s k (baseShape d) 3
 
-unfoldable pub parseBaseAndIndex : Setting → ℕ → Token → Displacement → Reader (Maybe Operand)
-parseBaseAndIndex s o k d =
-    bump anAddressRegister (λ t x. afterBase s o k d (registerFrom t x)) λ u.
-    bump aProgramCounter (λ t x. afterCounter s o k d) λ u.
-    bump any (λ t x. notAnAddressRegister o (baseShape d) t) λ u.
-    unclosed o k (baseShape d) 5
+unfoldable pub closedCounter : Setting → Displacement → Token → Reader (Maybe Operand)
+closedCounter s (displaced e size) close = answer (some (O.pcDisplacement e (span (s .start) (close .end))))
+closedCounter s undisplaced close = malformed s 7 4
+
+unfoldable pub afterCounter : Setting → Token → Displacement → Reader (Maybe Operand)
+afterCounter s k d =
+    bump (is Kinds.rightParen) (λ close x. closedCounter s d close) λ u.
+    bump (is Kinds.comma) (λ c x. baseAndIndex s k 8 BaseRegister.ProgramCounter d (λ x. O.pcIndex d x)) λ u.
+    unclosed s k 7 3
+
+unfoldable pub parseBaseAndIndex : Setting → Token → Displacement → Reader (Maybe Operand)
+parseBaseAndIndex s k d =
+    bump anAddressRegister (λ t x. afterBase s k d (registerFrom t x)) λ u.
+    bump aProgramCounter (λ t x. afterCounter s k d) λ u.
+    bump any (λ t x. notAnAddressRegister s (baseShape d) t) λ u.
+    unclosed s k (baseShape d) 5

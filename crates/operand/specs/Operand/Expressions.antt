@@ -1,6 +1,5 @@
 -- An expression as an operand: finish_expression_operand, parse_displacement_tail, parse_expression_operand.
 -- Assumes nothing.
-use Prim.Native.Nat.{ℕ}
 use Rattle.names.specs.Kinds
 use Rattle.records.specs.Spans.{span, empty, spanOf}
 use Rattle.expressions.specs.Trees.{Expr, spanE}
@@ -14,25 +13,33 @@ use Rattle.operand.specs.Operand.Bases.{parseBaseAndIndex}
 
 -- ---- finish_expression_operand, parse_displacement_tail
 
-unfoldable pub absoluteSize : ℕ → Expr → Suffix → Reader (Maybe Operand)
-absoluteSize o e bare = answer (some (O.absolute e 0 (span o (spanE e .end))))
-absoluteSize o e (suffixed size s) = answer (some (O.absolute e size (span o (s .end))))
+unfoldable pub absoluteSize : Setting → Expr → Suffix → Reader (Maybe Operand)
+absoluteSize s e bare = answer (some (O.absolute e 0 (span (s .start) (spanE e .end))))
+absoluteSize s e (suffixed size t) = answer (some (O.absolute e size (span (s .start) (t .end))))
 
-unfoldable pub finishExpressionOperand : ℕ → Expr → Reader (Maybe Operand)
-finishExpressionOperand o e = takeSizeSuffix (spanE e .start) >>= absoluteSize o e
+unfoldable pub finishExpressionOperand : Setting → Expr → Reader (Maybe Operand)
+finishExpressionOperand s e = takeSizeSuffix (spanE e .start) >>= absoluteSize s e
 
 -- the tail `(An)`, `(An,Xn)`, `(pc)`, `(pc,Xn)` behind a displacement, or no tail
-unfoldable pub displacementTail : Setting → ℕ → Expr → (Unit {0} → Reader (Maybe Operand)) → Reader (Maybe Operand)
-displacementTail s o e miss = bump (is Kinds.leftParen) (λ k x. parseBaseAndIndex s o k (displaced e 0)) miss
+unfoldable pub displacementTail : Setting → Expr → (Unit {0} → Reader (Maybe Operand)) → Reader (Maybe Operand)
+displacementTail s e miss = bump (is Kinds.leftParen) (λ k x. parseBaseAndIndex s k (displaced e 0)) miss
 
 -- ---- parse_expression_operand
 
-unfoldable pub expressionOperand : Setting → ℕ → Term → Reader (Maybe Operand)
-expressionOperand s o (read e) = displacementTail s o e λ u. finishExpressionOperand o e
-expressionOperand s o reported = answer none
-expressionOperand s o absent =
-    peek 0 any (λ k x. raise (unexpectedTokenInOperand (spanOf k)) (answer none)) λ u.
-    raise (operandExpected (empty o)) (answer none)
+-- behind the expression e
+abbrev pub displacedOrAbsolute : Setting → Expr → Reader (Maybe Operand)
+displacedOrAbsolute s e = displacementTail s e λ u. finishExpressionOperand s e
 
-unfoldable pub parseExpressionOperand : Setting → ℕ → Reader (Maybe Operand)
-parseExpressionOperand s o = parseExpression (s .limit) >>= expressionOperand s o
+-- no expression stands at the cursor
+unfoldable pub noExpression : Setting → Reader (Maybe Operand)
+noExpression s =
+    peek 0 any (λ k x. raise (unexpectedTokenInOperand (spanOf k)) (answer none)) λ u.
+    raise (operandExpected (empty (s .start))) (answer none)
+
+unfoldable pub expressionOperand : Setting → Term → Reader (Maybe Operand)
+expressionOperand s (read e) = displacedOrAbsolute s e
+expressionOperand s reported = answer none
+expressionOperand s absent = noExpression s
+
+unfoldable pub parseExpressionOperand : Setting → Reader (Maybe Operand)
+parseExpressionOperand s = parseExpression (s .limit) >>= expressionOperand s

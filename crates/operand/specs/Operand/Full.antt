@@ -29,34 +29,40 @@ unfoldable pub indexAlone : BaseRegister → Maybe IndexRegister → Reader (May
 indexAlone base (some x) = answer (some (registers base (Index.Indexed x)))
 indexAlone base none = answer none
 
--- behind a base: a comma and an index, or neither
-unfoldable pub afterBaseRegister : Setting → ℕ → ℕ → BaseRegister → Reader (Maybe Registers)
-afterBaseRegister s o shape base =
+-- the index at the cursor, with this base
+abbrev pub withIndex : Setting → ℕ → BaseRegister → Reader (Maybe Registers)
+withIndex s shape base = parseIndexRegister s shape >>= indexAlone base
+
+-- a comma and an index, or neither
+abbrev pub commaAndIndex : Setting → ℕ → BaseRegister → Reader (Maybe Registers)
+commaAndIndex s shape base = bump (is Kinds.comma) (λ c y. withIndex s shape base) λ u. answer (some (registers base Index.Unindexed))
+
+unfoldable pub afterBaseRegister : Setting → ℕ → BaseRegister → Reader (Maybe Registers)
+afterBaseRegister s shape base =
     here λ i l.
-    peek 1 (anIndex s (i + 1))
-    (λ t x. bump (is Kinds.comma) (λ c y. parseIndexRegister s o shape >>= indexAlone base) λ u. answer (some (registers base Index.Unindexed))) λ u.
+    peek 1 (anIndex s (i + 1)) (λ t x. commaAndIndex s shape base) λ u.
     answer (some (registers base Index.Unindexed))
 
 -- a size or a scale makes an address register an index
 unfoldable pub sizeOrScale : Test
 sizeOrScale t x = either (eqb (t .kind) Kinds.sizeSuffix) (eqb (t .kind) Kinds.star)
 
-unfoldable pub noBase : Setting → ℕ → ℕ → Reader (Maybe Registers)
-noBase s o shape =
+unfoldable pub noBase : Setting → ℕ → Reader (Maybe Registers)
+noBase s shape =
     here λ i l.
-    peek 0 (anIndex s i) (λ t x. parseIndexRegister s o shape >>= indexAlone BaseRegister.Omitted) λ u.
-    steppedOver o shape 11
+    peek 0 (anIndex s i) (λ t x. withIndex s shape BaseRegister.Omitted) λ u.
+    steppedOver s shape 11
 
 -- `base_at` and what follows it
-unfoldable pub parseBaseAndIndexRegisters : Setting → ℕ → ℕ → Reader (Maybe Registers)
-parseBaseAndIndexRegisters s o shape =
+unfoldable pub parseBaseAndIndexRegisters : Setting → ℕ → Reader (Maybe Registers)
+parseBaseAndIndexRegisters s shape =
     here λ i l.
-    bump aProgramCounter (λ t x. afterBaseRegister s o shape BaseRegister.ProgramCounter) λ u.
-    bump (unmarked s i λ z. both (isSuppressed z) (not (isSuppressedRegister z))) (λ t x. afterBaseRegister s o shape BaseRegister.SuppressedProgramCounter) λ u.
-    peek 1 sizeOrScale (λ k y. noBase s o shape) λ u.
-    bump anAddressRegister (λ t x. afterBaseRegister s o shape (BaseRegister.Address (registerFrom t x))) λ u.
-    bump (unmarked s i isSuppressedAddress) (λ t x. afterBaseRegister s o shape (BaseRegister.SuppressedAddress (suppressedIndex (suppressedOf x) - 8))) λ u.
-    noBase s o shape
+    bump aProgramCounter (λ t x. afterBaseRegister s shape BaseRegister.ProgramCounter) λ u.
+    bump (unmarked s i λ z. both (isSuppressed z) (not (isSuppressedRegister z))) (λ t x. afterBaseRegister s shape BaseRegister.SuppressedProgramCounter) λ u.
+    peek 1 sizeOrScale (λ k y. noBase s shape) λ u.
+    bump anAddressRegister (λ t x. afterBaseRegister s shape (BaseRegister.Address (registerFrom t x))) λ u.
+    bump (unmarked s i isSuppressedAddress) (λ t x. afterBaseRegister s shape (BaseRegister.SuppressedAddress (suppressedIndex (suppressedOf x) - 8))) λ u.
+    noBase s shape
 
 -- ---- starts_a_full_index
 
@@ -74,13 +80,13 @@ startsAFullIndex s hit miss =
 
 -- ---- parse_full_index
 
-unfoldable pub fullIndexed : ℕ → Displacement → Registers → Maybe ℕ → Reader (Maybe Operand)
-fullIndexed o d r (some e) = answer (some (O.fullIndex d (r .base) (r .index) 0 undisplaced (span o e)))
-fullIndexed o d r none = answer none
+unfoldable pub fullIndexed : Setting → Displacement → Registers → Maybe ℕ → Reader (Maybe Operand)
+fullIndexed s d r (some e) = answer (some (O.fullIndex d (r .base) (r .index) 0 undisplaced (span (s .start) e)))
+fullIndexed s d r none = answer none
 
-unfoldable pub closedRegisters : ℕ → Token → Displacement → Maybe Registers → Reader (Maybe Operand)
-closedRegisters o k d (some r) = expectClose o k 6 >>= fullIndexed o d r
-closedRegisters o k d none = answer none
+unfoldable pub closedRegisters : Setting → Token → Displacement → Maybe Registers → Reader (Maybe Operand)
+closedRegisters s k d (some r) = expectClose s k 6 >>= fullIndexed s d r
+closedRegisters s k d none = answer none
 
-unfoldable pub parseFullIndex : Setting → ℕ → Token → Displacement → Reader (Maybe Operand)
-parseFullIndex s o k d = parseBaseAndIndexRegisters s o 6 >>= closedRegisters o k d
+unfoldable pub parseFullIndex : Setting → Token → Displacement → Reader (Maybe Operand)
+parseFullIndex s k d = parseBaseAndIndexRegisters s 6 >>= closedRegisters s k d

@@ -26,33 +26,33 @@ abbrev pub withScale : IndexRegister → ℕ → ℕ → IndexRegister
 withScale x v e = record { register = x .register; size = x .size; scale = v; suppressed = x .suppressed; span = span (x .span .start) e }
 
 -- the index register, once its scale's value is known
-unfoldable pub scaled : ℕ → ℕ → IndexRegister → Token → ℕ → Reader (Maybe IndexRegister)
-scaled o shape x k v = choose (scaleOf v) (answer (some (withScale x v (k .end)))) (malformed o shape 7)
+unfoldable pub scaled : Setting → ℕ → IndexRegister → Token → ℕ → Reader (Maybe IndexRegister)
+scaled s shape x k v = choose (scaleOf v) (answer (some (withScale x v (k .end)))) (malformed s shape 7)
 
 -- behind the number of a scale
-abbrev pub scaleValue : ℕ → ℕ → IndexRegister → Token → List ℕ → Reader (Maybe IndexRegister)
-scaleValue o shape x k z = valued k (numberOf (k .detail) z) >>= scaled o shape x k
+abbrev pub scaleValue : Setting → ℕ → IndexRegister → Token → List ℕ → Reader (Maybe IndexRegister)
+scaleValue s shape x k z = valued k (numberOf (k .detail) z) >>= scaled s shape x k
 
-unfoldable pub indexScale : ℕ → ℕ → IndexRegister → Reader (Maybe IndexRegister)
-indexScale o shape x =
+unfoldable pub indexScale : Setting → ℕ → IndexRegister → Reader (Maybe IndexRegister)
+indexScale s shape x =
     bump (is Kinds.star)
     (λ star y.
-    bump (is Kinds.number) (λ k z. scaleValue o shape x k z) λ u.
-    steppedOver o shape 7) λ u.
+    bump (is Kinds.number) (λ k z. scaleValue s shape x k z) λ u.
+    steppedOver s shape 7) λ u.
     answer (some x)
 
-unfoldable pub indexSize : ℕ → ℕ → Register → Bool → Suffix → Reader (Maybe IndexRegister)
-indexSize o shape r suppressed bare = indexScale o shape (record { register = r; size = 0; scale = 0; suppressed = suppressed; span = r .span })
-indexSize o shape r suppressed (suffixed size s) =
-    indexScale o shape (record { register = r; size = size; scale = 0; suppressed = suppressed; span = span (r .span .start) (s .end) })
+unfoldable pub indexSize : Setting → ℕ → Register → Bool → Suffix → Reader (Maybe IndexRegister)
+indexSize s shape r suppressed bare = indexScale s shape (record { register = r; size = 0; scale = 0; suppressed = suppressed; span = r .span })
+indexSize s shape r suppressed (suffixed size t) =
+    indexScale s shape (record { register = r; size = size; scale = 0; suppressed = suppressed; span = span (r .span .start) (t .end) })
 
-unfoldable pub indexRegister : ℕ → ℕ → Register → Bool → Reader (Maybe IndexRegister)
-indexRegister o shape r suppressed = takeSizeSuffix (r .span .start) >>= indexSize o shape r suppressed
+unfoldable pub indexRegister : Setting → ℕ → Register → Bool → Reader (Maybe IndexRegister)
+indexRegister s shape r suppressed = takeSizeSuffix (r .span .start) >>= indexSize s shape r suppressed
 
-unfoldable pub parseIndexRegister : Setting → ℕ → ℕ → Reader (Maybe IndexRegister)
-parseIndexRegister s o shape =
+unfoldable pub parseIndexRegister : Setting → ℕ → Reader (Maybe IndexRegister)
+parseIndexRegister s shape =
     here λ i l.
-    bump aRegister (λ t x. indexRegister o shape (registerFrom t x) false) λ u.
+    bump aRegister (λ t x. indexRegister s shape (registerFrom t x) false) λ u.
     bump (unmarked s i isSuppressedRegister)
-    (λ t x. indexRegister o shape (record { index = suppressedIndex (suppressedOf x); span = spanOf t }) true) λ u.
-    steppedOver o shape 6
+    (λ t x. indexRegister s shape (record { index = suppressedIndex (suppressedOf x); span = spanOf t }) true) λ u.
+    steppedOver s shape 6

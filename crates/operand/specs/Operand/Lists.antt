@@ -5,10 +5,10 @@ use Prim.Native.Nat.{ℕ, zero, suc}
 use lib.Dec.{eqb, leb, ltb}
 use Rattle.names.specs.Choice.{pick, either}
 use Rattle.names.specs.Kinds
-use Rattle.names.specs.declared.tokens.Token.{Token}
 use Rattle.records.specs.Spans.{span, empty, spanOf}
 use Rattle.records.specs.declared.spans.Span.{Span}
 use Rattle.records.specs.Diagnostics.{registerExpectedInRegisterList, registerRangeOutOfOrder}
+use Rattle.expressions.specs.declared.reading.Setting.{Setting}
 use Rattle.expressions.specs.Reader.{is, any, Reader, answer, here, raise, bump, peek, _>>=_, choose}
 use Rattle.expressions.specs.Expressions.{fuel}
 use Rattle.operand.specs.Operands.{RegisterListItem, single, range, Operand, Maybe, some, none}
@@ -37,29 +37,29 @@ listItem r =
     answer (some (single r))
 
 -- the items so far, the last first; the list ends where the last token ended
-unfoldable pub listed : ℕ → List RegisterListItem → Reader (Maybe Operand)
-listed o items = here λ i l. answer (some (O.registerList items (span o l)))
+unfoldable pub listed : Setting → List RegisterListItem → Reader (Maybe Operand)
+listed s items = here λ i l. answer (some (O.registerList items (span (s .start) l)))
 
-unfoldable pub nextItem : (List RegisterListItem → Register → Reader (Maybe Operand)) → ℕ → List RegisterListItem → Maybe RegisterListItem → Reader (Maybe Operand)
-nextItem again o items (some item) =
+unfoldable pub nextItem : (List RegisterListItem → Register → Reader (Maybe Operand)) → Setting → List RegisterListItem → Maybe RegisterListItem → Reader (Maybe Operand)
+nextItem again s items (some item) =
     bump (is Kinds.slash) (λ k x. bump aRegister (λ t y. again (items ++ (item ∷ [])) (registerFrom t y)) λ u. registerExpected 47) λ u.
-    listed o (items ++ (item ∷ []))
-nextItem again o items none = answer none
+    listed s (items ++ (item ∷ []))
+nextItem again s items none = answer none
 
-unfoldable pub listLoop : ℕ → ℕ → List RegisterListItem → Register → Reader (Maybe Operand)
-listLoop zero o items r = listed o (items ++ (single r ∷ []))
-listLoop (suc fuel) o items r = listItem r >>= nextItem (listLoop fuel o) o items
+unfoldable pub listLoop : ℕ → Setting → List RegisterListItem → Register → Reader (Maybe Operand)
+listLoop zero s items r = listed s (items ++ (single r ∷ []))
+listLoop (suc fuel) s items r = listItem r >>= nextItem (listLoop fuel s) s items
 
-unfoldable pub parseRegisterList : ℕ → Register → Reader (Maybe Operand)
-parseRegisterList o r = listLoop fuel o [] r
+unfoldable pub parseRegisterList : Setting → Register → Reader (Maybe Operand)
+parseRegisterList s r = listLoop fuel s [] r
 
 -- ---- parse_register_operand
 
 unfoldable pub registerDirect : Register → Span → Operand
 registerDirect r s = pick (leb 8 (r .index)) (O.addressRegisterDirect r s) (O.dataRegisterDirect r s)
 
-unfoldable pub parseRegisterOperand : ℕ → Token → List ℕ → Reader (Maybe Operand)
-parseRegisterOperand o t x =
-    let r = registerFrom t x in
-    peek 0 (λ k y. either (eqb (k .kind) Kinds.minus) (eqb (k .kind) Kinds.slash)) (λ k y. parseRegisterList o r) λ u.
-    answer (some (registerDirect r (spanOf t)))
+-- the register r, or a list that begins with it
+unfoldable pub parseRegisterOperand : Setting → Register → Reader (Maybe Operand)
+parseRegisterOperand s r =
+    peek 0 (λ k y. either (eqb (k .kind) Kinds.minus) (eqb (k .kind) Kinds.slash)) (λ k y. parseRegisterList s r) λ u.
+    answer (some (registerDirect r (r .span)))

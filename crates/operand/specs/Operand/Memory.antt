@@ -23,15 +23,15 @@ use Rattle.operand.specs.Operand.Full.{registers, parseBaseAndIndexRegis
 
 unfoldable pub sized : Expr → Suffix → Reader (Maybe Displacement)
 sized e bare = answer (some (displaced e 0))
-sized e (suffixed size s) = answer (some (displaced e size))
+sized e (suffixed size t) = answer (some (displaced e size))
 
-unfoldable pub displacementValue : ℕ → Term → Reader (Maybe Displacement)
-displacementValue o (read e) = takeSizeSuffix (spanE e .start) >>= sized e
-displacementValue o reported = answer none
-displacementValue o absent = steppedOver o 9 10
+unfoldable pub displacementValue : Setting → Term → Reader (Maybe Displacement)
+displacementValue s (read e) = takeSizeSuffix (spanE e .start) >>= sized e
+displacementValue s reported = answer none
+displacementValue s absent = steppedOver s 9 10
 
-unfoldable pub parseSizedDisplacement : Setting → ℕ → Reader (Maybe Displacement)
-parseSizedDisplacement s o = parseExpression (s .limit) >>= displacementValue o
+unfoldable pub parseSizedDisplacement : Setting → Reader (Maybe Displacement)
+parseSizedDisplacement s = parseExpression (s .limit) >>= displacementValue s
 
 -- ---- parse_memory_indirect
 
@@ -50,18 +50,26 @@ unfoldable pub innerRegisters : Displacement → Maybe Registers → Reader (May
 innerRegisters d (some r) = answer (some (inner d r))
 innerRegisters d none = answer none
 
-unfoldable pub innerDisplaced : Setting → ℕ → Maybe Displacement → Reader (Maybe Inner)
-innerDisplaced s o (some d) =
-    bump (is Kinds.comma) (λ c x. parseBaseAndIndexRegisters s o 9 >>= innerRegisters d) λ u.
-    answer (some (inner d noRegisters))
-innerDisplaced s o none = answer none
+-- the registers at the cursor, with this displacement
+abbrev pub withRegisters : Setting → Displacement → Reader (Maybe Inner)
+withRegisters s d = parseBaseAndIndexRegisters s 9 >>= innerRegisters d
 
-unfoldable pub parseInner : Setting → ℕ → Reader (Maybe Inner)
-parseInner s o =
+unfoldable pub innerDisplaced : Setting → Maybe Displacement → Reader (Maybe Inner)
+innerDisplaced s (some d) =
+    bump (is Kinds.comma) (λ c x. withRegisters s d) λ u.
+    answer (some (inner d noRegisters))
+innerDisplaced s none = answer none
+
+-- a displacement, and what follows it
+abbrev pub innerDisplacement : Setting → Reader (Maybe Inner)
+innerDisplacement s = parseSizedDisplacement s >>= innerDisplaced s
+
+unfoldable pub parseInner : Setting → Reader (Maybe Inner)
+parseInner s =
     here λ i l.
     peek 0 (is Kinds.rightBracket) (λ k x. answer (some (inner undisplaced noRegisters))) λ u.
-    peek 0 (aBaseOrAnIndex s i) (λ t x. parseBaseAndIndexRegisters s o 9 >>= innerRegisters undisplaced) λ u.
-    parseSizedDisplacement s o >>= innerDisplaced s o
+    peek 0 (aBaseOrAnIndex s i) (λ t x. withRegisters s undisplaced) λ u.
+    innerDisplacement s
 
 -- what stands behind them: the index, the indirection and the outer displacement
 pub record Outer : Type 0 where
@@ -76,41 +84,52 @@ unfoldable pub outerDisplaced : Index → ℕ → Maybe Displacement → Reader 
 outerDisplaced x n (some d) = answer (some (outer x n d))
 outerDisplaced x n none = answer none
 
-unfoldable pub outerIndexed : Setting → ℕ → Maybe IndexRegister → Reader (Maybe Outer)
-outerIndexed s o (some x) =
-    bump (is Kinds.comma) (λ c y. parseSizedDisplacement s o >>= outerDisplaced (Index.Indexed x) 2) λ u.
+abbrev pub outerDisplacement : Setting → Index → ℕ → Reader (Maybe Outer)
+outerDisplacement s x n = parseSizedDisplacement s >>= outerDisplaced x n
+
+unfoldable pub outerIndexed : Setting → Maybe IndexRegister → Reader (Maybe Outer)
+outerIndexed s (some x) =
+    bump (is Kinds.comma) (λ c y. outerDisplacement s (Index.Indexed x) 2) λ u.
     answer (some (outer (Index.Indexed x) 2 undisplaced))
-outerIndexed s o none = answer none
+outerIndexed s none = answer none
 
 -- an index goes inside the brackets or behind them, not both
-unfoldable pub outerIndex : Setting → ℕ → Index → Reader (Maybe Outer)
-outerIndex s o (Index.Indexed x) = steppedOver o 9 9
-outerIndex s o Index.Unindexed = parseIndexRegister s o 9 >>= outerIndexed s o
+unfoldable pub outerIndex : Setting → Index → Reader (Maybe Outer)
+outerIndex s (Index.Indexed x) = steppedOver s 9 9
+outerIndex s Index.Unindexed = parseIndexRegister s 9 >>= outerIndexed s
 
-unfoldable pub parseOuter : Setting → ℕ → Index → Reader (Maybe Outer)
-parseOuter s o x =
+unfoldable pub parseOuter : Setting → Index → Reader (Maybe Outer)
+parseOuter s x =
     bump (is Kinds.comma)
     (λ c y.
     here λ i l.
-    peek 0 (anIndex s i) (λ t z. outerIndex s o x) λ u.
-    parseSizedDisplacement s o >>= outerDisplaced x 1) λ u.
+    peek 0 (anIndex s i) (λ t z. outerIndex s x) λ u.
+    outerDisplacement s x 1) λ u.
     answer (some (outer x 1 undisplaced))
 
-unfoldable pub memoryIndirect : ℕ → Inner → Outer → Maybe ℕ → Reader (Maybe Operand)
-memoryIndirect o n u (some e) =
-    answer (some (O.fullIndex (n .displacement) (n .registers .base) (u .index) (u .indirection) (u .displacement) (span o e)))
-memoryIndirect o n u none = answer none
+unfoldable pub memoryIndirect : Setting → Inner → Outer → Maybe ℕ → Reader (Maybe Operand)
+memoryIndirect s n u (some e) =
+    answer (some (O.fullIndex (n .displacement) (n .registers .base) (u .index) (u .indirection) (u .displacement) (span (s .start) e)))
+memoryIndirect s n u none = answer none
 
-unfoldable pub outerClosed : ℕ → Token → Inner → Maybe Outer → Reader (Maybe Operand)
-outerClosed o k n (some u) = expectClose o k 9 >>= memoryIndirect o n u
-outerClosed o k n none = answer none
+-- the parenthesis
+abbrev pub closeIndirect : Setting → Token → Inner → Outer → Reader (Maybe Operand)
+closeIndirect s k n u = expectClose s k 9 >>= memoryIndirect s n u
 
-unfoldable pub innerClosed : Setting → ℕ → Token → Maybe Inner → Reader (Maybe Operand)
-innerClosed s o k (some n) =
-    bump (is Kinds.rightBracket) (λ c x. parseOuter s o (n .registers .index) >>= outerClosed o k n) λ u.
-    unclosed o k 9 8
-innerClosed s o k none = answer none
+unfoldable pub outerClosed : Setting → Token → Inner → Maybe Outer → Reader (Maybe Operand)
+outerClosed s k n (some u) = closeIndirect s k n u
+outerClosed s k n none = answer none
+
+-- behind the bracket that closes the inner part
+abbrev pub afterInner : Setting → Token → Inner → Reader (Maybe Operand)
+afterInner s k n = parseOuter s (n .registers .index) >>= outerClosed s k n
+
+unfoldable pub innerClosed : Setting → Token → Maybe Inner → Reader (Maybe Operand)
+innerClosed s k (some n) =
+    bump (is Kinds.rightBracket) (λ c x. afterInner s k n) λ u.
+    unclosed s k 9 8
+innerClosed s k none = answer none
 
 -- the cursor is behind the bracket
-unfoldable pub parseMemoryIndirect : Setting → ℕ → Token → Reader (Maybe Operand)
-parseMemoryIndirect s o k = parseInner s o >>= innerClosed s o k
+unfoldable pub parseMemoryIndirect : Setting → Token → Reader (Maybe Operand)
+parseMemoryIndirect s k = parseInner s >>= innerClosed s k

@@ -1,4 +1,4 @@
--- `reader::text_at` meets its contract: what `token_at` gives says which case of `textAt` holds.
+-- `reader::text_at` meets its contract: what `lent_token_at` gives says which case of `textAt` holds.
 -- Assumes nothing.
 use mathlib.Core.Path.{sym, _∙_}
 use Rattle.reader.specs.Cursor.{text-there, text-nowhere}
@@ -6,8 +6,8 @@ use borrow.Author.Needs.{needs}
 use Rattle.reader.proofs.text_at.Statement.{statement}
 use Rattle.reader.proofs.text_at.Tie as tie
 
-token-at-requires : tie.Need-token-at-requires
-token-at-requires c κs = search needs
+lent-token-at-requires : tie.Need-lent-token-at-requires
+lent-token-at-requires c κs = search needs
 
 enum-known-token : tie.Need-enum-known-token
 enum-known-token c = search needs
@@ -30,21 +30,21 @@ part-result-end c = search needs
 returns : tie.Need-returns
 returns c =
     let c-text-of = c .text-of in
-    let c-token-at = c .before .before .before .before .token-at in
+    let c-lent-token-at = c .before .before .before .before .lent-token-at in
     let c-token = c .before .before .token in
-    c-text-of .ensures ∙ sym (text-there _ _ _ _ (sym (c-token-at .ensures) ∙ c-token .given .1))
+    c-text-of .ensures ∙ sym (text-there _ _ _ _ (sym (c-lent-token-at .ensures) ∙ c-token .given .1))
 
 returns-2 : tie.Need-returns-2
 returns-2 c =
-    let c-token-at = c .before .before .before .token-at in
+    let c-lent-token-at = c .before .before .before .lent-token-at in
     let c-enum-told = c .before .enum-told in
-    sym (text-nowhere _ _ _ (sym (c-token-at .ensures) ∙ c-enum-told .given .1))
+    sym (text-nowhere _ _ _ (sym (c-lent-token-at .ensures) ∙ c-enum-told .given .1))
 
 pub text-at-spec : {M : Type 1} → statement M
 text-at-spec =
     tie.close
     (tie.spec
-    token-at-requires
+    lent-token-at-requires
     enum-known-token
     text-of-requires
     enum-told

@@ -1,48 +1,25 @@
 -- `entry::call::parse_operand` meets its contract.
 -- Assumes nothing.
-use mathlib.Core.Path.{refl, sym, _∙_}
+use mathlib.Core.Path.{sym, _∙_}
 use native.Mathlib.Omega.{arith}
 use Rattle.operand.specs.Entry.{Input, call}
-use Rattle.operand.specs.Conditions.{Valid}
-use Rattle.entry.proofs.Outcomes.{entry-room, refused, no-token}
+use Rattle.entry.proofs.Refusals.{whole-list, line-refused}
 use borrow.Author.Needs.{needs}
 use Rattle.entry.proofs.call.parse_operand.Statement.{statement}
 use Rattle.entry.proofs.call.parse_operand.Tie as tie
 
-refusal-requires : tie.Need-refusal-requires
-refusal-requires c κs = search needs
+refuse-line-and-list-requires : tie.Need-refuse-line-and-list-requires
+refuse-line-and-list-requires c κs = search needs
 
 returns : tie.Need-returns
 returns c =
     let c-args = c .before .before .before .before .before .before .args in
-    let c-refusal = c .before .refusal in
+    let c-refuse-line-and-list = c .before .refuse-line-and-list in
     let c-if1 = c .if1 in
-    let a : Input = call (c-args .line .now) (c-args .tokens .now) (c-args .start) (c-args .mark) (c-args .nodes .now) (c-args .diagnostics .now) (c-args .used) in let n = c-refusal .ensures a refl refl refl refl refl refl in refused a n (λ e. omega (arith, c-if1 .taken))
+    let a : Input = call (c-args .line .now) (c-args .tokens .now) (c-args .start) (c-args .mark) (c-args .nodes .now) (c-args .diagnostics .now) (c-args .used) in line-refused a (c-refuse-line-and-list .ensures) (λ e. omega (arith, c-if1 .taken))
 
-token-at-requires : tie.Need-token-at-requires
-token-at-requires c κs = search needs
-
-enum-known-p : tie.Need-enum-known-p
-enum-known-p c = search needs
-
-read-operand-requires : tie.Need-read-operand-requires
-read-operand-requires c κs =
-    let c-args = c .before .before .before .before .before .before .before .before .before .before .before .before .args in
-    let c-refusal = c .before .before .before .before .before .before .before .refusal in
-    let c-if1 = c .before .before .before .before .before .before .if1 in
-    let c-token-at = c .before .before .before .before .before .token-at in
-    let c-p = c .before .before .before .p in
-    let a : Input = call (c-args .line .now) (c-args .tokens .now) (c-args .start) (c-args .mark) (c-args .nodes .now) (c-args .diagnostics .now) (c-args .used) in let n = c-refusal .ensures a refl refl refl refl refl refl in let v : Valid a = sym n ∙ omega (arith, c-if1 .left) in (v, sym (c-token-at .ensures) ∙ c-p .given .1)
-
-enum-told : tie.Need-enum-told
-enum-told c = search needs
-
-no-operand-requires : tie.Need-no-operand-requires
-no-operand-requires c κs =
-    let c-args = c .before .before .before .before .before .before .before .before .before .before .args in
-    let c-refusal = c .before .before .before .before .before .refusal in
-    let c-if1 = c .before .before .before .before .if1 in
-    let a : Input = call (c-args .line .now) (c-args .tokens .now) (c-args .start) (c-args .mark) (c-args .nodes .now) (c-args .diagnostics .now) (c-args .used) in let n = c-refusal .ensures a refl refl refl refl refl refl in let v : Valid a = sym n ∙ omega (arith, c-if1 .left) in omega (arith, entry-room a v .nodesLong)
+read-16-requires : tie.Need-read-16-requires
+read-16-requires c κs = search needs
 
 same-length : tie.Need-same-length
 same-length c = search needs
@@ -51,36 +28,51 @@ same-length-2 : tie.Need-same-length-2
 same-length-2 c = search needs
 
 returns-2 : tie.Need-returns-2
-returns-2 c =
-    let c-read-operand = c .before .before .before .before .read-operand in
-    c-read-operand .ensures
+returns-2 c = search needs
+
+read-64-requires : tie.Need-read-64-requires
+read-64-requires c κs = search needs
 
 same-length-3 : tie.Need-same-length-3
 same-length-3 c = search needs
 
+same-length-4 : tie.Need-same-length-4
+same-length-4 c = search needs
+
 returns-3 : tie.Need-returns-3
-returns-3 c =
-    let c-args = c .before .before .before .before .before .before .before .before .before .before .before .before .before .args in
-    let c-refusal = c .before .before .before .before .before .before .before .before .refusal in
-    let c-if1 = c .before .before .before .before .before .before .before .if1 in
-    let c-token-at = c .before .before .before .before .before .before .token-at in
-    let c-enum-told = c .before .before .before .before .enum-told in
-    let c-no-operand = c .before .before .no-operand in
-    let a : Input = call (c-args .line .now) (c-args .tokens .now) (c-args .start) (c-args .mark) (c-args .nodes .now) (c-args .diagnostics .now) (c-args .used) in let n = c-refusal .ensures a refl refl refl refl refl refl in let v : Valid a = sym n ∙ omega (arith, c-if1 .left) in no-token a v (sym (c-token-at .ensures) ∙ c-enum-told .given .1) (c-no-operand .ensures)
+returns-3 c = search needs
+
+read-255-requires : tie.Need-read-255-requires
+read-255-requires c κs =
+    let c-refuse-line-and-list = c .before .before .before .before .before .refuse-line-and-list in
+    let c-if1 = c .before .before .before .before .if1 in
+    let c-args = c .before .before .before .before .before .before .before .before .before .before .args in
+    record { passed = sym (c-refuse-line-and-list .ensures) ∙ omega (arith, c-if1 .left); few = whole-list (c-args .line .now) (c-args .tokens .now) (sym (c-refuse-line-and-list .ensures) ∙ omega (arith, c-if1 .left)) .1 }
+
+same-length-5 : tie.Need-same-length-5
+same-length-5 c = search needs
+
+same-length-6 : tie.Need-same-length-6
+same-length-6 c = search needs
+
+returns-4 : tie.Need-returns-4
+returns-4 c = search needs
 
 pub parse-operand-spec : {M : Type 1} → statement M
 parse-operand-spec =
     tie.close
     (tie.spec
-    refusal-requires
+    refuse-line-and-list-requires
     returns
-    token-at-requires
-    enum-known-p
-    read-operand-requires
-    enum-told
-    no-operand-requires
+    read-16-requires
     same-length
     same-length-2
     returns-2
+    read-64-requires
     same-length-3
-    returns-3)
+    same-length-4
+    returns-3
+    read-255-requires
+    same-length-5
+    same-length-6
+    returns-4)

@@ -1,48 +1,67 @@
 -- `entry::call::read_operand` meets its contract.
 -- Assumes nothing.
-use mathlib.Core.Path.{refl}
 use native.Mathlib.Omega.{arith}
+use borrow.Author.Tests.{not-true, not-false}
 use Rattle.operand.specs.Entry.{Input, call}
-use Rattle.entry.proofs.Outcomes.{entry-room, counted, no-operand, an-operand}
+use Rattle.entry.proofs.Refusals.{whole-list, decoded-good, token-refused, store-refused, valid}
+use Rattle.entry.proofs.Outcomes.{never-unfit, is-read}
 use borrow.Author.Needs.{needs}
 use Rattle.entry.proofs.call.read_operand.Statement.{statement}
 use Rattle.entry.proofs.call.read_operand.Tie as tie
 
-operand-at-requires : tie.Need-operand-at-requires
-operand-at-requires c κs =
-    let c-args = c .before .before .before .before .before .before .args in
-    let c-pre = c .before .before .before .before .before .before .pre in
-    let a : Input = call (c-args .line .now) (c-args .tokens .now) (c-args .start) (c-args .mark) (c-args .nodes .now) (c-args .diagnostics .now) (c-args .used) in let v = c-pre .0 in (entry-room a v, refl, c-pre .1, omega arith)
-
-sub-added : tie.Need-sub-added
-sub-added c =
-    let c-args = c .before .before .before .before .before .before .before .before .before .before .before .before .before .args in
-    let c-pre = c .before .before .before .before .before .before .before .before .before .before .before .before .before .pre in
-    let c-operand-at = c .before .before .before .before .before .before .operand-at in
-    let a : Input = call (c-args .line .now) (c-args .tokens .now) (c-args .start) (c-args .mark) (c-args .nodes .now) (c-args .diagnostics .now) (c-args .used) in let v = c-pre .0 in omega (arith, counted a v (c-pre .1) (c-operand-at .ensures))
-
-enum-known-read : tie.Need-enum-known-read
-enum-known-read c = search needs
-
-cast-t21 : tie.Need-cast-t21
-cast-t21 c = search needs
-
-enum-told : tie.Need-enum-told
-enum-told c = search needs
+decode-tokens-requires : tie.Need-decode-tokens-requires
+decode-tokens-requires c κs = search needs
 
 same-length : tie.Need-same-length
 same-length c = search needs
 
+returns : tie.Need-returns
+returns c =
+    let c-args = c .before .before .before .before .before .before .before .before .before .before .before .before .args in
+    let c-pre = c .before .before .before .before .before .before .before .before .before .before .before .before .pre in
+    let c-decode-tokens = c .before .before .before .decode-tokens in
+    let c-if1 = c .if1 in
+    let a : Input = call (c-args .line .now) (c-args .tokens .now) (c-args .start) (c-args .mark) (c-args .nodes .now) (c-args .diagnostics .now) (c-args .used) in token-refused a (c-pre .passed) (decoded-good _ _ _ _ _ _ (c-decode-tokens .ensures) (c-pre .tokens) (not-true _ (c-if1 .taken)))
+
+refuse-start-and-stores-requires : tie.Need-refuse-start-and-stores-requires
+refuse-start-and-stores-requires c κs = search needs
+
 same-length-2 : tie.Need-same-length-2
 same-length-2 c = search needs
 
-returns : tie.Need-returns
-returns c =
-    let c-args = c .before .before .before .before .before .before .before .before .before .before .before .before .before .before .before .before .before .args in
-    let c-pre = c .before .before .before .before .before .before .before .before .before .before .before .before .before .before .before .before .before .pre in
-    let c-operand-at = c .before .before .before .before .before .before .before .before .before .before .operand-at in
-    let c-read = c .before .before .read in
-    let a : Input = call (c-args .line .now) (c-args .tokens .now) (c-args .start) (c-args .mark) (c-args .nodes .now) (c-args .diagnostics .now) (c-args .used) in let v = c-pre .0 in an-operand a v (c-pre .1) (c-operand-at .ensures) _ (c-read .given .1)
+returns-2 : tie.Need-returns-2
+returns-2 c =
+    let c-args = c .before .before .before .before .before .before .before .before .before .before .before .before .before .before .args in
+    let c-pre = c .before .before .before .before .before .before .before .before .before .before .before .before .before .before .pre in
+    let c-decode-tokens = c .before .before .before .before .before .decode-tokens in
+    let c-if1 = c .before .before .if1 in
+    let c-refuse-start-and-stores = c .before .refuse-start-and-stores in
+    let c-if2 = c .if2 in
+    let a : Input = call (c-args .line .now) (c-args .tokens .now) (c-args .start) (c-args .mark) (c-args .nodes .now) (c-args .diagnostics .now) (c-args .used) in store-refused a (c-pre .passed) (decoded-good _ _ _ _ _ _ (c-decode-tokens .ensures) (c-pre .tokens) (not-false _ (c-if1 .left))) (c-refuse-start-and-stores .ensures) (λ e. omega (arith, c-if2 .taken))
+
+sub-numbers : tie.Need-sub-numbers
+sub-numbers c = search needs
+
+part-numbers-start : tie.Need-part-numbers-start
+part-numbers-start c = search needs
+
+part-numbers-end : tie.Need-part-numbers-end
+part-numbers-end c =
+    let c-pre = c .before .before .before .before .before .before .before .before .before .before .before .before .before .before .before .pre in
+    let c-decode-tokens = c .before .before .before .before .before .before .decode-tokens in
+    omega (arith, whole-list _ _ (c-pre .passed) .0, c-pre .tokens, c-decode-tokens .kept)
+
+operand-at-requires : tie.Need-operand-at-requires
+operand-at-requires c κs = search needs
+
+enum-known-read : tie.Need-enum-known-read
+enum-known-read c = search needs
+
+answered-requires : tie.Need-answered-requires
+answered-requires c κs = search needs
+
+enum-told : tie.Need-enum-told
+enum-told c = search needs
 
 same-length-3 : tie.Need-same-length-3
 same-length-3 c = search needs
@@ -50,26 +69,73 @@ same-length-3 c = search needs
 same-length-4 : tie.Need-same-length-4
 same-length-4 c = search needs
 
-returns-2 : tie.Need-returns-2
-returns-2 c =
-    let c-args = c .before .before .before .before .before .before .before .before .before .before .before .before .before .before .before .args in
-    let c-pre = c .before .before .before .before .before .before .before .before .before .before .before .before .before .before .before .pre in
-    let c-operand-at = c .before .before .before .before .before .before .before .before .operand-at in
+same-length-5 : tie.Need-same-length-5
+same-length-5 c = search needs
+
+same-length-6 : tie.Need-same-length-6
+same-length-6 c = search needs
+
+same-length-7 : tie.Need-same-length-7
+same-length-7 c = search needs
+
+returns-3 : tie.Need-returns-3
+returns-3 c =
+    let c-args = c .before .before .before .before .before .before .before .before .before .before .before .before .before .before .before .before .before .before .before .before .before .before .before .before .before .before .before .before .before .before .before .before .before .before .before .args in
+    let c-pre = c .before .before .before .before .before .before .before .before .before .before .before .before .before .before .before .before .before .before .before .before .before .before .before .before .before .before .before .before .before .before .before .before .before .before .before .pre in
+    let c-decode-tokens = c .before .before .before .before .before .before .before .before .before .before .before .before .before .before .before .before .before .before .before .before .before .before .before .before .before .before .decode-tokens in
+    let c-if1 = c .before .before .before .before .before .before .before .before .before .before .before .before .before .before .before .before .before .before .before .before .before .before .before .if1 in
+    let c-refuse-start-and-stores = c .before .before .before .before .before .before .before .before .before .before .before .before .before .before .before .before .before .before .before .before .before .before .refuse-start-and-stores in
+    let c-if2 = c .before .before .before .before .before .before .before .before .before .before .before .before .before .before .before .before .before .before .before .before .before .if2 in
+    let c-operand-at = c .before .before .before .before .before .before .before .before .before .before .before .before .before .before .before .before .operand-at in
+    let c-read = c .before .before .before .before .before .before .before .before .before .before .read in
+    let c-answered = c .before .before .before .before .answered in
+    let a : Input = call (c-args .line .now) (c-args .tokens .now) (c-args .start) (c-args .mark) (c-args .nodes .now) (c-args .diagnostics .now) (c-args .used) in let v = valid a (c-pre .passed) (decoded-good _ _ _ _ _ _ (c-decode-tokens .ensures) (c-pre .tokens) (not-false _ (c-if1 .left))) (c-refuse-start-and-stores .ensures) (omega (arith, c-if2 .left)) in is-read a _ _ _ _ _ _ v (c-pre) (c-decode-tokens .ensures .numbers) _ (c-operand-at .ensures) _ (c-read .given .1) _ _ _ (c-answered .ensures)
+
+same-length-8 : tie.Need-same-length-8
+same-length-8 c = search needs
+
+same-length-9 : tie.Need-same-length-9
+same-length-9 c = search needs
+
+same-length-10 : tie.Need-same-length-10
+same-length-10 c = search needs
+
+returns-4 : tie.Need-returns-4
+returns-4 c =
+    let c-args = c .before .before .before .before .before .before .before .before .before .before .before .before .before .before .before .before .before .before .before .before .before .before .before .before .before .args in
+    let c-pre = c .before .before .before .before .before .before .before .before .before .before .before .before .before .before .before .before .before .before .before .before .before .before .before .before .before .pre in
+    let c-decode-tokens = c .before .before .before .before .before .before .before .before .before .before .before .before .before .before .before .before .decode-tokens in
+    let c-if1 = c .before .before .before .before .before .before .before .before .before .before .before .before .before .if1 in
+    let c-refuse-start-and-stores = c .before .before .before .before .before .before .before .before .before .before .before .before .refuse-start-and-stores in
+    let c-if2 = c .before .before .before .before .before .before .before .before .before .before .before .if2 in
+    let c-operand-at = c .before .before .before .before .before .before .operand-at in
     let c-enum-told = c .enum-told in
-    let a : Input = call (c-args .line .now) (c-args .tokens .now) (c-args .start) (c-args .mark) (c-args .nodes .now) (c-args .diagnostics .now) (c-args .used) in let v = c-pre .0 in no-operand a v (c-pre .1) (c-operand-at .ensures) (c-enum-told .given .1)
+    let a : Input = call (c-args .line .now) (c-args .tokens .now) (c-args .start) (c-args .mark) (c-args .nodes .now) (c-args .diagnostics .now) (c-args .used) in let v = valid a (c-pre .passed) (decoded-good _ _ _ _ _ _ (c-decode-tokens .ensures) (c-pre .tokens) (not-false _ (c-if1 .left))) (c-refuse-start-and-stores .ensures) (omega (arith, c-if2 .left)) in absurd (never-unfit a _ _ _ _ _ _ v (c-pre) (c-decode-tokens .ensures .numbers) _ (c-operand-at .ensures) (c-enum-told .given .1))
 
 pub read-operand-spec : {M : Type 1} → statement M
 read-operand-spec =
     tie.close
     (tie.spec
-    operand-at-requires
-    sub-added
-    enum-known-read
-    cast-t21
-    enum-told
+    decode-tokens-requires
     same-length
-    same-length-2
     returns
+    refuse-start-and-stores-requires
+    same-length-2
+    returns-2
+    sub-numbers
+    part-numbers-start
+    part-numbers-end
+    operand-at-requires
+    enum-known-read
+    answered-requires
+    enum-told
     same-length-3
     same-length-4
-    returns-2)
+    same-length-5
+    same-length-6
+    same-length-7
+    returns-3
+    same-length-8
+    same-length-9
+    same-length-10
+    returns-4)

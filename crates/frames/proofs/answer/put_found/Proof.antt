@@ -1,8 +1,9 @@
 -- `frames::answer::put_found` meets its contract.
 -- Assumes nothing.
-use mathlib.Core.Path.{sym, ap}
+use mathlib.Core.Path.{sym, _∙_, ap}
+use lib.ListN.{length}
 use native.Mathlib.Omega.{arith}
-use Rattle.layout.specs.Lengths.{length-twenty}
+use Rattle.operand.specs.Lengths.{length-bytes}
 use Rattle.frames.specs.Inner.{foundBytes}
 use Rattle.frames.proofs.Putting.{found-room}
 use borrow.Author.Needs.{needs}
@@ -53,7 +54,7 @@ put-parts-requires c κs =
     let c-args = c .before .before .before .before .before .before .before .before .before .before .before .args in
     let c-pre = c .before .before .before .before .before .before .before .before .before .before .before .pre in
     let c-operand-bytes = c .before .before .before .before .before .operand-bytes in
-    let e = found-room _ _ _ _ (c-args .x) (c-pre) in omega (arith, c-pre, length-twenty _ _ (c-operand-bytes .ensures), e .0, e .1)
+    let e = found-room _ _ _ _ (c-args .x) (c-pre) in omega (arith, c-pre, ap length (c-operand-bytes .ensures) ∙ length-bytes (c-args .x .operand), e .0, e .1)
 
 same-length : tie.Need-same-length
 same-length c = search needs

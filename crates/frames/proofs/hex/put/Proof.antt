@@ -21,7 +21,7 @@ loop-holds : tie.Need-loop-holds Inv-loop μ-loop
 unfolding digits
 loop-holds c =
     let c-pre = c .before .before .pre in
-    (omega arith, c-pre, refl, written-none _ _)
+    (omega arith, c-pre, refl, written-none _ _ (omega (arith, c-pre)))
 
 shared-slice-read-b : tie.Need-shared-slice-read-b Inv-loop μ-loop
 shared-slice-read-b c = search needs

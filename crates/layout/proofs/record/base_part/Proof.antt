@@ -1,8 +1,6 @@
 -- `layout::record::base_part` meets its contract.
 -- Assumes nothing.
-use native.Mathlib.Omega.{arith}
-use Rattle.operand.specs.Records.{basePart}
-use Rattle.layout.specs.Bases.{BaseFits}
+use Rattle.operand.specs.Layout.{basePart}
 use borrow.Author.Needs.{needs}
 use Rattle.layout.proofs.record.base_part.Statement.{statement}
 use Rattle.layout.proofs.record.base_part.Tie as tie
@@ -20,11 +18,7 @@ enum-known-base-2 : tie.Need-enum-known-base-2
 enum-known-base-2 c = search needs
 
 add-spanless : tie.Need-add-spanless
-unfolding BaseFits
-add-spanless c =
-    let c-base2 = c .before .base2 in
-    let c-pre = c .before .before .before .pre in
-    omega (arith, rw (c-base2 .given .1) at (c-pre))
+add-spanless c = search needs
 
 spanless-requires-2 : tie.Need-spanless-requires-2
 spanless-requires-2 c κs = search needs

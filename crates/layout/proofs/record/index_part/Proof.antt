@@ -1,6 +1,7 @@
 -- `layout::record::index_part` meets its contract.
 -- Assumes nothing.
-use Rattle.operand.specs.Records.{flag, indexPart}
+use Rattle.operand.specs.Records.{flag}
+use Rattle.operand.specs.Layout.{indexPart}
 use borrow.Author.Needs.{needs}
 use Rattle.layout.proofs.record.index_part.Statement.{statement}
 use Rattle.layout.proofs.record.index_part.Tie as tie

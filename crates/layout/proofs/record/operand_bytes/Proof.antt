@@ -20,13 +20,43 @@ sized-part-requires-2 c κs = search needs
 flag-requires : tie.Need-flag-requires
 flag-requires c κs = search needs
 
+cast-t12 : tie.Need-cast-t12
+cast-t12 c = search needs
+
+cast-t14 : tie.Need-cast-t14
+cast-t14 c = search needs
+
+cast-t16 : tie.Need-cast-t16
+cast-t16 c = search needs
+
+cast-t18 : tie.Need-cast-t18
+cast-t18 c = search needs
+
+cast-t20 : tie.Need-cast-t20
+cast-t20 c = search needs
+
+cast-t22 : tie.Need-cast-t22
+cast-t22 c = search needs
+
+cast-t24 : tie.Need-cast-t24
+cast-t24 c = search needs
+
+cast-t26 : tie.Need-cast-t26
+cast-t26 c = search needs
+
+cast-t28 : tie.Need-cast-t28
+cast-t28 c = search needs
+
+cast-t30 : tie.Need-cast-t30
+cast-t30 c = search needs
+
 returns : tie.Need-returns
 returns c =
-    let c-sized-part = c .before .before .before .before .sized-part in
-    let c-base-part = c .before .before .before .base-part in
-    let c-index-part = c .before .before .index-part in
-    let c-sized-part2 = c .before .sized-part2 in
-    let c-flag = c .flag in
+    let c-sized-part = c .before .before .before .before .before .before .before .before .before .before .before .before .before .before .sized-part in
+    let c-base-part = c .before .before .before .before .before .before .before .before .before .before .before .before .before .base-part in
+    let c-index-part = c .before .before .before .before .before .before .before .before .before .before .before .before .index-part in
+    let c-sized-part2 = c .before .before .before .before .before .before .before .before .before .before .before .sized-part2 in
+    let c-flag = c .before .before .before .before .before .before .before .before .before .before .flag in
     twenty _ _ _ _ _ _ (c-sized-part .ensures) (c-base-part .ensures) (c-index-part .ensures) (c-sized-part2 .ensures) (c-flag .ensures)
 
 pub operand-bytes-spec : {M : Type 1} → statement M
@@ -38,4 +68,14 @@ operand-bytes-spec =
     index-part-requires
     sized-part-requires-2
     flag-requires
+    cast-t12
+    cast-t14
+    cast-t16
+    cast-t18
+    cast-t20
+    cast-t22
+    cast-t24
+    cast-t26
+    cast-t28
+    cast-t30
     returns)

@@ -1,6 +1,6 @@
 -- `layout::record::sized_part` meets its contract.
 -- Assumes nothing.
-use Rattle.operand.specs.Forms.{sizedPart}
+use Rattle.operand.specs.Layout.{sizedPart}
 use borrow.Author.Needs.{needs}
 use Rattle.layout.proofs.record.sized_part.Statement.{statement}
 use Rattle.layout.proofs.record.sized_part.Tie as tie

@@ -1,19 +1,21 @@
 -- `names::tokens::token_at` meets its contract.
 -- Assumes nothing.
-use borrow.Author.Tests.{le-leb, lt-leb}
-use Rattle.names.specs.Tokens.{tokenAt}
+use mathlib.Core.Path.{refl}
+use Rattle.names.proofs.Peeks.{end-at, token-below}
 use borrow.Author.Needs.{needs}
 use Rattle.names.proofs.tokens.token_at.Statement.{statement}
 use Rattle.names.proofs.tokens.token_at.Tie as tie
 
 returns : tie.Need-returns
-unfolding tokenAt
 returns c =
     let c-if1 = c .if1 in
-    simp (le-leb _ _ (c-if1 .taken))
+    end-at _ _ (c-if1 .taken)
 
 mul-at : tie.Need-mul-at
 mul-at c = search needs
+
+mul-kind : tie.Need-mul-kind
+mul-kind c = search needs
 
 shared-slice-read-kind : tie.Need-shared-slice-read-kind
 shared-slice-read-kind c = search needs
@@ -21,11 +23,17 @@ shared-slice-read-kind c = search needs
 add-detail : tie.Need-add-detail
 add-detail c = search needs
 
+mul-detail : tie.Need-mul-detail
+mul-detail c = search needs
+
 shared-slice-read-detail : tie.Need-shared-slice-read-detail
 shared-slice-read-detail c = search needs
 
 add-start : tie.Need-add-start
 add-start c = search needs
+
+mul-start : tie.Need-mul-start
+mul-start c = search needs
 
 shared-slice-read-start : tie.Need-shared-slice-read-start
 shared-slice-read-start c = search needs
@@ -33,14 +41,16 @@ shared-slice-read-start c = search needs
 add-end : tie.Need-add-end
 add-end c = search needs
 
+mul-end : tie.Need-mul-end
+mul-end c = search needs
+
 shared-slice-read-end : tie.Need-shared-slice-read-end
 shared-slice-read-end c = search needs
 
 returns-2 : tie.Need-returns-2
-unfolding tokenAt
 returns-2 c =
     let c-if1 = c .before .before .before .before .if1 in
-    simp (lt-leb _ _ (c-if1 .left))
+    token-below _ _ _ (c-if1 .left) refl refl refl refl
 
 pub token-at-spec : {M : Type 1} → statement M
 token-at-spec =
@@ -48,11 +58,15 @@ token-at-spec =
     (tie.spec
     returns
     mul-at
+    mul-kind
     shared-slice-read-kind
     add-detail
+    mul-detail
     shared-slice-read-detail
     add-start
+    mul-start
     shared-slice-read-start
     add-end
+    mul-end
     shared-slice-read-end
     returns-2)

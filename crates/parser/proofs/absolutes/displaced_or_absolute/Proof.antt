@@ -15,6 +15,9 @@ use borrow.Author.Needs.{needs}
 use Rattle.parser.proofs.absolutes.displaced_or_absolute.Statement.{statement}
 use Rattle.parser.proofs.absolutes.displaced_or_absolute.Tie as tie
 
+cast-at : tie.Need-cast-at
+cast-at c = search needs
+
 token-at-requires : tie.Need-token-at-requires
 token-at-requires c κs = search needs
 
@@ -26,7 +29,7 @@ enum-told c = search needs
 
 finish-expression-operand-requires : tie.Need-finish-expression-operand-requires
 finish-expression-operand-requires c κs =
-    let c-pre = c .before .before .before .before .before .before .before .pre in
+    let c-pre = c .before .before .before .before .before .before .before .before .pre in
     c-pre
 
 same-length : tie.Need-same-length
@@ -42,7 +45,7 @@ returns c =
 
 finish-expression-operand-requires-2 : tie.Need-finish-expression-operand-requires-2
 finish-expression-operand-requires-2 c κs =
-    let c-pre = c .before .before .before .before .before .before .before .before .before .before .pre in
+    let c-pre = c .before .before .before .before .before .before .before .before .before .before .before .pre in
     c-pre
 
 same-length-2 : tie.Need-same-length-2
@@ -59,23 +62,23 @@ returns-2 c =
 
 last-tree-requires : tie.Need-last-tree-requires
 last-tree-requires c κs =
-    let c-pre = c .before .before .before .before .before .before .before .before .before .pre in
-    (c-pre .some, c-pre .few)
+    let c-pre = c .before .before .before .before .before .before .before .before .before .before .pre in
+    c-pre .stand
 
 step-over-requires : tie.Need-step-over-requires
 step-over-requires c κs =
-    let c-pre = c .before .before .before .before .before .before .before .before .before .before .before .pre in
+    let c-pre = c .before .before .before .before .before .before .before .before .before .before .before .before .pre in
     let c-token-at = c .before .before .before .before .before .before .before .token-at in
     let c-p = c .before .before .before .before .before .p in
     omega (arith, c-pre, live _ _ _ (sym (c-token-at .ensures) ∙ c-p .given .1))
 
 parse-base-and-index-requires : tie.Need-parse-base-and-index-requires
 parse-base-and-index-requires c κs =
-    let c-pre = c .before .before .before .before .before .before .before .before .before .before .before .before .pre in
+    let c-pre = c .before .before .before .before .before .before .before .before .before .before .before .before .before .pre in
     let c-token-at = c .before .before .before .before .before .before .before .before .token-at in
     let c-p = c .before .before .before .before .before .before .p in
     let c-step-over = c .step-over in
-    room-step (c-pre .room) (sym (c-token-at .ensures) ∙ c-p .given .1) (c-step-over .ensures)
+    omega (arith, room-step (c-pre) (sym (c-token-at .ensures) ∙ c-p .given .1) (c-step-over .ensures))
 
 same-length-3 : tie.Need-same-length-3
 same-length-3 c = search needs
@@ -95,6 +98,7 @@ pub displaced-or-absolute-spec : {M : Type 1} → statement M
 displaced-or-absolute-spec =
     tie.close
     (tie.spec
+    cast-at
     token-at-requires
     enum-known-p
     enum-told

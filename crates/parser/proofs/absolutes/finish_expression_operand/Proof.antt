@@ -11,7 +11,7 @@ use Rattle.parser.proofs.absolutes.finish_expression_operand.Tie as tie
 take-size-suffix-requires : tie.Need-take-size-suffix-requires
 take-size-suffix-requires c κs =
     let c-pre = c .before .before .before .before .pre in
-    c-pre .room
+    omega (arith, c-pre)
 
 enum-told : tie.Need-enum-told
 enum-told c = search needs
@@ -20,7 +20,7 @@ absolute-requires : tie.Need-absolute-requires
 absolute-requires c κs =
     let c-pre = c .before .before .before .before .before .before .before .before .before .before .pre in
     let c-take-size-suffix = c .before .before .before .before .before .take-size-suffix in
-    (omega (arith, c-pre, (c-take-size-suffix .ensures) .held), omega (arith, c-pre, (c-take-size-suffix .ensures) .held))
+    omega (arith, c-pre, (c-take-size-suffix .ensures) .held)
 
 enum-known-suffix : tie.Need-enum-known-suffix
 enum-known-suffix c = search needs
@@ -29,7 +29,7 @@ absolute-requires-2 : tie.Need-absolute-requires-2
 absolute-requires-2 c κs =
     let c-pre = c .before .before .before .before .before .before .before .before .before .before .before .pre in
     let c-take-size-suffix = c .before .before .before .before .before .before .take-size-suffix in
-    (omega (arith, c-pre, (c-take-size-suffix .ensures) .held), omega (arith, c-pre, (c-take-size-suffix .ensures) .held))
+    omega (arith, c-pre, (c-take-size-suffix .ensures) .held)
 
 same-length : tie.Need-same-length
 same-length c = search needs

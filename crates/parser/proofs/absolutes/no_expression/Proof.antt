@@ -2,12 +2,15 @@
 -- Assumes nothing.
 use mathlib.Core.Path.{refl, sym, _∙_, ap}
 use native.Mathlib.Omega.{arith}
-use Rattle.parser.specs.Behind.{noExpression}
+use Rattle.operand.specs.Operand.{noExpression}
 use Rattle.parser.proofs.Paths.{raised, raised-as, raised-same, seen, beyond}
 use Rattle.parser.proofs.Holdings.{nothing-told}
 use borrow.Author.Needs.{needs}
 use Rattle.parser.proofs.absolutes.no_expression.Statement.{statement}
 use Rattle.parser.proofs.absolutes.no_expression.Tie as tie
+
+cast-at : tie.Need-cast-at
+cast-at c = search needs
 
 token-at-requires : tie.Need-token-at-requires
 token-at-requires c κs = search needs
@@ -23,7 +26,7 @@ diagnostic-requires c κs = search needs
 
 raise-requires : tie.Need-raise-requires
 raise-requires c κs =
-    let c-pre = c .before .before .before .before .before .before .before .before .before .pre in
+    let c-pre = c .before .before .before .before .before .before .before .before .before .before .pre in
     omega (arith, c-pre)
 
 no-operand-requires : tie.Need-no-operand-requires
@@ -37,7 +40,7 @@ diagnostic-requires-2 c κs = search needs
 
 raise-requires-2 : tie.Need-raise-requires-2
 raise-requires-2 c κs =
-    let c-pre = c .before .before .before .before .before .before .before .pre in
+    let c-pre = c .before .before .before .before .before .before .before .before .pre in
     omega (arith, c-pre)
 
 no-operand-requires-2 : tie.Need-no-operand-requires-2
@@ -74,6 +77,7 @@ pub no-expression-spec : {M : Type 1} → statement M
 no-expression-spec =
     tie.close
     (tie.spec
+    cast-at
     token-at-requires
     enum-known-p
     span-of-requires

@@ -14,6 +14,9 @@ use borrow.Author.Needs.{needs}
 use Rattle.parser.proofs.bases.after_base.Statement.{statement}
 use Rattle.parser.proofs.bases.after_base.Tie as tie
 
+cast-at : tie.Need-cast-at
+cast-at c = search needs
+
 token-at-requires : tie.Need-token-at-requires
 token-at-requires c κs = search needs
 
@@ -28,7 +31,7 @@ base-shape-requires c κs = search needs
 
 unclosed-requires : tie.Need-unclosed-requires
 unclosed-requires c κs =
-    let c-pre = c .before .before .before .before .before .before .before .before .pre in
+    let c-pre = c .before .before .before .before .before .before .before .before .before .pre in
     omega (arith, c-pre)
 
 no-operand-requires : tie.Need-no-operand-requires
@@ -49,14 +52,14 @@ returns c =
 
 step-over-requires : tie.Need-step-over-requires
 step-over-requires c κs =
-    let c-pre = c .before .before .before .before .before .before .before .before .pre in
+    let c-pre = c .before .before .before .before .before .before .before .before .before .pre in
     let c-token-at = c .before .before .before .before .token-at in
     let c-p = c .before .before .p in
     omega (arith, c-pre, live _ _ _ (sym (c-token-at .ensures) ∙ c-p .given .1))
 
 closed-base-requires : tie.Need-closed-base-requires
 closed-base-requires c κs =
-    let c-pre = c .before .before .before .before .before .before .before .before .before .pre in
+    let c-pre = c .before .before .before .before .before .before .before .before .before .before .pre in
     let c-token-at = c .before .before .before .before .before .token-at in
     let c-p = c .before .before .before .p in
     let c-step-over = c .step-over in
@@ -64,14 +67,14 @@ closed-base-requires c κs =
 
 step-over-requires-2 : tie.Need-step-over-requires-2
 step-over-requires-2 c κs =
-    let c-pre = c .before .before .before .before .before .before .before .before .before .pre in
+    let c-pre = c .before .before .before .before .before .before .before .before .before .before .pre in
     let c-token-at = c .before .before .before .before .before .token-at in
     let c-p = c .before .before .before .p in
     omega (arith, c-pre, live _ _ _ (sym (c-token-at .ensures) ∙ c-p .given .1))
 
 base-and-index-requires : tie.Need-base-and-index-requires
 base-and-index-requires c κs =
-    let c-pre = c .before .before .before .before .before .before .before .before .before .before .pre in
+    let c-pre = c .before .before .before .before .before .before .before .before .before .before .before .pre in
     let c-token-at = c .before .before .before .before .before .before .token-at in
     let c-p = c .before .before .before .before .p in
     let c-step-over2 = c .step-over2 in
@@ -82,7 +85,7 @@ base-shape-requires-2 c κs = search needs
 
 unclosed-requires-2 : tie.Need-unclosed-requires-2
 unclosed-requires-2 c κs =
-    let c-pre = c .before .before .before .before .before .before .before .before .before .before .pre in
+    let c-pre = c .before .before .before .before .before .before .before .before .before .before .before .pre in
     omega (arith, c-pre)
 
 no-operand-requires-2 : tie.Need-no-operand-requires-2
@@ -129,6 +132,7 @@ pub after-base-spec : {M : Type 1} → statement M
 after-base-spec =
     tie.close
     (tie.spec
+    cast-at
     token-at-requires
     enum-known-p
     enum-told

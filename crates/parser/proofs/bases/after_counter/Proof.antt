@@ -14,6 +14,9 @@ use borrow.Author.Needs.{needs}
 use Rattle.parser.proofs.bases.after_counter.Statement.{statement}
 use Rattle.parser.proofs.bases.after_counter.Tie as tie
 
+cast-at : tie.Need-cast-at
+cast-at c = search needs
+
 token-at-requires : tie.Need-token-at-requires
 token-at-requires c κs = search needs
 
@@ -25,7 +28,7 @@ enum-told c = search needs
 
 unclosed-requires : tie.Need-unclosed-requires
 unclosed-requires c κs =
-    let c-pre = c .before .before .before .before .before .before .before .pre in
+    let c-pre = c .before .before .before .before .before .before .before .before .pre in
     omega (arith, c-pre)
 
 no-operand-requires : tie.Need-no-operand-requires
@@ -45,14 +48,14 @@ returns c =
 
 step-over-requires : tie.Need-step-over-requires
 step-over-requires c κs =
-    let c-pre = c .before .before .before .before .before .before .before .before .before .pre in
+    let c-pre = c .before .before .before .before .before .before .before .before .before .before .pre in
     let c-token-at = c .before .before .before .before .before .token-at in
     let c-p = c .before .before .before .p in
     omega (arith, c-pre, live _ _ _ (sym (c-token-at .ensures) ∙ c-p .given .1))
 
 closed-counter-requires : tie.Need-closed-counter-requires
 closed-counter-requires c κs =
-    let c-pre = c .before .before .before .before .before .before .before .before .before .before .pre in
+    let c-pre = c .before .before .before .before .before .before .before .before .before .before .before .pre in
     let c-token-at = c .before .before .before .before .before .before .token-at in
     let c-p = c .before .before .before .before .p in
     let c-step-over = c .step-over in
@@ -60,14 +63,14 @@ closed-counter-requires c κs =
 
 step-over-requires-2 : tie.Need-step-over-requires-2
 step-over-requires-2 c κs =
-    let c-pre = c .before .before .before .before .before .before .before .before .before .pre in
+    let c-pre = c .before .before .before .before .before .before .before .before .before .before .pre in
     let c-token-at = c .before .before .before .before .before .token-at in
     let c-p = c .before .before .before .p in
     omega (arith, c-pre, live _ _ _ (sym (c-token-at .ensures) ∙ c-p .given .1))
 
 base-and-index-requires : tie.Need-base-and-index-requires
 base-and-index-requires c κs =
-    let c-pre = c .before .before .before .before .before .before .before .before .before .before .pre in
+    let c-pre = c .before .before .before .before .before .before .before .before .before .before .before .pre in
     let c-token-at = c .before .before .before .before .before .before .token-at in
     let c-p = c .before .before .before .before .p in
     let c-step-over2 = c .step-over2 in
@@ -75,7 +78,7 @@ base-and-index-requires c κs =
 
 unclosed-requires-2 : tie.Need-unclosed-requires-2
 unclosed-requires-2 c κs =
-    let c-pre = c .before .before .before .before .before .before .before .before .before .pre in
+    let c-pre = c .before .before .before .before .before .before .before .before .before .before .pre in
     omega (arith, c-pre)
 
 no-operand-requires-2 : tie.Need-no-operand-requires-2
@@ -124,6 +127,7 @@ pub after-counter-spec : {M : Type 1} → statement M
 after-counter-spec =
     tie.close
     (tie.spec
+    cast-at
     token-at-requires
     enum-known-p
     enum-told

@@ -29,7 +29,7 @@ close-index-requires c κs =
     let c-pre = c .before .before .before .before .before .before .before .before .before .before .before .before .pre in
     let c-parse-index-register = c .before .before .before .before .before .before .before .parse-index-register in
     let c-index = c .before .before .index in
-    index-room _ _ _ (c-pre) (c-parse-index-register .ensures) (c-index .given .1) (omega (arith, c-parse-index-register .kept))
+    index-room _ _ (c-pre) (c-parse-index-register .ensures) (c-index .given .1)
 
 same-length : tie.Need-same-length
 same-length c = search needs

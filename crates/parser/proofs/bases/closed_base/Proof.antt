@@ -30,6 +30,9 @@ returns c =
 enum-told-2 : tie.Need-enum-told-2
 enum-told-2 c = search needs
 
+cast-at : tie.Need-cast-at
+cast-at c = search needs
+
 token-at-requires : tie.Need-token-at-requires
 token-at-requires c κs = search needs
 
@@ -53,7 +56,7 @@ an-operand-requires-3 c κs = search needs
 
 returns-2 : tie.Need-returns-2
 returns-2 c =
-    let c-enum-told2 = c .before .before .before .before .before .before .before .before .enum-told2 in
+    let c-enum-told2 = c .before .before .before .before .before .before .before .before .before .enum-told2 in
     let c-an-operand3 = c .an-operand3 in
     let c-plain-operand3 = c .before .plain-operand3 in
     let c-token-at = c .before .before .before .before .before .before .before .token-at in
@@ -66,7 +69,7 @@ plain-operand-requires-4 c κs = search needs
 
 step-over-requires : tie.Need-step-over-requires
 step-over-requires c κs =
-    let c-pre = c .before .before .before .before .before .before .before .before .before .before .pre in
+    let c-pre = c .before .before .before .before .before .before .before .before .before .before .before .pre in
     omega (arith, c-pre)
 
 an-operand-requires-4 : tie.Need-an-operand-requires-4
@@ -74,7 +77,7 @@ an-operand-requires-4 c κs = search needs
 
 returns-3 : tie.Need-returns-3
 returns-3 c =
-    let c-enum-told2 = c .before .before .before .before .before .enum-told2 in
+    let c-enum-told2 = c .before .before .before .before .before .before .enum-told2 in
     let c-an-operand2 = c .an-operand2 in
     let c-plain-operand2 = c .before .plain-operand2 in
     let c-token-at = c .before .before .before .before .token-at in
@@ -83,7 +86,7 @@ returns-3 c =
 
 returns-4 : tie.Need-returns-4
 returns-4 c =
-    let c-enum-told2 = c .before .before .before .before .before .before .before .before .before .enum-told2 in
+    let c-enum-told2 = c .before .before .before .before .before .before .before .before .before .before .enum-told2 in
     let c-an-operand4 = c .an-operand4 in
     let c-plain-operand4 = c .before .before .plain-operand4 in
     let c-token-at = c .before .before .before .before .before .before .before .before .token-at in
@@ -101,6 +104,7 @@ closed-base-spec =
     an-operand-requires
     returns
     enum-told-2
+    cast-at
     token-at-requires
     enum-told-3
     plain-operand-requires-2

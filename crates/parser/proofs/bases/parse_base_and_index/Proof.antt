@@ -13,6 +13,9 @@ use borrow.Author.Needs.{needs}
 use Rattle.parser.proofs.bases.parse_base_and_index.Statement.{statement}
 use Rattle.parser.proofs.bases.parse_base_and_index.Tie as tie
 
+cast-at : tie.Need-cast-at
+cast-at c = search needs
+
 token-at-requires : tie.Need-token-at-requires
 token-at-requires c κs = search needs
 
@@ -27,7 +30,7 @@ base-shape-requires c κs = search needs
 
 unclosed-requires : tie.Need-unclosed-requires
 unclosed-requires c κs =
-    let c-pre = c .before .before .before .before .before .before .before .before .pre in
+    let c-pre = c .before .before .before .before .before .before .before .before .before .pre in
     omega (arith, c-pre)
 
 no-operand-requires : tie.Need-no-operand-requires
@@ -48,7 +51,7 @@ returns c =
 
 step-over-requires : tie.Need-step-over-requires
 step-over-requires c κs =
-    let c-pre = c .before .before .before .before .before .before .before .pre in
+    let c-pre = c .before .before .before .before .before .before .before .before .pre in
     let c-token-at = c .before .before .before .token-at in
     let c-p = c .before .p in
     omega (arith, c-pre, live _ _ _ (sym (c-token-at .ensures) ∙ c-p .given .1))
@@ -64,7 +67,7 @@ span-of-requires c κs = search needs
 
 after-base-requires : tie.Need-after-base-requires
 after-base-requires c κs =
-    let c-pre = c .before .before .before .before .before .before .before .before .before .before .before .before .before .before .pre in
+    let c-pre = c .before .before .before .before .before .before .before .before .before .before .before .before .before .before .before .pre in
     let c-token-at = c .before .before .before .before .before .before .before .before .before .before .token-at in
     let c-p = c .before .before .before .before .before .before .before .before .p in
     let c-step-over = c .before .before .before .before .before .before .step-over in
@@ -81,10 +84,10 @@ returns-2 c =
     let c-token-at = c .before .before .before .before .before .before .before .before .before .before .before .before .before .token-at in
     let c-p = c .before .before .before .before .before .before .before .before .before .before .before .p in
     let c-step-over = c .before .before .before .before .before .before .before .before .before .step-over in
-    let c-args = c .before .before .before .before .before .before .before .before .before .before .before .before .before .before .before .before .before .args in
+    let c-args = c .before .before .before .before .before .before .before .before .before .before .before .before .before .before .before .before .before .before .args in
     let c-span-of = c .before .before .before .before .span-of in
     let c-after-base = c .before .before .after-base in
-    record { told = λ y e z. let h = address-hit _ _ (sym (c-address-register-at .ensures) ∙ c-r .given .1) in hit (sym (c-token-at .ensures) ∙ c-p .given .1) (h .0) (c-step-over .ensures) (renamed (ap (afterBase (c-args .s) (c-args .o) (c-args .paren) y) (register-at-base (c-span-of .ensures) (h .1))) (kept-from y (ap (λ w. w .nodes) (c-step-over .ensures)) (c-after-base .ensures .told y e z))) }
+    record { told = λ y e z. let h = address-hit _ _ (sym (c-address-register-at .ensures) ∙ c-r .given .1) in hit (sym (c-token-at .ensures) ∙ c-p .given .1) (h .0) (c-step-over .ensures) (renamed (ap (afterBase (c-args .s) (c-args .paren) y) (register-at-base (c-span-of .ensures) (h .1))) (kept-from y (ap (λ w. w .nodes) (c-step-over .ensures)) (c-after-base .ensures .told y e z))) }
 
 enum-told-2 : tie.Need-enum-told-2
 enum-told-2 c = search needs
@@ -94,7 +97,7 @@ program-counter-at-requires c κs = search needs
 
 after-counter-requires : tie.Need-after-counter-requires
 after-counter-requires c κs =
-    let c-pre = c .before .before .before .before .before .before .before .before .before .before .before .before .before .before .pre in
+    let c-pre = c .before .before .before .before .before .before .before .before .before .before .before .before .before .before .before .pre in
     let c-token-at = c .before .before .before .before .before .before .before .before .before .before .token-at in
     let c-p = c .before .before .before .before .before .before .before .before .p in
     let c-step-over = c .before .before .before .before .before .before .step-over in
@@ -121,7 +124,7 @@ base-shape-requires-2 c κs = search needs
 
 not-an-address-register-requires : tie.Need-not-an-address-register-requires
 not-an-address-register-requires c κs =
-    let c-pre = c .before .before .before .before .before .before .before .before .before .before .before .before .before .before .before .pre in
+    let c-pre = c .before .before .before .before .before .before .before .before .before .before .before .before .before .before .before .before .pre in
     let c-token-at = c .before .before .before .before .before .before .before .before .before .before .before .token-at in
     let c-p = c .before .before .before .before .before .before .before .before .before .p in
     let c-step-over = c .before .before .before .before .before .before .before .step-over in
@@ -152,6 +155,7 @@ pub parse-base-and-index-spec : {M : Type 1} → statement M
 parse-base-and-index-spec =
     tie.close
     (tie.spec
+    cast-at
     token-at-requires
     enum-known-p
     enum-told

@@ -5,17 +5,17 @@ use native.Mathlib.Omega.{arith}
 use Rattle.operand.specs.Operand.{parseSizedDisplacement, displacementValue}
 use Rattle.operand.specs.Forms.{displacementRead}
 use Rattle.parser.proofs.Paths.{answered, bound, failed-over}
-use Rattle.parser.proofs.Trees.{fit, term-told, term-past, tree-read, absent-room}
+use Rattle.parser.proofs.Trees.{term-told, tree-read, absent-room}
 use Rattle.terms.specs.Answers.{what-reported, what-absent}
 use Rattle.parser.proofs.Inners.{displacement-read}
 use borrow.Author.Needs.{needs}
 use Rattle.parser.proofs.displacements.parse_sized_displacement.Statement.{statement}
 use Rattle.parser.proofs.displacements.parse_sized_displacement.Tie as tie
 
-expression-requires : tie.Need-expression-requires
-expression-requires c κs =
+expression-at-requires : tie.Need-expression-at-requires
+expression-at-requires c κs =
     let c-pre = c .before .before .before .before .before .before .pre in
-    fit (c-pre)
+    c-pre
 
 enum-known-parsed : tie.Need-enum-known-parsed
 enum-known-parsed c = search needs
@@ -23,9 +23,9 @@ enum-known-parsed c = search needs
 sized-requires : tie.Need-sized-requires
 sized-requires c κs =
     let c-pre = c .before .before .before .before .before .before .before .before .before .before .before .before .before .before .before .before .pre in
-    let c-expression = c .before .before .before .before .before .before .before .before .before .expression in
+    let c-expression-at = c .before .before .before .before .before .before .before .before .before .expression-at in
     let c-parsed = c .before .before .parsed in
-    (tree-read _ _ (c-pre) (c-expression .ensures) (c-parsed .given .1) (omega (arith, c-expression .kept)) (omega (arith, c-expression .kept)) .room .room, tree-read _ _ (c-pre) (c-expression .ensures) (c-parsed .given .1) (omega (arith, c-expression .kept)) (omega (arith, c-expression .kept)) .some, tree-read _ _ (c-pre) (c-expression .ensures) (c-parsed .given .1) (omega (arith, c-expression .kept)) (omega (arith, c-expression .kept)) .few)
+    tree-read _ _ (c-pre) (c-expression-at .ensures) (c-parsed .given .1) (omega (arith, c-expression-at .kept)) .room .room
 
 enum-told : tie.Need-enum-told
 enum-told c = search needs
@@ -39,9 +39,9 @@ enum-told-2 c = search needs
 stepped-over-requires : tie.Need-stepped-over-requires
 stepped-over-requires c κs =
     let c-pre = c .before .before .before .before .before .before .before .before .before .before .before .before .before .before .before .pre in
-    let c-expression = c .before .before .before .before .before .before .before .before .expression in
+    let c-expression-at = c .before .before .before .before .before .before .before .before .expression-at in
     let c-enum-told2 = c .before .enum-told2 in
-    absent-room _ _ (c-pre) (c-expression .ensures) (c-enum-told2 .given .1) (omega (arith, c-expression .kept))
+    absent-room _ _ (c-pre) (c-expression-at .ensures) (c-enum-told2 .given .1)
 
 no-displacement-requires-2 : tie.Need-no-displacement-requires-2
 no-displacement-requires-2 c κs = search needs
@@ -56,10 +56,10 @@ returns : tie.Need-returns
 unfolding parseSizedDisplacement displacementValue displacementRead
 returns c =
     let c-pre = c .before .before .before .before .before .before .before .before .before .before .before .before .before .before .before .before .before .before .before .pre in
-    let c-expression = c .before .before .before .before .before .before .before .before .before .before .before .before .expression in
+    let c-expression-at = c .before .before .before .before .before .before .before .before .before .before .before .before .expression-at in
     let c-parsed = c .before .before .before .before .before .parsed in
     let c-sized = c .before .before .sized in
-    record { told = bound (term-told _ _ (c-pre) (c-expression .ensures)) (tree-read _ _ (c-pre) (c-expression .ensures) (c-parsed .given .1) (omega (arith, c-expression .kept)) (omega (arith, c-expression .kept)) .value) (displacement-read (tree-read _ _ (c-pre) (c-expression .ensures) (c-parsed .given .1) (omega (arith, c-expression .kept)) (omega (arith, c-expression .kept))) (c-sized .ensures)); past = term-past _ _ (c-pre) (c-expression .ensures) }
+    record { told = bound (term-told _ _ (c-pre) (c-expression-at .ensures)) (tree-read _ _ (c-pre) (c-expression-at .ensures) (c-parsed .given .1) (omega (arith, c-expression-at .kept)) .value) (displacement-read (tree-read _ _ (c-pre) (c-expression-at .ensures) (c-parsed .given .1) (omega (arith, c-expression-at .kept))) (c-sized .ensures)) }
 
 same-length-3 : tie.Need-same-length-3
 same-length-3 c = search needs
@@ -71,10 +71,10 @@ returns-2 : tie.Need-returns-2
 unfolding parseSizedDisplacement displacementValue displacementRead
 returns-2 c =
     let c-pre = c .before .before .before .before .before .before .before .before .before .before .before .before .before .before .before .pre in
-    let c-expression = c .before .before .before .before .before .before .before .before .expression in
+    let c-expression-at = c .before .before .before .before .before .before .before .before .expression-at in
     let c-enum-told = c .before .enum-told in
     let c-no-displacement = c .no-displacement in
-    record { told = bound (term-told _ _ (c-pre) (c-expression .ensures)) (what-reported _ (sym (term-told _ _ (c-pre) (c-expression .ensures) .what) ∙ c-enum-told .given .1)) (answered (c-no-displacement .ensures .0) (c-no-displacement .ensures .1) tt); past = term-past _ _ (c-pre) (c-expression .ensures) }
+    record { told = bound (term-told _ _ (c-pre) (c-expression-at .ensures)) (what-reported _ (sym (term-told _ _ (c-pre) (c-expression-at .ensures) .what) ∙ c-enum-told .given .1)) (answered (c-no-displacement .ensures .0) (c-no-displacement .ensures .1) tt) }
 
 same-length-5 : tie.Need-same-length-5
 same-length-5 c = search needs
@@ -86,17 +86,17 @@ returns-3 : tie.Need-returns-3
 unfolding parseSizedDisplacement displacementValue displacementRead
 returns-3 c =
     let c-pre = c .before .before .before .before .before .before .before .before .before .before .before .before .before .before .before .before .before .before .before .pre in
-    let c-expression = c .before .before .before .before .before .before .before .before .before .before .before .before .expression in
+    let c-expression-at = c .before .before .before .before .before .before .before .before .before .before .before .before .expression-at in
     let c-enum-told2 = c .before .before .before .before .before .enum-told2 in
     let c-stepped-over = c .before .before .before .stepped-over in
     let c-no-displacement2 = c .no-displacement2 in
-    record { told = bound (term-told _ _ (c-pre) (c-expression .ensures)) (what-absent _ (sym (term-told _ _ (c-pre) (c-expression .ensures) .what) ∙ c-enum-told2 .given .1)) (failed-over _ 9 10 (c-stepped-over .ensures) (c-no-displacement2 .ensures .0) (c-no-displacement2 .ensures .1) tt); past = term-past _ _ (c-pre) (c-expression .ensures) }
+    record { told = bound (term-told _ _ (c-pre) (c-expression-at .ensures)) (what-absent _ (sym (term-told _ _ (c-pre) (c-expression-at .ensures) .what) ∙ c-enum-told2 .given .1)) (failed-over _ 9 10 (c-stepped-over .ensures) (c-no-displacement2 .ensures .0) (c-no-displacement2 .ensures .1) tt) }
 
 pub parse-sized-displacement-spec : {M : Type 1} → statement M
 parse-sized-displacement-spec =
     tie.close
     (tie.spec
-    expression-requires
+    expression-at-requires
     enum-known-parsed
     sized-requires
     enum-told

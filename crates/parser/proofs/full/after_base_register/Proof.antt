@@ -9,9 +9,12 @@ use borrow.Author.Needs.{needs}
 use Rattle.parser.proofs.full.after_base_register.Statement.{statement}
 use Rattle.parser.proofs.full.after_base_register.Tie as tie
 
+cast-at : tie.Need-cast-at
+cast-at c = search needs
+
 add-is-an-index-at : tie.Need-add-is-an-index-at
 add-is-an-index-at c =
-    let c-pre = c .before .before .before .pre in
+    let c-pre = c .before .before .before .before .pre in
     omega (arith, c-pre)
 
 is-an-index-at-requires : tie.Need-is-an-index-at-requires
@@ -19,7 +22,7 @@ is-an-index-at-requires c κs = search needs
 
 comma-and-index-requires : tie.Need-comma-and-index-requires
 comma-and-index-requires c κs =
-    let c-pre = c .before .before .before .before .before .before .pre in
+    let c-pre = c .before .before .before .before .before .before .before .pre in
     c-pre
 
 same-length : tie.Need-same-length
@@ -48,6 +51,7 @@ pub after-base-register-spec : {M : Type 1} → statement M
 after-base-register-spec =
     tie.close
     (tie.spec
+    cast-at
     add-is-an-index-at
     is-an-index-at-requires
     comma-and-index-requires

@@ -12,6 +12,9 @@ use borrow.Author.Needs.{needs}
 use Rattle.parser.proofs.full.comma_and_index.Statement.{statement}
 use Rattle.parser.proofs.full.comma_and_index.Tie as tie
 
+cast-at : tie.Need-cast-at
+cast-at c = search needs
+
 token-at-requires : tie.Need-token-at-requires
 token-at-requires c κs = search needs
 
@@ -38,14 +41,14 @@ returns c =
 
 step-over-requires : tie.Need-step-over-requires
 step-over-requires c κs =
-    let c-pre = c .before .before .before .before .before .before .before .before .before .before .pre in
+    let c-pre = c .before .before .before .before .before .before .before .before .before .before .before .pre in
     let c-token-at = c .before .before .before .before .before .before .token-at in
     let c-p = c .before .before .before .before .p in
     omega (arith, c-pre, live _ _ _ (sym (c-token-at .ensures) ∙ c-p .given .1))
 
 with-index-requires : tie.Need-with-index-requires
 with-index-requires c κs =
-    let c-pre = c .before .before .before .before .before .before .before .before .before .before .before .pre in
+    let c-pre = c .before .before .before .before .before .before .before .before .before .before .before .before .pre in
     let c-token-at = c .before .before .before .before .before .before .before .token-at in
     let c-p = c .before .before .before .before .before .p in
     let c-step-over = c .step-over in
@@ -76,6 +79,7 @@ pub comma-and-index-spec : {M : Type 1} → statement M
 comma-and-index-spec =
     tie.close
     (tie.spec
+    cast-at
     token-at-requires
     enum-told
     registers-requires

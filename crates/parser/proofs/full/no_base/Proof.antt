@@ -12,12 +12,15 @@ use borrow.Author.Needs.{needs}
 use Rattle.parser.proofs.full.no_base.Statement.{statement}
 use Rattle.parser.proofs.full.no_base.Tie as tie
 
+cast-at : tie.Need-cast-at
+cast-at c = search needs
+
 is-an-index-at-requires : tie.Need-is-an-index-at-requires
 is-an-index-at-requires c κs = search needs
 
 with-index-requires : tie.Need-with-index-requires
 with-index-requires c κs =
-    let c-pre = c .before .before .before .before .before .before .pre in
+    let c-pre = c .before .before .before .before .before .before .before .pre in
     c-pre
 
 same-length : tie.Need-same-length
@@ -33,7 +36,7 @@ returns c =
 
 stepped-over-requires : tie.Need-stepped-over-requires
 stepped-over-requires c κs =
-    let c-pre = c .before .before .before .before .before .before .pre in
+    let c-pre = c .before .before .before .before .before .before .before .pre in
     c-pre
 
 no-registers-requires : tie.Need-no-registers-requires
@@ -55,6 +58,7 @@ pub no-base-spec : {M : Type 1} → statement M
 no-base-spec =
     tie.close
     (tie.spec
+    cast-at
     is-an-index-at-requires
     with-index-requires
     same-length

@@ -11,6 +11,9 @@ use borrow.Author.Needs.{needs}
 use Rattle.parser.proofs.full.parse_base_and_index_registers.Statement.{statement}
 use Rattle.parser.proofs.full.parse_base_and_index_registers.Tie as tie
 
+cast-at : tie.Need-cast-at
+cast-at c = search needs
+
 token-at-requires : tie.Need-token-at-requires
 token-at-requires c κs = search needs
 
@@ -22,7 +25,7 @@ enum-told c = search needs
 
 no-base-requires : tie.Need-no-base-requires
 no-base-requires c κs =
-    let c-pre = c .before .before .before .before .before .before .before .pre in
+    let c-pre = c .before .before .before .before .before .before .before .before .pre in
     c-pre
 
 same-length : tie.Need-same-length
@@ -33,11 +36,11 @@ returns c =
     let c-token-at = c .before .before .before .before .before .before .token-at in
     let c-enum-told = c .before .before .before .before .enum-told in
     let c-no-base = c .before .before .no-base in
-    base-end _ _ _ (sym (c-token-at .ensures) ∙ c-enum-told .given .1) (c-no-base .ensures)
+    base-end _ _ (sym (c-token-at .ensures) ∙ c-enum-told .given .1) (c-no-base .ensures)
 
 base-at-requires : tie.Need-base-at-requires
 base-at-requires c κs =
-    let c-pre = c .before .before .before .before .before .before .before .pre in
+    let c-pre = c .before .before .before .before .before .before .before .before .pre in
     omega (arith, c-pre)
 
 is-base-requires : tie.Need-is-base-requires
@@ -45,14 +48,14 @@ is-base-requires c κs = search needs
 
 step-over-requires : tie.Need-step-over-requires
 step-over-requires c κs =
-    let c-pre = c .before .before .before .before .before .before .before .before .before .before .pre in
+    let c-pre = c .before .before .before .before .before .before .before .before .before .before .before .pre in
     let c-token-at = c .before .before .before .before .before .before .token-at in
     let c-p = c .before .before .before .before .p in
     omega (arith, c-pre, live _ _ _ (sym (c-token-at .ensures) ∙ c-p .given .1))
 
 after-base-register-requires : tie.Need-after-base-register-requires
 after-base-register-requires c κs =
-    let c-pre = c .before .before .before .before .before .before .before .before .before .before .before .before .pre in
+    let c-pre = c .before .before .before .before .before .before .before .before .before .before .before .before .before .pre in
     let c-token-at = c .before .before .before .before .before .before .before .before .token-at in
     let c-p = c .before .before .before .before .before .before .p in
     let c-step-over = c .before .step-over in
@@ -70,11 +73,11 @@ returns-2 c =
     let c-if1 = c .before .before .before .before .before .if1 in
     let c-step-over = c .before .before .before .before .step-over in
     let c-after-base-register = c .before .before .after-base-register in
-    base-read _ _ _ (sym (c-token-at .ensures) ∙ c-p .given .1) (sym (c-base-at .ensures)) (some-base _ (sym (c-is-base .ensures) ∙ c-if1 .taken)) (c-step-over .ensures) (same (ap (λ w. w .nodes) (c-step-over .ensures)) (c-after-base-register .ensures))
+    base-read _ _ (sym (c-token-at .ensures) ∙ c-p .given .1) (sym (c-base-at .ensures)) (some-base _ (sym (c-is-base .ensures) ∙ c-if1 .taken)) (c-step-over .ensures) (same (ap (λ w. w .nodes) (c-step-over .ensures)) (c-after-base-register .ensures))
 
 no-base-requires-2 : tie.Need-no-base-requires-2
 no-base-requires-2 c κs =
-    let c-pre = c .before .before .before .before .before .before .before .before .before .before .before .pre in
+    let c-pre = c .before .before .before .before .before .before .before .before .before .before .before .before .pre in
     c-pre
 
 same-length-3 : tie.Need-same-length-3
@@ -88,12 +91,13 @@ returns-3 c =
     let c-is-base = c .before .before .before .before .before .is-base in
     let c-if1 = c .before .before .before .before .if1 in
     let c-no-base2 = c .before .before .no-base2 in
-    base-none _ _ _ (sym (c-token-at .ensures) ∙ c-p .given .1) (sym (c-base-at .ensures) ∙ no-base _ (sym (c-is-base .ensures) ∙ c-if1 .left)) (c-no-base2 .ensures)
+    base-none _ _ (sym (c-token-at .ensures) ∙ c-p .given .1) (sym (c-base-at .ensures) ∙ no-base _ (sym (c-is-base .ensures) ∙ c-if1 .left)) (c-no-base2 .ensures)
 
 pub parse-base-and-index-registers-spec : {M : Type 1} → statement M
 parse-base-and-index-registers-spec =
     tie.close
     (tie.spec
+    cast-at
     token-at-requires
     enum-known-p
     enum-told

@@ -42,7 +42,7 @@ expect-close-requires c κs =
     let c-pre = c .before .before .before .before .before .before .before .before .before .before .before .before .pre in
     let c-parse-base-and-index-registers = c .before .before .before .before .before .before .before .parse-base-and-index-registers in
     let c-both = c .before .before .both in
-    registers-room _ _ _ (c-pre) (c-parse-base-and-index-registers .ensures) (c-both .given .1) (omega (arith, c-parse-base-and-index-registers .kept))
+    registers-room _ _ (c-pre) (c-parse-base-and-index-registers .ensures) (c-both .given .1)
 
 enum-told-2 : tie.Need-enum-told-2
 enum-told-2 c = search needs
@@ -89,7 +89,7 @@ returns-3 c =
     let c-close = c .before .before .before .close in
     let c-an-operand = c .an-operand in
     let c-indexed = c .before .indexed in
-    record { told = λ y e. bound (c-parse-base-and-index-registers .ensures) (registers-is _ (sym (c-parse-base-and-index-registers .ensures .what) ∙ c-both .given .1)) (bound (c-expect-close .ensures (c-args .line .now)) (close-is _ (sym (c-expect-close .ensures (c-args .line .now) .what) ∙ c-close .given .1)) (full-index-told y _ _ _ e (c-expect-close .ensures (c-args .line .now) .held ∙ c-parse-base-and-index-registers .ensures .held) (c-an-operand .ensures) (c-indexed .ensures))) }
+    record { told = λ y e. bound (c-parse-base-and-index-registers .ensures) (registers-is _ (sym (c-parse-base-and-index-registers .ensures .what) ∙ c-both .given .1)) (bound (c-expect-close .ensures (c-args .line .now)) (close-is _ (sym (c-expect-close .ensures (c-args .line .now) .what) ∙ c-close .given .1)) (full-index-told y (c-args .s) _ _ e (c-expect-close .ensures (c-args .line .now) .held ∙ c-parse-base-and-index-registers .ensures .held) (c-an-operand .ensures) (c-indexed .ensures))) }
 
 pub parse-full-index-spec : {M : Type 1} → statement M
 parse-full-index-spec =

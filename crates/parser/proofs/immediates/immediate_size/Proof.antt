@@ -11,7 +11,7 @@ use Rattle.parser.proofs.immediates.immediate_size.Tie as tie
 take-size-suffix-requires : tie.Need-take-size-suffix-requires
 take-size-suffix-requires c κs =
     let c-pre = c .before .before .before .before .pre in
-    c-pre .room
+    omega (arith, c-pre)
 
 enum-known-suffix : tie.Need-enum-known-suffix
 enum-known-suffix c = search needs
@@ -23,7 +23,7 @@ immediate-requires : tie.Need-immediate-requires
 immediate-requires c κs =
     let c-pre = c .before .before .before .before .before .before .before .before .before .before .pre in
     let c-take-size-suffix = c .before .before .before .before .before .take-size-suffix in
-    (omega (arith, c-pre, (c-take-size-suffix .ensures) .held), omega (arith, c-pre, (c-take-size-suffix .ensures) .held))
+    omega (arith, c-pre, (c-take-size-suffix .ensures) .held)
 
 same-length : tie.Need-same-length
 same-length c = search needs
@@ -40,19 +40,19 @@ immediate-requires-2 : tie.Need-immediate-requires-2
 immediate-requires-2 c κs =
     let c-pre = c .before .before .before .before .before .before .before .before .before .before .before .before .pre in
     let c-take-size-suffix = c .before .before .before .before .before .before .before .take-size-suffix in
-    (omega (arith, c-pre, (c-take-size-suffix .ensures) .held), omega (arith, c-pre, (c-take-size-suffix .ensures) .held))
+    omega (arith, c-pre, (c-take-size-suffix .ensures) .held)
 
 immediate-requires-3 : tie.Need-immediate-requires-3
 immediate-requires-3 c κs =
     let c-pre = c .before .before .before .before .before .before .before .before .before .before .before .before .pre in
     let c-take-size-suffix = c .before .before .before .before .before .before .before .take-size-suffix in
-    (omega (arith, c-pre, (c-take-size-suffix .ensures) .held), omega (arith, c-pre, (c-take-size-suffix .ensures) .held))
+    omega (arith, c-pre, (c-take-size-suffix .ensures) .held)
 
 malformed-requires : tie.Need-malformed-requires
 malformed-requires c κs =
     let c-pre = c .before .before .before .before .before .before .before .before .before .before .before .before .before .pre in
     let c-take-size-suffix = c .before .before .before .before .before .before .before .before .take-size-suffix in
-    omega (arith, suffix-room _ (c-pre .room) (c-take-size-suffix .ensures) (omega (arith, c-take-size-suffix .kept)))
+    omega (arith, suffix-room _ (c-pre) (c-take-size-suffix .ensures))
 
 no-operand-requires : tie.Need-no-operand-requires
 no-operand-requires c κs = search needs

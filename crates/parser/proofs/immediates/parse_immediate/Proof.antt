@@ -3,16 +3,16 @@
 use native.Mathlib.Omega.{arith}
 use Rattle.operand.specs.Operand.{parseImmediate, immediateValue}
 use Rattle.parser.proofs.Paths.{raised}
-use Rattle.parser.proofs.Trees.{fit, term-past, tree-read, absent-room}
-use Rattle.parser.proofs.Holdings.{nothing-stored, tree-stored, tree-stands, tree-room, stands-size, behind-tree, behind-reported, behind-absent}
+use Rattle.parser.proofs.Trees.{tree-read, absent-room}
+use Rattle.parser.proofs.Holdings.{nothing-stored, tree-stored, tree-stands, stands-size, behind-tree, behind-reported, behind-absent}
 use borrow.Author.Needs.{needs}
 use Rattle.parser.proofs.immediates.parse_immediate.Statement.{statement}
 use Rattle.parser.proofs.immediates.parse_immediate.Tie as tie
 
-expression-requires : tie.Need-expression-requires
-expression-requires c κs =
+expression-at-requires : tie.Need-expression-at-requires
+expression-at-requires c κs =
     let c-pre = c .before .before .before .before .before .before .pre in
-    fit (c-pre .0)
+    c-pre .0
 
 enum-known-parsed : tie.Need-enum-known-parsed
 enum-known-parsed c = search needs
@@ -20,9 +20,9 @@ enum-known-parsed c = search needs
 immediate-size-requires : tie.Need-immediate-size-requires
 immediate-size-requires c κs =
     let c-pre = c .before .before .before .before .before .before .before .before .before .before .before .before .before .before .before .before .pre in
-    let c-expression = c .before .before .before .before .before .before .before .before .before .expression in
+    let c-expression-at = c .before .before .before .before .before .before .before .before .before .expression-at in
     let c-parsed = c .before .before .parsed in
-    tree-room (tree-read _ _ (c-pre .0) (c-expression .ensures) (c-parsed .given .1) (omega (arith, c-expression .kept)) (omega (arith, c-expression .kept)))
+    (tree-read _ _ (c-pre .0) (c-expression-at .ensures) (c-parsed .given .1) (omega (arith, c-expression-at .kept))) .room .room
 
 enum-told : tie.Need-enum-told
 enum-told c = search needs
@@ -36,9 +36,9 @@ enum-told-2 c = search needs
 expression-expected-requires : tie.Need-expression-expected-requires
 expression-expected-requires c κs =
     let c-pre = c .before .before .before .before .before .before .before .before .before .before .before .before .before .before .before .pre in
-    let c-expression = c .before .before .before .before .before .before .before .before .expression in
+    let c-expression-at = c .before .before .before .before .before .before .before .before .expression-at in
     let c-enum-told2 = c .before .enum-told2 in
-    omega (arith, absent-room _ _ (c-pre .0) (c-expression .ensures) (c-enum-told2 .given .1) (omega (arith, c-expression .kept)))
+    omega (arith, absent-room _ _ (c-pre .0) (c-expression-at .ensures) (c-enum-told2 .given .1))
 
 no-operand-requires-2 : tie.Need-no-operand-requires-2
 no-operand-requires-2 c κs = search needs
@@ -53,10 +53,10 @@ returns : tie.Need-returns
 unfolding parseImmediate immediateValue
 returns c =
     let c-pre = c .before .before .before .before .before .before .before .before .before .before .before .before .before .before .before .before .before .before .before .pre in
-    let c-expression = c .before .before .before .before .before .before .before .before .before .before .before .before .expression in
+    let c-expression-at = c .before .before .before .before .before .before .before .before .before .before .before .before .expression-at in
     let c-parsed = c .before .before .before .before .before .parsed in
     let c-immediate-size = c .before .before .immediate-size in
-    record { told = behind-tree _ _ (c-pre .0) (c-expression .ensures) (tree-read _ _ (c-pre .0) (c-expression .ensures) (c-parsed .given .1) (omega (arith, c-expression .kept)) (omega (arith, c-expression .kept))) (tree-stored _ (tree-stands (tree-read _ _ (c-pre .0) (c-expression .ensures) (c-parsed .given .1) (omega (arith, c-expression .kept)) (omega (arith, c-expression .kept))) (c-pre .1)) (c-immediate-size .ensures .told _ (stands-size (tree-stands (tree-read _ _ (c-pre .0) (c-expression .ensures) (c-parsed .given .1) (omega (arith, c-expression .kept)) (omega (arith, c-expression .kept))) (c-pre .1))) ((tree-read _ _ (c-pre .0) (c-expression .ensures) (c-parsed .given .1) (omega (arith, c-expression .kept)) (omega (arith, c-expression .kept))) .span))); past = term-past _ _ (c-pre .0) (c-expression .ensures) }
+    record { told = behind-tree _ _ (c-pre .0) (c-expression-at .ensures) (tree-read _ _ (c-pre .0) (c-expression-at .ensures) (c-parsed .given .1) (omega (arith, c-expression-at .kept))) (tree-stored _ (tree-stands (tree-read _ _ (c-pre .0) (c-expression-at .ensures) (c-parsed .given .1) (omega (arith, c-expression-at .kept))) (c-pre .1)) (c-immediate-size .ensures .told _ (stands-size (tree-stands (tree-read _ _ (c-pre .0) (c-expression-at .ensures) (c-parsed .given .1) (omega (arith, c-expression-at .kept))) (c-pre .1))) ((tree-read _ _ (c-pre .0) (c-expression-at .ensures) (c-parsed .given .1) (omega (arith, c-expression-at .kept))) .span))) }
 
 same-length-3 : tie.Need-same-length-3
 same-length-3 c = search needs
@@ -68,10 +68,10 @@ returns-2 : tie.Need-returns-2
 unfolding parseImmediate immediateValue
 returns-2 c =
     let c-pre = c .before .before .before .before .before .before .before .before .before .before .before .before .before .before .before .pre in
-    let c-expression = c .before .before .before .before .before .before .before .before .expression in
+    let c-expression-at = c .before .before .before .before .before .before .before .before .expression-at in
     let c-enum-told = c .before .enum-told in
     let c-no-operand = c .no-operand in
-    record { told = behind-reported _ _ (c-pre .0) (c-expression .ensures) (c-enum-told .given .1) (nothing-stored _ (c-no-operand .ensures)); past = term-past _ _ (c-pre .0) (c-expression .ensures) }
+    record { told = behind-reported _ _ (c-pre .0) (c-expression-at .ensures) (c-enum-told .given .1) (nothing-stored _ (c-no-operand .ensures)) }
 
 same-length-5 : tie.Need-same-length-5
 same-length-5 c = search needs
@@ -83,17 +83,17 @@ returns-3 : tie.Need-returns-3
 unfolding parseImmediate immediateValue
 returns-3 c =
     let c-pre = c .before .before .before .before .before .before .before .before .before .before .before .before .before .before .before .before .before .before .before .pre in
-    let c-expression = c .before .before .before .before .before .before .before .before .before .before .before .before .expression in
+    let c-expression-at = c .before .before .before .before .before .before .before .before .before .before .before .before .expression-at in
     let c-enum-told2 = c .before .before .before .before .before .enum-told2 in
     let c-expression-expected = c .before .before .before .expression-expected in
     let c-no-operand2 = c .no-operand2 in
-    record { told = behind-absent _ _ (c-pre .0) (c-expression .ensures) (c-enum-told2 .given .1) (raised (c-expression-expected .ensures) (nothing-stored _ (c-no-operand2 .ensures))); past = term-past _ _ (c-pre .0) (c-expression .ensures) }
+    record { told = behind-absent _ _ (c-pre .0) (c-expression-at .ensures) (c-enum-told2 .given .1) (raised (c-expression-expected .ensures) (nothing-stored _ (c-no-operand2 .ensures))) }
 
 pub parse-immediate-spec : {M : Type 1} → statement M
 parse-immediate-spec =
     tie.close
     (tie.spec
-    expression-requires
+    expression-at-requires
     enum-known-parsed
     immediate-size-requires
     enum-told

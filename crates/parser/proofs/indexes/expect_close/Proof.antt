@@ -12,6 +12,9 @@ use borrow.Author.Needs.{needs}
 use Rattle.parser.proofs.indexes.expect_close.Statement.{statement}
 use Rattle.parser.proofs.indexes.expect_close.Tie as tie
 
+cast-at : tie.Need-cast-at
+cast-at c = search needs
+
 token-at-requires : tie.Need-token-at-requires
 token-at-requires c κs = search needs
 
@@ -20,7 +23,7 @@ enum-told c = search needs
 
 unclosed-requires : tie.Need-unclosed-requires
 unclosed-requires c κs =
-    let c-pre = c .before .before .before .before .before .before .pre in
+    let c-pre = c .before .before .before .before .before .before .before .pre in
     omega (arith, c-pre)
 
 never-closed-requires : tie.Need-never-closed-requires
@@ -31,7 +34,7 @@ enum-known-p c = search needs
 
 unclosed-requires-2 : tie.Need-unclosed-requires-2
 unclosed-requires-2 c κs =
-    let c-pre = c .before .before .before .before .before .before .before .before .before .pre in
+    let c-pre = c .before .before .before .before .before .before .before .before .before .before .pre in
     omega (arith, c-pre)
 
 never-closed-requires-2 : tie.Need-never-closed-requires-2
@@ -52,7 +55,7 @@ returns c =
 
 step-over-requires : tie.Need-step-over-requires
 step-over-requires c κs =
-    let c-pre = c .before .before .before .before .before .before .before .before .pre in
+    let c-pre = c .before .before .before .before .before .before .before .before .before .pre in
     let c-token-at = c .before .before .before .before .before .token-at in
     let c-p = c .before .before .before .p in
     omega (arith, c-pre, live _ _ _ (sym (c-token-at .ensures) ∙ c-p .given .1))
@@ -82,6 +85,7 @@ pub expect-close-spec : {M : Type 1} → statement M
 expect-close-spec =
     tie.close
     (tie.spec
+    cast-at
     token-at-requires
     enum-told
     unclosed-requires

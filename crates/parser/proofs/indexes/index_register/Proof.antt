@@ -22,7 +22,7 @@ index-scale-requires : tie.Need-index-scale-requires
 index-scale-requires c κs =
     let c-pre = c .before .before .before .before .before .before .before .before .before .before .before .before .before .pre in
     let c-take-size-suffix = c .before .before .before .before .before .before .before .take-size-suffix in
-    suffix-room _ (c-pre) (c-take-size-suffix .ensures) (omega (arith, c-take-size-suffix .kept))
+    suffix-room _ (c-pre) (c-take-size-suffix .ensures)
 
 enum-known-suffix : tie.Need-enum-known-suffix
 enum-known-suffix c = search needs
@@ -34,7 +34,7 @@ index-scale-requires-2 : tie.Need-index-scale-requires-2
 index-scale-requires-2 c κs =
     let c-pre = c .before .before .before .before .before .before .before .before .before .before .before .before .before .before .pre in
     let c-take-size-suffix = c .before .before .before .before .before .before .before .before .take-size-suffix in
-    suffix-room _ (c-pre) (c-take-size-suffix .ensures) (omega (arith, c-take-size-suffix .kept))
+    suffix-room _ (c-pre) (c-take-size-suffix .ensures)
 
 same-length : tie.Need-same-length
 same-length c = search needs
@@ -47,7 +47,7 @@ returns c =
     let c-args = c .before .before .before .before .before .before .before .before .before .before .before .before .before .before .before .before .args in
     let c-unscaled = c .before .before .before .before .unscaled in
     let c-index-scale = c .before .before .index-scale in
-    bound (c-take-size-suffix .ensures) (suffix-not _ (sym (c-take-size-suffix .ensures .what) ∙ c-enum-told .given .1)) (same (c-take-size-suffix .ensures .held) (renamed (ap (indexScale (c-args .o) (c-args .shape)) (c-unscaled .ensures)) (c-index-scale .ensures)))
+    bound (c-take-size-suffix .ensures) (suffix-not _ (sym (c-take-size-suffix .ensures .what) ∙ c-enum-told .given .1)) (same (c-take-size-suffix .ensures .held) (renamed (ap (indexScale (c-args .s) (c-args .shape)) (c-unscaled .ensures)) (c-index-scale .ensures)))
 
 same-length-2 : tie.Need-same-length-2
 same-length-2 c = search needs
@@ -60,7 +60,7 @@ returns-2 c =
     let c-args = c .before .before .before .before .before .before .before .before .before .before .before .before .before .before .before .before .before .args in
     let c-unscaled2 = c .before .before .before .before .unscaled2 in
     let c-index-scale2 = c .before .before .index-scale2 in
-    bound (c-take-size-suffix .ensures) (suffix-is _ (sym (c-take-size-suffix .ensures .what) ∙ c-suffix .given .1)) (same (c-take-size-suffix .ensures .held) (renamed (ap (indexScale (c-args .o) (c-args .shape)) (c-unscaled2 .ensures)) (c-index-scale2 .ensures)))
+    bound (c-take-size-suffix .ensures) (suffix-is _ (sym (c-take-size-suffix .ensures .what) ∙ c-suffix .given .1)) (same (c-take-size-suffix .ensures .held) (renamed (ap (indexScale (c-args .s) (c-args .shape)) (c-unscaled2 .ensures)) (c-index-scale2 .ensures)))
 
 pub index-register-spec : {M : Type 1} → statement M
 index-register-spec =

@@ -13,6 +13,9 @@ use borrow.Author.Needs.{needs}
 use Rattle.parser.proofs.indexes.index_scale.Statement.{statement}
 use Rattle.parser.proofs.indexes.index_scale.Tie as tie
 
+cast-at : tie.Need-cast-at
+cast-at c = search needs
+
 token-at-requires : tie.Need-token-at-requires
 token-at-requires c κs = search needs
 
@@ -47,10 +50,13 @@ returns-2 c =
 
 step-over-requires : tie.Need-step-over-requires
 step-over-requires c κs =
-    let c-pre = c .before .before .before .before .before .before .before .before .before .pre in
+    let c-pre = c .before .before .before .before .before .before .before .before .before .before .pre in
     let c-token-at = c .before .before .before .before .before .token-at in
     let c-p = c .before .before .before .p in
     omega (arith, c-pre, live _ _ _ (sym (c-token-at .ensures) ∙ c-p .given .1))
+
+cast-next : tie.Need-cast-next
+cast-next c = search needs
 
 token-at-requires-2 : tie.Need-token-at-requires-2
 token-at-requires-2 c κs = search needs
@@ -63,10 +69,10 @@ enum-told-2 c = search needs
 
 stepped-over-requires : tie.Need-stepped-over-requires
 stepped-over-requires c κs =
-    let c-pre = c .before .before .before .before .before .before .before .before .before .before .before .before .before .before .pre in
-    let c-token-at = c .before .before .before .before .before .before .before .before .before .before .token-at in
-    let c-p = c .before .before .before .before .before .before .before .before .p in
-    let c-step-over = c .before .before .before .before .step-over in
+    let c-pre = c .before .before .before .before .before .before .before .before .before .before .before .before .before .before .before .before .pre in
+    let c-token-at = c .before .before .before .before .before .before .before .before .before .before .before .token-at in
+    let c-p = c .before .before .before .before .before .before .before .before .before .p in
+    let c-step-over = c .before .before .before .before .before .step-over in
     room-step (c-pre) (sym (c-token-at .ensures) ∙ c-p .given .1) (c-step-over .ensures)
 
 no-index-requires : tie.Need-no-index-requires
@@ -78,10 +84,10 @@ same-length c = search needs
 returns-3 : tie.Need-returns-3
 unfolding indexScale indexRead
 returns-3 c =
-    let c-token-at = c .before .before .before .before .before .before .before .before .before .before .before .before .before .before .token-at in
-    let c-p = c .before .before .before .before .before .before .before .before .before .before .before .before .p in
-    let c-if1 = c .before .before .before .before .before .before .before .before .before .if1 in
-    let c-step-over = c .before .before .before .before .before .before .before .before .step-over in
+    let c-token-at = c .before .before .before .before .before .before .before .before .before .before .before .before .before .before .before .token-at in
+    let c-p = c .before .before .before .before .before .before .before .before .before .before .before .before .before .p in
+    let c-if1 = c .before .before .before .before .before .before .before .before .before .before .if1 in
+    let c-step-over = c .before .before .before .before .before .before .before .before .before .step-over in
     let c-token-at2 = c .before .before .before .before .before .before .before .token-at2 in
     let c-enum-told2 = c .before .before .before .before .before .enum-told2 in
     let c-stepped-over = c .before .before .before .stepped-over in
@@ -90,10 +96,10 @@ returns-3 c =
 
 stepped-over-requires-2 : tie.Need-stepped-over-requires-2
 stepped-over-requires-2 c κs =
-    let c-pre = c .before .before .before .before .before .before .before .before .before .before .before .before .before .before .before .before .before .pre in
-    let c-token-at = c .before .before .before .before .before .before .before .before .before .before .before .before .before .token-at in
-    let c-p = c .before .before .before .before .before .before .before .before .before .before .before .p in
-    let c-step-over = c .before .before .before .before .before .before .before .step-over in
+    let c-pre = c .before .before .before .before .before .before .before .before .before .before .before .before .before .before .before .before .before .before .before .pre in
+    let c-token-at = c .before .before .before .before .before .before .before .before .before .before .before .before .before .before .token-at in
+    let c-p = c .before .before .before .before .before .before .before .before .before .before .before .before .p in
+    let c-step-over = c .before .before .before .before .before .before .before .before .step-over in
     room-step (c-pre) (sym (c-token-at .ensures) ∙ c-p .given .1) (c-step-over .ensures)
 
 no-index-requires-2 : tie.Need-no-index-requires-2
@@ -105,10 +111,10 @@ same-length-2 c = search needs
 returns-4 : tie.Need-returns-4
 unfolding indexScale indexRead
 returns-4 c =
-    let c-token-at = c .before .before .before .before .before .before .before .before .before .before .before .before .before .before .before .before .before .token-at in
-    let c-p = c .before .before .before .before .before .before .before .before .before .before .before .before .before .before .before .p in
-    let c-if1 = c .before .before .before .before .before .before .before .before .before .before .before .before .if1 in
-    let c-step-over = c .before .before .before .before .before .before .before .before .before .before .before .step-over in
+    let c-token-at = c .before .before .before .before .before .before .before .before .before .before .before .before .before .before .before .before .before .before .token-at in
+    let c-p = c .before .before .before .before .before .before .before .before .before .before .before .before .before .before .before .before .p in
+    let c-if1 = c .before .before .before .before .before .before .before .before .before .before .before .before .before .if1 in
+    let c-step-over = c .before .before .before .before .before .before .before .before .before .before .before .before .step-over in
     let c-token-at2 = c .before .before .before .before .before .before .before .before .before .before .token-at2 in
     let c-q = c .before .before .before .before .before .before .before .before .q in
     let c-if2 = c .before .before .before .before .before .if2 in
@@ -118,22 +124,22 @@ returns-4 c =
 
 step-over-requires-2 : tie.Need-step-over-requires-2
 step-over-requires-2 c κs =
-    let c-pre = c .before .before .before .before .before .before .before .before .before .before .before .before .before .before .before .before .before .pre in
-    let c-token-at = c .before .before .before .before .before .before .before .before .before .before .before .before .before .token-at in
-    let c-p = c .before .before .before .before .before .before .before .before .before .before .before .p in
-    let c-step-over = c .before .before .before .before .before .before .before .step-over in
+    let c-pre = c .before .before .before .before .before .before .before .before .before .before .before .before .before .before .before .before .before .before .before .pre in
+    let c-token-at = c .before .before .before .before .before .before .before .before .before .before .before .before .before .before .token-at in
+    let c-p = c .before .before .before .before .before .before .before .before .before .before .before .before .p in
+    let c-step-over = c .before .before .before .before .before .before .before .before .step-over in
     let c-token-at2 = c .before .before .before .before .before .before .token-at2 in
     let c-q = c .before .before .before .before .q in
     omega (arith, c-pre, room-step (c-pre) (sym (c-token-at .ensures) ∙ c-p .given .1) (c-step-over .ensures), live _ _ _ (sym (c-token-at2 .ensures) ∙ c-q .given .1))
 
 index-scale-value-requires : tie.Need-index-scale-value-requires
 index-scale-value-requires c κs =
-    let c-pre = c .before .before .before .before .before .before .before .before .before .before .before .before .before .before .before .before .before .before .pre in
-    let c-token-at = c .before .before .before .before .before .before .before .before .before .before .before .before .before .before .token-at in
-    let c-p = c .before .before .before .before .before .before .before .before .before .before .before .before .p in
+    let c-pre = c .before .before .before .before .before .before .before .before .before .before .before .before .before .before .before .before .before .before .before .before .pre in
+    let c-token-at = c .before .before .before .before .before .before .before .before .before .before .before .before .before .before .before .token-at in
+    let c-p = c .before .before .before .before .before .before .before .before .before .before .before .before .before .p in
     let c-token-at2 = c .before .before .before .before .before .before .before .token-at2 in
     let c-q = c .before .before .before .before .before .q in
-    let c-step-over = c .before .before .before .before .before .before .before .before .step-over in
+    let c-step-over = c .before .before .before .before .before .before .before .before .before .step-over in
     let c-step-over2 = c .step-over2 in
     omega (arith, c-pre, live _ _ _ (sym (c-token-at .ensures) ∙ c-p .given .1), live _ _ _ (sym (c-token-at2 .ensures) ∙ c-q .given .1), ap (λ z. z .at) (c-step-over .ensures), ap (λ z. z .diagnostics) (c-step-over .ensures), ap (λ z. z .diagnostics) (c-step-over2 .ensures))
 
@@ -143,10 +149,10 @@ same-length-3 c = search needs
 returns-5 : tie.Need-returns-5
 unfolding indexScale indexRead
 returns-5 c =
-    let c-token-at = c .before .before .before .before .before .before .before .before .before .before .before .before .before .before .before .before .before .token-at in
-    let c-p = c .before .before .before .before .before .before .before .before .before .before .before .before .before .before .before .p in
-    let c-if1 = c .before .before .before .before .before .before .before .before .before .before .before .before .if1 in
-    let c-step-over = c .before .before .before .before .before .before .before .before .before .before .before .step-over in
+    let c-token-at = c .before .before .before .before .before .before .before .before .before .before .before .before .before .before .before .before .before .before .token-at in
+    let c-p = c .before .before .before .before .before .before .before .before .before .before .before .before .before .before .before .before .p in
+    let c-if1 = c .before .before .before .before .before .before .before .before .before .before .before .before .before .if1 in
+    let c-step-over = c .before .before .before .before .before .before .before .before .before .before .before .before .step-over in
     let c-token-at2 = c .before .before .before .before .before .before .before .before .before .before .token-at2 in
     let c-q = c .before .before .before .before .before .before .before .before .q in
     let c-if2 = c .before .before .before .before .before .if2 in
@@ -158,6 +164,7 @@ pub index-scale-spec : {M : Type 1} → statement M
 index-scale-spec =
     tie.close
     (tie.spec
+    cast-at
     token-at-requires
     enum-known-p
     enum-told
@@ -166,6 +173,7 @@ index-scale-spec =
     an-index-requires-2
     returns-2
     step-over-requires
+    cast-next
     token-at-requires-2
     enum-known-q
     enum-told-2

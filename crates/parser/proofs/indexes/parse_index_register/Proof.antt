@@ -1,17 +1,20 @@
--- `parser::indexes::parse_index_register` meets its contract.
+-- `parser::indexes::parse_index_register` meets its contract. A name that spells a suppressed register spells no register.
 -- Assumes nothing.
 use mathlib.Core.Path.{refl, sym, _∙_, ap}
 use mathlib.Core.Bool.{true, false}
 use native.Mathlib.Omega.{arith}
-use Rattle.operand.specs.Operand.{parseIndexRegister, indexRegister, isSuppressedRegister}
+use Rattle.operand.specs.Operand.{parseIndexRegister, indexRegister}
 use Rattle.operand.specs.Forms.{indexRead}
-use Rattle.parser.proofs.Names.{reg-is, reg-not, unmarked-is, register-as, suppressed-as}
+use Rattle.parser.proofs.Names.{reg-is, reg-not, suppressed-hit, suppressed-miss, suppressed-no-register, register-as, suppressed-as}
 use Rattle.names.specs.Places.{live}
 use Rattle.parser.proofs.Paths.{renamed, hereby, hit-same, miss, done, failed-over, over-same}
 use Rattle.parser.proofs.Rooms.{room-step}
 use borrow.Author.Needs.{needs}
 use Rattle.parser.proofs.indexes.parse_index_register.Statement.{statement}
 use Rattle.parser.proofs.indexes.parse_index_register.Tie as tie
+
+cast-at : tie.Need-cast-at
+cast-at c = search needs
 
 token-at-requires : tie.Need-token-at-requires
 token-at-requires c κs = search needs
@@ -24,7 +27,7 @@ enum-told c = search needs
 
 stepped-over-requires : tie.Need-stepped-over-requires
 stepped-over-requires c κs =
-    let c-pre = c .before .before .before .before .before .before .before .pre in
+    let c-pre = c .before .before .before .before .before .before .before .before .pre in
     c-pre
 
 no-index-requires : tie.Need-no-index-requires
@@ -34,7 +37,7 @@ same-length : tie.Need-same-length
 same-length c = search needs
 
 returns : tie.Need-returns
-unfolding parseIndexRegister indexRead isSuppressedRegister
+unfolding parseIndexRegister indexRead
 returns c =
     let c-token-at = c .before .before .before .before .before .before .before .token-at in
     let c-enum-told = c .before .before .before .before .before .enum-told in
@@ -42,17 +45,15 @@ returns c =
     let c-no-index = c .no-index in
     hereby (done (sym (c-token-at .ensures) ∙ c-enum-told .given .1) (done (sym (c-token-at .ensures) ∙ c-enum-told .given .1) (failed-over _ _ 6 (c-stepped-over .ensures) (c-no-index .ensures .0) (c-no-index .ensures .1) (over-same (c-stepped-over .ensures)))))
 
-register-at-requires : tie.Need-register-at-requires
-register-at-requires c κs = search needs
+step-over-requires : tie.Need-step-over-requires
+step-over-requires c κs =
+    let c-pre = c .before .before .before .before .before .before .before .before .pre in
+    let c-token-at = c .before .before .before .token-at in
+    let c-p = c .before .p in
+    omega (arith, c-pre, live _ _ _ (sym (c-token-at .ensures) ∙ c-p .given .1))
 
-enum-known-r : tie.Need-enum-known-r
-enum-known-r c = search needs
-
-enum-told-2 : tie.Need-enum-told-2
-enum-told-2 c = search needs
-
-suppressed-register-at-requires : tie.Need-suppressed-register-at-requires
-suppressed-register-at-requires c κs = search needs
+suppressed-index-at-requires : tie.Need-suppressed-index-at-requires
+suppressed-index-at-requires c κs = search needs
 
 enum-known-z : tie.Need-enum-known-z
 enum-known-z c = search needs
@@ -60,45 +61,45 @@ enum-known-z c = search needs
 register-of-requires : tie.Need-register-of-requires
 register-of-requires c κs = search needs
 
-step-over-requires : tie.Need-step-over-requires
-step-over-requires c κs =
-    let c-pre = c .before .before .before .before .before .before .before .before .before .before .before .before .before .before .before .pre in
-    let c-token-at = c .before .before .before .before .before .before .before .before .before .before .before .token-at in
-    let c-p = c .before .before .before .before .before .before .before .before .before .p in
-    omega (arith, c-pre, live _ _ _ (sym (c-token-at .ensures) ∙ c-p .given .1))
-
 index-register-requires : tie.Need-index-register-requires
 index-register-requires c κs =
-    let c-pre = c .before .before .before .before .before .before .before .before .before .before .before .before .before .before .before .before .before .pre in
-    let c-token-at = c .before .before .before .before .before .before .before .before .before .before .before .before .before .token-at in
-    let c-p = c .before .before .before .before .before .before .before .before .before .before .before .p in
-    let c-step-over = c .before .step-over in
+    let c-pre = c .before .before .before .before .before .before .before .before .before .before .before .before .before .before .before .pre in
+    let c-token-at = c .before .before .before .before .before .before .before .before .before .before .token-at in
+    let c-p = c .before .before .before .before .before .before .before .before .p in
+    let c-step-over = c .before .before .before .before .before .before .step-over in
     room-step (c-pre) (sym (c-token-at .ensures) ∙ c-p .given .1) (c-step-over .ensures)
 
 same-length-2 : tie.Need-same-length-2
 same-length-2 c = search needs
 
 returns-2 : tie.Need-returns-2
-unfolding parseIndexRegister indexRead isSuppressedRegister
+unfolding parseIndexRegister indexRead
 returns-2 c =
-    let c-token-at = c .before .before .before .before .before .before .before .before .before .before .before .before .before .before .before .before .token-at in
-    let c-p = c .before .before .before .before .before .before .before .before .before .before .before .before .before .before .p in
-    let c-register-at = c .before .before .before .before .before .before .before .before .before .before .before .before .register-at in
-    let c-enum-told2 = c .before .before .before .before .before .before .before .before .before .before .enum-told2 in
-    let c-suppressed-register-at = c .before .before .before .before .before .before .before .before .before .suppressed-register-at in
-    let c-z = c .before .before .before .before .before .before .before .z in
-    let c-step-over = c .before .before .before .before .step-over in
-    let c-args = c .before .before .before .before .before .before .before .before .before .before .before .before .before .before .before .before .before .before .before .before .args in
-    let c-register-of = c .before .before .before .before .before .register-of in
+    let c-token-at = c .before .before .before .before .before .before .before .before .before .before .before .before .before .token-at in
+    let c-p = c .before .before .before .before .before .before .before .before .before .before .before .p in
+    let c-suppressed-index-at = c .before .before .before .before .before .before .before .before .suppressed-index-at in
+    let c-z = c .before .before .before .before .before .before .z in
+    let c-step-over = c .before .before .before .before .before .before .before .before .before .step-over in
+    let c-args = c .before .before .before .before .before .before .before .before .before .before .before .before .before .before .before .before .before .before .args in
+    let c-register-of = c .before .before .before .before .register-of in
     let c-index-register = c .before .before .index-register in
-    hereby (miss (sym (c-token-at .ensures) ∙ c-p .given .1) (reg-not _ _ (sym (c-register-at .ensures) ∙ c-enum-told2 .given .1)) (hit-same (sym (c-token-at .ensures) ∙ c-p .given .1) (unmarked-is _ _ isSuppressedRegister _ _ refl ∙ ap isSuppressedRegister (sym (c-suppressed-register-at .ensures) ∙ c-z .given .1)) (c-step-over .ensures) (renamed (ap (λ z. indexRegister (c-args .o) (c-args .shape) z true) (c-register-of .ensures ∙ suppressed-as _ _ _ _ (sym (c-suppressed-register-at .ensures) ∙ c-z .given .1) refl)) (c-index-register .ensures))))
+    hereby (miss (sym (c-token-at .ensures) ∙ c-p .given .1) (suppressed-no-register _ _ _ _ (sym (c-suppressed-index-at .ensures) ∙ c-z .given .1)) (hit-same (sym (c-token-at .ensures) ∙ c-p .given .1) (suppressed-hit _ _ _ _ (sym (c-suppressed-index-at .ensures) ∙ c-z .given .1)) (c-step-over .ensures) (renamed (ap (λ z. indexRegister (c-args .s) (c-args .shape) z true) (c-register-of .ensures ∙ suppressed-as _ _ _ _ (sym (c-suppressed-index-at .ensures) ∙ c-z .given .1) refl)) (c-index-register .ensures))))
+
+enum-told-2 : tie.Need-enum-told-2
+enum-told-2 c = search needs
+
+register-at-requires : tie.Need-register-at-requires
+register-at-requires c κs = search needs
+
+enum-known-index : tie.Need-enum-known-index
+enum-known-index c = search needs
 
 enum-told-3 : tie.Need-enum-told-3
 enum-told-3 c = search needs
 
 stepped-over-requires-2 : tie.Need-stepped-over-requires-2
 stepped-over-requires-2 c κs =
-    let c-pre = c .before .before .before .before .before .before .before .before .before .before .before .before .before .before .pre in
+    let c-pre = c .before .before .before .before .before .before .before .before .before .before .before .before .before .before .before .before .pre in
     c-pre
 
 no-index-requires-2 : tie.Need-no-index-requires-2
@@ -108,83 +109,50 @@ same-length-3 : tie.Need-same-length-3
 same-length-3 c = search needs
 
 returns-3 : tie.Need-returns-3
-unfolding parseIndexRegister indexRead isSuppressedRegister
+unfolding parseIndexRegister indexRead
 returns-3 c =
-    let c-token-at = c .before .before .before .before .before .before .before .before .before .before .before .before .before .before .token-at in
-    let c-p = c .before .before .before .before .before .before .before .before .before .before .before .before .p in
-    let c-register-at = c .before .before .before .before .before .before .before .before .before .before .register-at in
-    let c-enum-told2 = c .before .before .before .before .before .before .before .before .enum-told2 in
-    let c-suppressed-register-at = c .before .before .before .before .before .before .before .suppressed-register-at in
+    let c-token-at = c .before .before .before .before .before .before .before .before .before .before .before .before .before .before .before .token-at in
+    let c-p = c .before .before .before .before .before .before .before .before .before .before .before .before .before .p in
+    let c-register-at = c .before .before .before .before .before .before .before .register-at in
     let c-enum-told3 = c .before .before .before .before .before .enum-told3 in
+    let c-suppressed-index-at = c .before .before .before .before .before .before .before .before .before .before .suppressed-index-at in
+    let c-enum-told2 = c .before .before .before .before .before .before .before .before .enum-told2 in
     let c-stepped-over2 = c .before .before .before .stepped-over2 in
     let c-no-index2 = c .no-index2 in
-    hereby (miss (sym (c-token-at .ensures) ∙ c-p .given .1) (reg-not _ _ (sym (c-register-at .ensures) ∙ c-enum-told2 .given .1)) (miss (sym (c-token-at .ensures) ∙ c-p .given .1) (unmarked-is _ _ isSuppressedRegister _ _ refl ∙ ap isSuppressedRegister (sym (c-suppressed-register-at .ensures) ∙ c-enum-told3 .given .1)) (failed-over _ _ 6 (c-stepped-over2 .ensures) (c-no-index2 .ensures .0) (c-no-index2 .ensures .1) (over-same (c-stepped-over2 .ensures)))))
+    hereby (miss (sym (c-token-at .ensures) ∙ c-p .given .1) (reg-not _ _ (sym (c-register-at .ensures) ∙ c-enum-told3 .given .1)) (miss (sym (c-token-at .ensures) ∙ c-p .given .1) (suppressed-miss _ _ _ _ (sym (c-suppressed-index-at .ensures) ∙ c-enum-told2 .given .1)) (failed-over _ _ 6 (c-stepped-over2 .ensures) (c-no-index2 .ensures .0) (c-no-index2 .ensures .1) (over-same (c-stepped-over2 .ensures)))))
 
-enum-told-4 : tie.Need-enum-told-4
-enum-told-4 c = search needs
+register-of-requires-2 : tie.Need-register-of-requires-2
+register-of-requires-2 c κs = search needs
 
-stepped-over-requires-3 : tie.Need-stepped-over-requires-3
-stepped-over-requires-3 c κs =
-    let c-pre = c .before .before .before .before .before .before .before .before .before .before .before .before .before .before .pre in
-    c-pre
-
-no-index-requires-3 : tie.Need-no-index-requires-3
-no-index-requires-3 c κs = search needs
+index-register-requires-2 : tie.Need-index-register-requires-2
+index-register-requires-2 c κs =
+    let c-pre = c .before .before .before .before .before .before .before .before .before .before .before .before .before .before .before .before .before .before .pre in
+    let c-token-at = c .before .before .before .before .before .before .before .before .before .before .before .before .before .token-at in
+    let c-p = c .before .before .before .before .before .before .before .before .before .before .before .p in
+    let c-step-over = c .before .before .before .before .before .before .before .before .before .step-over in
+    room-step (c-pre) (sym (c-token-at .ensures) ∙ c-p .given .1) (c-step-over .ensures)
 
 same-length-4 : tie.Need-same-length-4
 same-length-4 c = search needs
 
 returns-4 : tie.Need-returns-4
-unfolding parseIndexRegister indexRead isSuppressedRegister
+unfolding parseIndexRegister indexRead
 returns-4 c =
-    let c-token-at = c .before .before .before .before .before .before .before .before .before .before .before .before .before .before .token-at in
-    let c-p = c .before .before .before .before .before .before .before .before .before .before .before .before .p in
-    let c-register-at = c .before .before .before .before .before .before .before .before .before .before .register-at in
-    let c-enum-told2 = c .before .before .before .before .before .before .before .before .enum-told2 in
-    let c-suppressed-register-at = c .before .before .before .before .before .before .before .suppressed-register-at in
-    let c-enum-told4 = c .before .before .before .before .before .enum-told4 in
-    let c-stepped-over3 = c .before .before .before .stepped-over3 in
-    let c-no-index3 = c .no-index3 in
-    hereby (miss (sym (c-token-at .ensures) ∙ c-p .given .1) (reg-not _ _ (sym (c-register-at .ensures) ∙ c-enum-told2 .given .1)) (miss (sym (c-token-at .ensures) ∙ c-p .given .1) (unmarked-is _ _ isSuppressedRegister _ _ refl ∙ ap isSuppressedRegister (sym (c-suppressed-register-at .ensures) ∙ c-enum-told4 .given .1)) (failed-over _ _ 6 (c-stepped-over3 .ensures) (c-no-index3 .ensures .0) (c-no-index3 .ensures .1) (over-same (c-stepped-over3 .ensures)))))
-
-register-of-requires-2 : tie.Need-register-of-requires-2
-register-of-requires-2 c κs = search needs
-
-step-over-requires-2 : tie.Need-step-over-requires-2
-step-over-requires-2 c κs =
-    let c-pre = c .before .before .before .before .before .before .before .before .before .before .before .before .pre in
-    let c-token-at = c .before .before .before .before .before .before .before .before .token-at in
-    let c-p = c .before .before .before .before .before .before .p in
-    omega (arith, c-pre, live _ _ _ (sym (c-token-at .ensures) ∙ c-p .given .1))
-
-index-register-requires-2 : tie.Need-index-register-requires-2
-index-register-requires-2 c κs =
-    let c-pre = c .before .before .before .before .before .before .before .before .before .before .before .before .before .before .pre in
-    let c-token-at = c .before .before .before .before .before .before .before .before .before .before .token-at in
-    let c-p = c .before .before .before .before .before .before .before .before .p in
-    let c-step-over2 = c .before .step-over2 in
-    room-step (c-pre) (sym (c-token-at .ensures) ∙ c-p .given .1) (c-step-over2 .ensures)
-
-same-length-5 : tie.Need-same-length-5
-same-length-5 c = search needs
-
-returns-5 : tie.Need-returns-5
-unfolding parseIndexRegister indexRead isSuppressedRegister
-returns-5 c =
-    let c-token-at = c .before .before .before .before .before .before .before .before .before .before .before .before .before .token-at in
-    let c-p = c .before .before .before .before .before .before .before .before .before .before .before .p in
-    let c-register-at = c .before .before .before .before .before .before .before .before .before .register-at in
-    let c-r = c .before .before .before .before .before .before .before .r in
-    let c-step-over2 = c .before .before .before .before .step-over2 in
-    let c-args = c .before .before .before .before .before .before .before .before .before .before .before .before .before .before .before .before .before .args in
-    let c-register-of2 = c .before .before .before .before .before .register-of2 in
+    let c-token-at = c .before .before .before .before .before .before .before .before .before .before .before .before .before .before .before .before .token-at in
+    let c-p = c .before .before .before .before .before .before .before .before .before .before .before .before .before .before .p in
+    let c-register-at = c .before .before .before .before .before .before .before .before .register-at in
+    let c-index = c .before .before .before .before .before .before .index in
+    let c-step-over = c .before .before .before .before .before .before .before .before .before .before .before .before .step-over in
+    let c-args = c .before .before .before .before .before .before .before .before .before .before .before .before .before .before .before .before .before .before .before .before .before .args in
+    let c-register-of2 = c .before .before .before .before .register-of2 in
     let c-index-register2 = c .before .before .index-register2 in
-    hereby (hit-same (sym (c-token-at .ensures) ∙ c-p .given .1) (reg-is _ _ _ (sym (c-register-at .ensures) ∙ c-r .given .1)) (c-step-over2 .ensures) (renamed (ap (λ z. indexRegister (c-args .o) (c-args .shape) z false) (c-register-of2 .ensures ∙ register-as _ _ (sym (c-register-at .ensures) ∙ c-r .given .1) refl)) (c-index-register2 .ensures)))
+    hereby (hit-same (sym (c-token-at .ensures) ∙ c-p .given .1) (reg-is _ _ _ (sym (c-register-at .ensures) ∙ c-index .given .1)) (c-step-over .ensures) (renamed (ap (λ z. indexRegister (c-args .s) (c-args .shape) z false) (c-register-of2 .ensures ∙ register-as _ _ (sym (c-register-at .ensures) ∙ c-index .given .1) refl)) (c-index-register2 .ensures)))
 
 pub parse-index-register-spec : {M : Type 1} → statement M
 parse-index-register-spec =
     tie.close
     (tie.spec
+    cast-at
     token-at-requires
     enum-known-p
     enum-told
@@ -192,28 +160,22 @@ parse-index-register-spec =
     no-index-requires
     same-length
     returns
-    register-at-requires
-    enum-known-r
-    enum-told-2
-    suppressed-register-at-requires
+    step-over-requires
+    suppressed-index-at-requires
     enum-known-z
     register-of-requires
-    step-over-requires
     index-register-requires
     same-length-2
     returns-2
+    enum-told-2
+    register-at-requires
+    enum-known-index
     enum-told-3
     stepped-over-requires-2
     no-index-requires-2
     same-length-3
     returns-3
-    enum-told-4
-    stepped-over-requires-3
-    no-index-requires-3
-    same-length-4
-    returns-4
     register-of-requires-2
-    step-over-requires-2
     index-register-requires-2
-    same-length-5
-    returns-5)
+    same-length-4
+    returns-4)

@@ -51,10 +51,8 @@ enum-known-size c = search needs
 enum-told : tie.Need-enum-told
 enum-told c = search needs
 
-add-t22 : tie.Need-add-t22
-add-t22 c =
-    let c-pre = c .before .before .before .before .before .before .before .before .before .before .pre in
-    omega (arith, c-pre .1)
+run-span-requires : tie.Need-run-span-requires
+run-span-requires c κs = search needs
 
 diagnostic-requires-2 : tie.Need-diagnostic-requires-2
 diagnostic-requires-2 c κs = search needs
@@ -87,10 +85,11 @@ returns-3 c =
     let c-span-of = c .before .before .before .before .before .before .before .before .before .before .before .span-of in
     let c-from-run = c .before .before .before .before .before .before .before .before .before .from-run in
     let c-enum-told = c .before .before .before .before .before .before .before .enum-told in
+    let c-run-span = c .before .before .before .before .before .before .run-span in
     let c-diagnostic2 = c .before .before .before .before .diagnostic2 in
     let c-raise2 = c .before .before .before .raise2 in
     let c-unknown2 = c .unknown2 in
-    λ T. suffix-unknown _ _ _ _ _ _ _ (c-suffix-run .ensures ∙ ap runOf (c-text-of .ensures)) (c-if1 .left) (c-span-of .ensures) (sym (ap sizeOf (c-suffix-run .ensures ∙ ap runOf (c-text-of .ensures))) ∙ sym (c-from-run .ensures) ∙ c-enum-told .given .1) (c-diagnostic2 .ensures) (c-raise2 .ensures) (c-unknown2 .ensures)
+    λ T. suffix-unknown _ _ _ _ _ _ _ (c-suffix-run .ensures ∙ ap runOf (c-text-of .ensures)) (c-if1 .left) (c-span-of .ensures) (sym (ap sizeOf (c-suffix-run .ensures ∙ ap runOf (c-text-of .ensures))) ∙ sym (c-from-run .ensures) ∙ c-enum-told .given .1) (c-run-span .ensures) (c-diagnostic2 .ensures) (c-raise2 .ensures) (c-unknown2 .ensures)
 
 pub suffix-run-spec : {M : Type 1} → statement M
 suffix-run-spec =
@@ -107,7 +106,7 @@ suffix-run-spec =
     from-run-requires
     enum-known-size
     enum-told
-    add-t22
+    run-span-requires
     diagnostic-requires-2
     raise-requires-2
     unknown-requires-2

@@ -12,6 +12,9 @@ use borrow.Author.Needs.{needs}
 use Rattle.parser.proofs.indexes.take_size_suffix.Statement.{statement}
 use Rattle.parser.proofs.indexes.take_size_suffix.Tie as tie
 
+cast-at : tie.Need-cast-at
+cast-at c = search needs
+
 token-at-requires : tie.Need-token-at-requires
 token-at-requires c κs = search needs
 
@@ -38,19 +41,18 @@ returns c =
 
 step-over-requires : tie.Need-step-over-requires
 step-over-requires c κs =
-    let c-pre = c .before .before .before .before .before .before .before .before .before .before .pre in
+    let c-pre = c .before .before .before .before .before .before .before .before .before .before .before .pre in
     let c-token-at = c .before .before .before .before .before .before .token-at in
     let c-p = c .before .before .before .before .p in
     omega (arith, c-pre, live _ _ _ (sym (c-token-at .ensures) ∙ c-p .given .1))
 
 suffix-run-requires : tie.Need-suffix-run-requires
 suffix-run-requires c κs =
-    let c-pre = c .before .before .before .before .before .before .before .before .before .before .before .pre in
+    let c-pre = c .before .before .before .before .before .before .before .before .before .before .before .before .pre in
     let c-token-at = c .before .before .before .before .before .before .before .token-at in
     let c-p = c .before .before .before .before .before .p in
     let c-step-over = c .step-over in
-    let c-if1 = c .before .before .if1 in
-    (omega (arith, c-pre, live _ _ _ (sym (c-token-at .ensures) ∙ c-p .given .1), ap (λ z. z .diagnostics) (c-step-over .ensures)), c-pre .suffixes _ _ (sym (c-token-at .ensures) ∙ c-p .given .1) (c-if1 .left))
+    omega (arith, c-pre, live _ _ _ (sym (c-token-at .ensures) ∙ c-p .given .1), ap (λ z. z .diagnostics) (c-step-over .ensures))
 
 returns-2 : tie.Need-returns-2
 unfolding takeSizeSuffix suffixRead
@@ -77,6 +79,7 @@ pub take-size-suffix-spec : {M : Type 1} → statement M
 take-size-suffix-spec =
     tie.close
     (tie.spec
+    cast-at
     token-at-requires
     enum-told
     bare-requires

@@ -28,7 +28,7 @@ close-indirect-requires c κs =
     let c-pre = c .before .before .before .before .before .before .before .before .before .before .before .before .before .before .before .before .before .pre in
     let c-parse-outer = c .before .before .before .before .before .before .before .before .before .parse-outer in
     let c-read = c .before .before .read in
-    outer-room _ _ _ (c-pre) (c-parse-outer .ensures) (outer-is _ _ (sym (c-parse-outer .ensures .told .what) ∙ c-read .given .1) .is) (omega (arith, c-parse-outer .kept)) (omega (arith, c-parse-outer .kept)) .room
+    outer-room _ _ (c-pre) (c-parse-outer .ensures) (outer-is _ _ (sym (c-parse-outer .ensures .told .what) ∙ c-read .given .1) .is) (omega (arith, c-parse-outer .kept)) .room
 
 same-length : tie.Need-same-length
 same-length c = search needs
@@ -42,7 +42,7 @@ returns c =
     let c-parse-outer = c .before .before .before .before .before .before .before .before .parse-outer in
     let c-enum-told = c .before .enum-told in
     let c-no-operand = c .no-operand in
-    record { told = λ x a st. bound (outer-of _ _ x a (c-parse-outer .ensures) .told) (outer-not _ _ (sym (outer-of _ _ x a (c-parse-outer .ensures) .told .what) ∙ c-enum-told .given .1)) (answered (c-no-operand .ensures .0) (c-no-operand .ensures .1) tt); past = c-parse-outer .ensures .past }
+    record { told = λ x a st. bound (outer-of _ x a (c-parse-outer .ensures) .told) (outer-not _ _ (sym (outer-of _ x a (c-parse-outer .ensures) .told .what) ∙ c-enum-told .given .1)) (answered (c-no-operand .ensures .0) (c-no-operand .ensures .1) tt) }
 
 same-length-3 : tie.Need-same-length-3
 same-length-3 c = search needs
@@ -56,7 +56,7 @@ returns-2 c =
     let c-parse-outer = c .before .before .before .before .before .before .before .before .before .before .before .before .parse-outer in
     let c-read = c .before .before .before .before .before .read in
     let c-close-indirect = c .before .before .close-indirect in
-    record { told = λ x a st. bound (outer-of _ _ x a (c-parse-outer .ensures) .told) (outer-is _ _ (sym (outer-of _ _ x a (c-parse-outer .ensures) .told .what) ∙ c-read .given .1) .is) (operand-behind x (outer-is _ _ (sym (outer-of _ _ x a (c-parse-outer .ensures) .told .what) ∙ c-read .given .1) .part) a (outer-is _ _ (sym (outer-of _ _ x a (c-parse-outer .ensures) .told .what) ∙ c-read .given .1) .form) st (held-some (outer-of _ _ x a (c-parse-outer .ensures) .told) (outer-is _ _ (sym (outer-of _ _ x a (c-parse-outer .ensures) .told .what) ∙ c-read .given .1) .is)) (c-close-indirect .ensures)); past = c-parse-outer .ensures .past }
+    record { told = λ x a st. bound (outer-of _ x a (c-parse-outer .ensures) .told) (outer-is _ _ (sym (outer-of _ x a (c-parse-outer .ensures) .told .what) ∙ c-read .given .1) .is) (operand-behind x (outer-is _ _ (sym (outer-of _ x a (c-parse-outer .ensures) .told .what) ∙ c-read .given .1) .part) a (outer-is _ _ (sym (outer-of _ x a (c-parse-outer .ensures) .told .what) ∙ c-read .given .1) .form) st (held-some (outer-of _ x a (c-parse-outer .ensures) .told) (outer-is _ _ (sym (outer-of _ x a (c-parse-outer .ensures) .told .what) ∙ c-read .given .1) .is)) (c-close-indirect .ensures)) }
 
 pub after-inner-spec : {M : Type 1} → statement M
 after-inner-spec =

@@ -13,6 +13,9 @@ use borrow.Author.Needs.{needs}
 use Rattle.parser.proofs.inner.inner_displaced.Statement.{statement}
 use Rattle.parser.proofs.inner.inner_displaced.Tie as tie
 
+cast-at : tie.Need-cast-at
+cast-at c = search needs
+
 token-at-requires : tie.Need-token-at-requires
 token-at-requires c κs = search needs
 
@@ -39,14 +42,14 @@ returns c =
 
 step-over-requires : tie.Need-step-over-requires
 step-over-requires c κs =
-    let c-pre = c .before .before .before .before .before .before .before .before .before .before .pre in
+    let c-pre = c .before .before .before .before .before .before .before .before .before .before .before .pre in
     let c-token-at = c .before .before .before .before .before .before .token-at in
     let c-p = c .before .before .before .before .p in
     omega (arith, c-pre, live _ _ _ (sym (c-token-at .ensures) ∙ c-p .given .1))
 
 inner-registers-requires : tie.Need-inner-registers-requires
 inner-registers-requires c κs =
-    let c-pre = c .before .before .before .before .before .before .before .before .before .before .before .pre in
+    let c-pre = c .before .before .before .before .before .before .before .before .before .before .before .before .pre in
     let c-token-at = c .before .before .before .before .before .before .before .token-at in
     let c-p = c .before .before .before .before .before .p in
     let c-step-over = c .step-over in
@@ -77,6 +80,7 @@ pub inner-displaced-spec : {M : Type 1} → statement M
 inner-displaced-spec =
     tie.close
     (tie.spec
+    cast-at
     token-at-requires
     enum-told
     bare-inner-requires

@@ -27,7 +27,7 @@ inner-displaced-requires c κs =
     let c-pre = c .before .before .before .before .before .before .before .before .before .before .before .before .before .before .before .before .pre in
     let c-parse-sized-displacement = c .before .before .before .before .before .before .before .before .before .parse-sized-displacement in
     let c-displacement = c .before .before .displacement in
-    displacement-room _ _ (c-pre) (c-parse-sized-displacement .ensures) (displacement-is _ _ (sym (c-parse-sized-displacement .ensures .told .what) ∙ c-displacement .given .1) .is) (omega (arith, c-parse-sized-displacement .kept)) (omega (arith, c-parse-sized-displacement .kept)) .room
+    displacement-room _ (c-pre) (c-parse-sized-displacement .ensures) (displacement-is _ _ (sym (c-parse-sized-displacement .ensures .told .what) ∙ c-displacement .given .1) .is) (omega (arith, c-parse-sized-displacement .kept)) .room
 
 same-length : tie.Need-same-length
 same-length c = search needs
@@ -41,7 +41,7 @@ returns c =
     let c-parse-sized-displacement = c .before .before .before .before .before .before .before .before .parse-sized-displacement in
     let c-enum-told = c .before .enum-told in
     let c-no-inner = c .no-inner in
-    record { told = bound (c-parse-sized-displacement .ensures .told) (displacement-not _ _ (sym (c-parse-sized-displacement .ensures .told .what) ∙ c-enum-told .given .1)) (answered (c-no-inner .ensures .0) (c-no-inner .ensures .1) tt); past = c-parse-sized-displacement .ensures .past }
+    record { told = bound (c-parse-sized-displacement .ensures .told) (displacement-not _ _ (sym (c-parse-sized-displacement .ensures .told .what) ∙ c-enum-told .given .1)) (answered (c-no-inner .ensures .0) (c-no-inner .ensures .1) tt) }
 
 same-length-3 : tie.Need-same-length-3
 same-length-3 c = search needs
@@ -54,7 +54,7 @@ returns-2 c =
     let c-parse-sized-displacement = c .before .before .before .before .before .before .before .before .before .before .before .before .parse-sized-displacement in
     let c-displacement = c .before .before .before .before .before .displacement in
     let c-inner-displaced = c .before .before .inner-displaced in
-    record { told = bound (c-parse-sized-displacement .ensures .told) (displacement-is _ _ (sym (c-parse-sized-displacement .ensures .told .what) ∙ c-displacement .given .1) .is) (c-inner-displaced .ensures .told _ _ _ (displacement-is _ _ (sym (c-parse-sized-displacement .ensures .told .what) ∙ c-displacement .given .1) .displacement) (displacement-is _ _ (sym (c-parse-sized-displacement .ensures .told .what) ∙ c-displacement .given .1) .form) (held-some (c-parse-sized-displacement .ensures .told) (displacement-is _ _ (sym (c-parse-sized-displacement .ensures .told .what) ∙ c-displacement .given .1) .is))); past = c-parse-sized-displacement .ensures .past }
+    record { told = bound (c-parse-sized-displacement .ensures .told) (displacement-is _ _ (sym (c-parse-sized-displacement .ensures .told .what) ∙ c-displacement .given .1) .is) (c-inner-displaced .ensures .told _ _ _ (displacement-is _ _ (sym (c-parse-sized-displacement .ensures .told .what) ∙ c-displacement .given .1) .displacement) (displacement-is _ _ (sym (c-parse-sized-displacement .ensures .told .what) ∙ c-displacement .given .1) .form) (held-some (c-parse-sized-displacement .ensures .told) (displacement-is _ _ (sym (c-parse-sized-displacement .ensures .told .what) ∙ c-displacement .given .1) .is))) }
 
 pub inner-displacement-spec : {M : Type 1} → statement M
 inner-displacement-spec =

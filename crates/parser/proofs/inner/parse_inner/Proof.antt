@@ -13,6 +13,9 @@ use borrow.Author.Needs.{needs}
 use Rattle.parser.proofs.inner.parse_inner.Statement.{statement}
 use Rattle.parser.proofs.inner.parse_inner.Tie as tie
 
+cast-at : tie.Need-cast-at
+cast-at c = search needs
+
 token-at-requires : tie.Need-token-at-requires
 token-at-requires c κs = search needs
 
@@ -37,7 +40,7 @@ returns c =
     let c-token-at = c .before .before .before .before .before .before .before .before .before .token-at in
     let c-enum-told = c .before .before .before .before .before .before .before .enum-told in
     let c-inner-displacement = c .before .before .before .before .inner-displacement in
-    record { told = hereby (beyond (omega arith) (sym (c-token-at .ensures) ∙ c-enum-told .given .1) (beyond (omega arith) (sym (c-token-at .ensures) ∙ c-enum-told .given .1) (c-inner-displacement .ensures .told))); past = c-inner-displacement .ensures .past }
+    record { told = hereby (beyond (omega arith) (sym (c-token-at .ensures) ∙ c-enum-told .given .1) (beyond (omega arith) (sym (c-token-at .ensures) ∙ c-enum-told .given .1) (c-inner-displacement .ensures .told))) }
 
 bare-inner-requires : tie.Need-bare-inner-requires
 bare-inner-requires c κs = search needs
@@ -49,14 +52,14 @@ returns-2 c =
     let c-p = c .before .before .before .before .p in
     let c-if1 = c .before .if1 in
     let c-bare-inner = c .bare-inner in
-    record { told = hereby (seen (omega arith) (sym (c-token-at .ensures) ∙ c-p .given .1) (eq-eqb _ Kinds.rightBracket (c-if1 .taken)) (inner-answered _ undisplaced refl (c-bare-inner .ensures .0) (c-bare-inner .ensures .1) (stored-none _ _))); past = refl }
+    record { told = hereby (seen (omega arith) (sym (c-token-at .ensures) ∙ c-p .given .1) (eq-eqb _ Kinds.rightBracket (c-if1 .taken)) (inner-answered _ undisplaced refl (c-bare-inner .ensures .0) (c-bare-inner .ensures .1) (stored-none _ _))) }
 
 is-a-base-or-an-index-requires : tie.Need-is-a-base-or-an-index-requires
 is-a-base-or-an-index-requires c κs = search needs
 
 inner-registers-requires : tie.Need-inner-registers-requires
 inner-registers-requires c κs =
-    let c-pre = c .before .before .before .before .before .before .before .before .before .before .before .before .before .pre in
+    let c-pre = c .before .before .before .before .before .before .before .before .before .before .before .before .before .before .pre in
     c-pre .room
 
 same-length-3 : tie.Need-same-length-3
@@ -71,7 +74,7 @@ returns-3 c =
     let c-is-a-base-or-an-index = c .before .before .before .before .before .is-a-base-or-an-index in
     let c-if2 = c .before .before .before .before .if2 in
     let c-inner-registers = c .before .before .inner-registers in
-    record { told = hereby (other (omega arith) (sym (c-token-at .ensures) ∙ c-p .given .1) (ne-eqb _ Kinds.rightBracket (c-if1 .left)) (seen (omega arith) (sym (c-token-at .ensures) ∙ c-p .given .1) (sym (c-is-a-base-or-an-index .ensures) ∙ c-if2 .taken) (c-inner-registers .ensures .told _ _ _ undisplaced refl (stored-none _ _)))); past = refl }
+    record { told = hereby (other (omega arith) (sym (c-token-at .ensures) ∙ c-p .given .1) (ne-eqb _ Kinds.rightBracket (c-if1 .left)) (seen (omega arith) (sym (c-token-at .ensures) ∙ c-p .given .1) (sym (c-is-a-base-or-an-index .ensures) ∙ c-if2 .taken) (c-inner-registers .ensures .told _ _ _ undisplaced refl (stored-none _ _)))) }
 
 inner-displacement-requires-2 : tie.Need-inner-displacement-requires-2
 inner-displacement-requires-2 c κs = search needs
@@ -91,12 +94,13 @@ returns-4 c =
     let c-is-a-base-or-an-index = c .before .before .before .before .before .before .before .before .is-a-base-or-an-index in
     let c-if2 = c .before .before .before .before .before .before .before .if2 in
     let c-inner-displacement2 = c .before .before .before .before .inner-displacement2 in
-    record { told = hereby (other (omega arith) (sym (c-token-at .ensures) ∙ c-p .given .1) (ne-eqb _ Kinds.rightBracket (c-if1 .left)) (other (omega arith) (sym (c-token-at .ensures) ∙ c-p .given .1) (sym (c-is-a-base-or-an-index .ensures) ∙ c-if2 .left) (c-inner-displacement2 .ensures .told))); past = c-inner-displacement2 .ensures .past }
+    record { told = hereby (other (omega arith) (sym (c-token-at .ensures) ∙ c-p .given .1) (ne-eqb _ Kinds.rightBracket (c-if1 .left)) (other (omega arith) (sym (c-token-at .ensures) ∙ c-p .given .1) (sym (c-is-a-base-or-an-index .ensures) ∙ c-if2 .left) (c-inner-displacement2 .ensures .told))) }
 
 pub parse-inner-spec : {M : Type 1} → statement M
 parse-inner-spec =
     tie.close
     (tie.spec
+    cast-at
     token-at-requires
     enum-known-p
     enum-told

@@ -7,6 +7,9 @@ use borrow.Author.Needs.{needs}
 use Rattle.parser.proofs.lists.expect_register.Statement.{statement}
 use Rattle.parser.proofs.lists.expect_register.Tie as tie
 
+cast-at : tie.Need-cast-at
+cast-at c = search needs
+
 token-at-requires : tie.Need-token-at-requires
 token-at-requires c κs = search needs
 
@@ -32,8 +35,8 @@ returns c =
 register-at-requires : tie.Need-register-at-requires
 register-at-requires c κs = search needs
 
-enum-known-r : tie.Need-enum-known-r
-enum-known-r c = search needs
+enum-known-index : tie.Need-enum-known-index
+enum-known-index c = search needs
 
 enum-told-2 : tie.Need-enum-told-2
 enum-told-2 c = search needs
@@ -64,15 +67,16 @@ returns-3 c =
     let c-token-at = c .before .before .before .before .before .before .before .before .before .token-at in
     let c-p = c .before .before .before .before .before .before .before .p in
     let c-register-at = c .before .before .before .before .before .register-at in
-    let c-r = c .before .before .before .r in
+    let c-index = c .before .before .before .index in
     let c-span-of = c .before .span-of in
     let c-step-over = c .step-over in
-    found _ _ (sym (c-token-at .ensures) ∙ c-p .given .1) (sym (c-register-at .ensures) ∙ c-r .given .1) (rw (c-span-of .ensures)) (c-step-over .ensures) refl
+    found _ _ (sym (c-token-at .ensures) ∙ c-p .given .1) (sym (c-register-at .ensures) ∙ c-index .given .1) (rw (c-span-of .ensures)) (c-step-over .ensures) refl
 
 pub expect-register-spec : {M : Type 1} → statement M
 expect-register-spec =
     tie.close
     (tie.spec
+    cast-at
     token-at-requires
     enum-known-p
     enum-told
@@ -80,7 +84,7 @@ expect-register-spec =
     same-length
     returns
     register-at-requires
-    enum-known-r
+    enum-known-index
     enum-told-2
     register-expected-requires-2
     same-length-2

@@ -8,6 +8,9 @@ use borrow.Author.Needs.{needs}
 use Rattle.parser.proofs.lists.list_item.Statement.{statement}
 use Rattle.parser.proofs.lists.list_item.Tie as tie
 
+cast-at : tie.Need-cast-at
+cast-at c = search needs
+
 token-at-requires : tie.Need-token-at-requires
 token-at-requires c κs = search needs
 
@@ -22,7 +25,7 @@ single-requires c κs = search needs
 
 returns : tie.Need-returns
 returns c =
-    let c-pre = c .before .before .before .before .before .before .before .pre in
+    let c-pre = c .before .before .before .before .before .before .before .before .pre in
     let c-single = c .single in
     let c-token-at = c .before .before .before .token-at in
     let c-enum-told = c .before .enum-told in
@@ -33,7 +36,7 @@ single-requires-2 c κs = search needs
 
 returns-2 : tie.Need-returns-2
 returns-2 c =
-    let c-pre = c .before .before .before .before .before .before .before .before .before .before .pre in
+    let c-pre = c .before .before .before .before .before .before .before .before .before .before .before .pre in
     let c-single2 = c .single2 in
     let c-token-at = c .before .before .before .before .before .before .token-at in
     let c-p = c .before .before .before .before .p in
@@ -45,7 +48,7 @@ step-over-requires c κs = search needs
 
 expect-register-requires : tie.Need-expect-register-requires
 expect-register-requires c κs =
-    let c-pre = c .before .before .before .before .before .before .before .before .before .before .before .pre in
+    let c-pre = c .before .before .before .before .before .before .before .before .before .before .before .before .pre in
     let c-token-at = c .before .before .before .before .before .before .before .token-at in
     let c-p = c .before .before .before .before .before .p in
     let c-step-over = c .step-over in
@@ -56,7 +59,7 @@ enum-known-register c = search needs
 
 ranged-requires : tie.Need-ranged-requires
 ranged-requires c κs =
-    let c-pre = c .before .before .before .before .before .before .before .before .before .before .before .before .before .before .before .before .before .before .before .pre in
+    let c-pre = c .before .before .before .before .before .before .before .before .before .before .before .before .before .before .before .before .before .before .before .before .pre in
     let c-token-at = c .before .before .before .before .before .before .before .before .before .before .before .before .before .before .before .token-at in
     let c-p = c .before .before .before .before .before .before .before .before .before .before .before .before .before .p in
     let c-step-over = c .before .before .before .before .before .before .before .before .step-over in
@@ -72,12 +75,12 @@ same-length c = search needs
 
 returns-3 : tie.Need-returns-3
 returns-3 c =
-    let c-args = c .before .before .before .before .before .before .before .before .before .before .before .before .before .before .before .before .before .before .before .before .before .before .args in
+    let c-args = c .before .before .before .before .before .before .before .before .before .before .before .before .before .before .before .before .before .before .before .before .before .before .before .args in
     let c-token-at = c .before .before .before .before .before .before .before .before .before .before .before .before .before .before .before .before .before .before .token-at in
     let c-p = c .before .before .before .before .before .before .before .before .before .before .before .before .before .before .before .before .p in
     let c-if1 = c .before .before .before .before .before .before .before .before .before .before .before .before .before .if1 in
     let c-step-over = c .before .before .before .before .before .before .before .before .before .before .before .step-over in
-    let c-pre = c .before .before .before .before .before .before .before .before .before .before .before .before .before .before .before .before .before .before .before .before .before .before .pre in
+    let c-pre = c .before .before .before .before .before .before .before .before .before .before .before .before .before .before .before .before .before .before .before .before .before .before .before .pre in
     let c-expect-register = c .before .before .before .before .before .before .before .before .before .before .expect-register in
     let c-register = c .before .before .before .before .before .register in
     let c-ranged = c .before .before .ranged in
@@ -88,7 +91,7 @@ same-length-2 c = search needs
 
 returns-4 : tie.Need-returns-4
 returns-4 c =
-    let c-args = c .before .before .before .before .before .before .before .before .before .before .before .before .before .before .before .before .before .args in
+    let c-args = c .before .before .before .before .before .before .before .before .before .before .before .before .before .before .before .before .before .before .args in
     let c-token-at = c .before .before .before .before .before .before .before .before .before .before .before .before .before .token-at in
     let c-p = c .before .before .before .before .before .before .before .before .before .before .before .p in
     let c-if1 = c .before .before .before .before .before .before .before .before .if1 in
@@ -101,6 +104,7 @@ pub list-item-spec : {M : Type 1} → statement M
 list-item-spec =
     tie.close
     (tie.spec
+    cast-at
     token-at-requires
     enum-known-p
     enum-told

@@ -11,10 +11,10 @@ use Rattle.parser.proofs.lists.parse_register_list.Statement.{statement
 use Rattle.parser.proofs.lists.parse_register_list.Tie as tie
 
 abbrev Inv-loop : tie.InvT-loop
-Inv-loop line tokens nodes₀ diagnostics₀ o mask₀ e₀ r₀ nodes diagnostics mask e r = Going line tokens nodes₀ diagnostics₀ nodes diagnostics e₀ o r₀ mask e r
+Inv-loop line tokens nodes₀ diagnostics₀ s mask₀ e₀ r₀ nodes diagnostics mask e r = Going line tokens nodes₀ diagnostics₀ nodes diagnostics e₀ s r₀ mask e r
 
 abbrev μ-loop : tie.MeasureT-loop
-μ-loop line tokens nodes₀ diagnostics₀ o mask₀ e₀ r₀ nodes diagnostics mask e r = count tokens - e .at
+μ-loop line tokens nodes₀ diagnostics₀ s mask₀ e₀ r₀ nodes diagnostics mask e r = count tokens - e .at
 
 loop-holds : tie.Need-loop-holds Inv-loop μ-loop
 loop-holds c =
@@ -70,6 +70,9 @@ put-item-requires c κs =
     let c-pre = c .before .before .before .before .before .before .before .before .before .before .before .before .before .before .before .pre in
     omega (arith, item-behind (c-loop .r) (c-list-item .ensures) (c-read .given .1), (c-loop .inv), c-pre)
 
+cast-slash-at : tie.Need-cast-slash-at Inv-loop μ-loop
+cast-slash-at c = search needs
+
 slash-at-requires : tie.Need-slash-at-requires Inv-loop μ-loop
 slash-at-requires c κs = search needs
 
@@ -81,20 +84,20 @@ enum-told-2 c = search needs
 
 step-over-requires : tie.Need-step-over-requires Inv-loop μ-loop
 step-over-requires c κs =
-    let c-loop = c .before .before .before .before .before .before .before .before .before .before .before .before .before .before .before .before .before .before .loop in
-    let c-list-item = c .before .before .before .before .before .before .before .before .before .before .before .before .before .before .before .before .list-item in
-    let c-read = c .before .before .before .before .before .before .before .before .before .before .before .read in
-    let c-put-item = c .before .before .before .before .before .before .before .put-item in
-    let c-range-bits = c .before .before .before .before .before .before .before .before .before .range-bits in
-    omega (arith, (reached (c-loop .inv) (c-list-item .ensures) (c-read .given .1) (omega (arith, c-list-item .kept)) (c-put-item .ensures) (c-range-bits .ensures)) .room)
-
-expect-register-requires : tie.Need-expect-register-requires Inv-loop μ-loop
-expect-register-requires c κs =
     let c-loop = c .before .before .before .before .before .before .before .before .before .before .before .before .before .before .before .before .before .before .before .loop in
     let c-list-item = c .before .before .before .before .before .before .before .before .before .before .before .before .before .before .before .before .before .list-item in
     let c-read = c .before .before .before .before .before .before .before .before .before .before .before .before .read in
     let c-put-item = c .before .before .before .before .before .before .before .before .put-item in
     let c-range-bits = c .before .before .before .before .before .before .before .before .before .before .range-bits in
+    omega (arith, (reached (c-loop .inv) (c-list-item .ensures) (c-read .given .1) (omega (arith, c-list-item .kept)) (c-put-item .ensures) (c-range-bits .ensures)) .room)
+
+expect-register-requires : tie.Need-expect-register-requires Inv-loop μ-loop
+expect-register-requires c κs =
+    let c-loop = c .before .before .before .before .before .before .before .before .before .before .before .before .before .before .before .before .before .before .before .before .loop in
+    let c-list-item = c .before .before .before .before .before .before .before .before .before .before .before .before .before .before .before .before .before .before .list-item in
+    let c-read = c .before .before .before .before .before .before .before .before .before .before .before .before .before .read in
+    let c-put-item = c .before .before .before .before .before .before .before .before .before .put-item in
+    let c-range-bits = c .before .before .before .before .before .before .before .before .before .before .before .range-bits in
     let c-p = c .before .before .before .p in
     let c-slash-at = c .before .before .before .before .before .slash-at in
     let c-step-over = c .step-over in
@@ -111,27 +114,27 @@ no-operand-requires-2 c κs = search needs
 
 same-length-3 : tie.Need-same-length-3 Inv-loop μ-loop
 same-length-3 c =
-    let c-list-item = c .before .before .before .before .before .before .before .before .before .before .before .before .before .before .before .before .before .before .before .before .before .before .before .before .list-item in
-    let c-put-item = c .before .before .before .before .before .before .before .before .before .before .before .before .before .before .before .put-item in
+    let c-list-item = c .before .before .before .before .before .before .before .before .before .before .before .before .before .before .before .before .before .before .before .before .before .before .before .before .before .list-item in
+    let c-put-item = c .before .before .before .before .before .before .before .before .before .before .before .before .before .before .before .before .put-item in
     let c-expect-register = c .before .before .before .before .before .before .expect-register in
-    let c-loop = c .before .before .before .before .before .before .before .before .before .before .before .before .before .before .before .before .before .before .before .before .before .before .before .before .before .before .loop in
+    let c-loop = c .before .before .before .before .before .before .before .before .before .before .before .before .before .before .before .before .before .before .before .before .before .before .before .before .before .before .before .loop in
     omega (arith, c-list-item .kept, c-put-item .kept, c-expect-register .kept, (c-loop .inv))
 
 same-length-4 : tie.Need-same-length-4 Inv-loop μ-loop
 same-length-4 c =
-    let c-list-item = c .before .before .before .before .before .before .before .before .before .before .before .before .before .before .before .before .before .before .before .before .before .before .before .before .list-item in
-    let c-put-item = c .before .before .before .before .before .before .before .before .before .before .before .before .before .before .before .put-item in
+    let c-list-item = c .before .before .before .before .before .before .before .before .before .before .before .before .before .before .before .before .before .before .before .before .before .before .before .before .before .list-item in
+    let c-put-item = c .before .before .before .before .before .before .before .before .before .before .before .before .before .before .before .before .put-item in
     let c-expect-register = c .before .before .before .before .before .before .expect-register in
-    let c-loop = c .before .before .before .before .before .before .before .before .before .before .before .before .before .before .before .before .before .before .before .before .before .before .before .before .before .before .loop in
+    let c-loop = c .before .before .before .before .before .before .before .before .before .before .before .before .before .before .before .before .before .before .before .before .before .before .before .before .before .before .before .loop in
     omega (arith, c-list-item .kept, c-put-item .kept, c-expect-register .kept, (c-loop .inv))
 
 returns-2 : tie.Need-returns-2 Inv-loop μ-loop
 returns-2 c =
-    let c-loop = c .before .before .before .before .before .before .before .before .before .before .before .before .before .before .before .before .before .before .before .before .before .before .before .before .before .before .loop in
-    let c-list-item = c .before .before .before .before .before .before .before .before .before .before .before .before .before .before .before .before .before .before .before .before .before .before .before .before .list-item in
-    let c-read = c .before .before .before .before .before .before .before .before .before .before .before .before .before .before .before .before .before .before .before .read in
-    let c-put-item = c .before .before .before .before .before .before .before .before .before .before .before .before .before .before .before .put-item in
-    let c-range-bits = c .before .before .before .before .before .before .before .before .before .before .before .before .before .before .before .before .before .range-bits in
+    let c-loop = c .before .before .before .before .before .before .before .before .before .before .before .before .before .before .before .before .before .before .before .before .before .before .before .before .before .before .before .loop in
+    let c-list-item = c .before .before .before .before .before .before .before .before .before .before .before .before .before .before .before .before .before .before .before .before .before .before .before .before .before .list-item in
+    let c-read = c .before .before .before .before .before .before .before .before .before .before .before .before .before .before .before .before .before .before .before .before .read in
+    let c-put-item = c .before .before .before .before .before .before .before .before .before .before .before .before .before .before .before .before .put-item in
+    let c-range-bits = c .before .before .before .before .before .before .before .before .before .before .before .before .before .before .before .before .before .before .range-bits in
     let c-p = c .before .before .before .before .before .before .before .before .before .before .p in
     let c-slash-at = c .before .before .before .before .before .before .before .before .before .before .before .before .slash-at in
     let c-step-over = c .before .before .before .before .before .before .before .step-over in
@@ -142,10 +145,10 @@ returns-2 c =
 
 loop-less : tie.Need-loop-less Inv-loop μ-loop
 loop-less c =
-    let c-loop = c .before .before .before .before .before .before .before .before .before .before .before .before .before .before .before .before .before .before .before .before .before .before .before .before .before .before .loop in
-    let c-list-item = c .before .before .before .before .before .before .before .before .before .before .before .before .before .before .before .before .before .before .before .before .before .before .before .before .list-item in
-    let c-read = c .before .before .before .before .before .before .before .before .before .before .before .before .before .before .before .before .before .before .before .read in
-    let c-put-item = c .before .before .before .before .before .before .before .before .before .before .before .before .before .before .before .put-item in
+    let c-loop = c .before .before .before .before .before .before .before .before .before .before .before .before .before .before .before .before .before .before .before .before .before .before .before .before .before .before .before .loop in
+    let c-list-item = c .before .before .before .before .before .before .before .before .before .before .before .before .before .before .before .before .before .before .before .before .before .before .before .before .before .list-item in
+    let c-read = c .before .before .before .before .before .before .before .before .before .before .before .before .before .before .before .before .before .before .before .before .read in
+    let c-put-item = c .before .before .before .before .before .before .before .before .before .before .before .before .before .before .before .before .put-item in
     let c-step-over = c .before .before .before .before .before .before .before .step-over in
     let c-expect-register = c .before .before .before .before .before .before .expect-register in
     let c-register = c .before .register in
@@ -153,11 +156,11 @@ loop-less c =
 
 loop-again : tie.Need-loop-again Inv-loop μ-loop
 loop-again c =
-    let c-loop = c .before .before .before .before .before .before .before .before .before .before .before .before .before .before .before .before .before .before .before .before .before .before .before .before .before .before .loop in
-    let c-list-item = c .before .before .before .before .before .before .before .before .before .before .before .before .before .before .before .before .before .before .before .before .before .before .before .before .list-item in
-    let c-read = c .before .before .before .before .before .before .before .before .before .before .before .before .before .before .before .before .before .before .before .read in
-    let c-put-item = c .before .before .before .before .before .before .before .before .before .before .before .before .before .before .before .put-item in
-    let c-range-bits = c .before .before .before .before .before .before .before .before .before .before .before .before .before .before .before .before .before .range-bits in
+    let c-loop = c .before .before .before .before .before .before .before .before .before .before .before .before .before .before .before .before .before .before .before .before .before .before .before .before .before .before .before .loop in
+    let c-list-item = c .before .before .before .before .before .before .before .before .before .before .before .before .before .before .before .before .before .before .before .before .before .before .before .before .before .list-item in
+    let c-read = c .before .before .before .before .before .before .before .before .before .before .before .before .before .before .before .before .before .before .before .before .read in
+    let c-put-item = c .before .before .before .before .before .before .before .before .before .before .before .before .before .before .before .before .put-item in
+    let c-range-bits = c .before .before .before .before .before .before .before .before .before .before .before .before .before .before .before .before .before .before .range-bits in
     let c-p = c .before .before .before .before .before .before .before .before .before .before .p in
     let c-slash-at = c .before .before .before .before .before .before .before .before .before .before .before .before .slash-at in
     let c-step-over = c .before .before .before .before .before .before .before .step-over in
@@ -170,25 +173,25 @@ listed-requires c κs = search needs
 
 same-length-5 : tie.Need-same-length-5 Inv-loop μ-loop
 same-length-5 c =
-    let c-list-item = c .before .before .before .before .before .before .before .before .before .before .before .before .before .before .before .list-item in
-    let c-put-item = c .before .before .before .before .before .before .put-item in
-    let c-loop = c .before .before .before .before .before .before .before .before .before .before .before .before .before .before .before .before .before .loop in
+    let c-list-item = c .before .before .before .before .before .before .before .before .before .before .before .before .before .before .before .before .list-item in
+    let c-put-item = c .before .before .before .before .before .before .before .put-item in
+    let c-loop = c .before .before .before .before .before .before .before .before .before .before .before .before .before .before .before .before .before .before .loop in
     omega (arith, c-list-item .kept, c-put-item .kept, (c-loop .inv))
 
 same-length-6 : tie.Need-same-length-6 Inv-loop μ-loop
 same-length-6 c =
-    let c-list-item = c .before .before .before .before .before .before .before .before .before .before .before .before .before .before .before .list-item in
-    let c-put-item = c .before .before .before .before .before .before .put-item in
-    let c-loop = c .before .before .before .before .before .before .before .before .before .before .before .before .before .before .before .before .before .loop in
+    let c-list-item = c .before .before .before .before .before .before .before .before .before .before .before .before .before .before .before .before .list-item in
+    let c-put-item = c .before .before .before .before .before .before .before .put-item in
+    let c-loop = c .before .before .before .before .before .before .before .before .before .before .before .before .before .before .before .before .before .before .loop in
     omega (arith, c-list-item .kept, c-put-item .kept, (c-loop .inv))
 
 returns-3 : tie.Need-returns-3 Inv-loop μ-loop
 returns-3 c =
-    let c-loop = c .before .before .before .before .before .before .before .before .before .before .before .before .before .before .before .before .before .loop in
-    let c-list-item = c .before .before .before .before .before .before .before .before .before .before .before .before .before .before .before .list-item in
-    let c-read = c .before .before .before .before .before .before .before .before .before .before .read in
-    let c-put-item = c .before .before .before .before .before .before .put-item in
-    let c-range-bits = c .before .before .before .before .before .before .before .before .range-bits in
+    let c-loop = c .before .before .before .before .before .before .before .before .before .before .before .before .before .before .before .before .before .before .loop in
+    let c-list-item = c .before .before .before .before .before .before .before .before .before .before .before .before .before .before .before .before .list-item in
+    let c-read = c .before .before .before .before .before .before .before .before .before .before .before .read in
+    let c-put-item = c .before .before .before .before .before .before .before .put-item in
+    let c-range-bits = c .before .before .before .before .before .before .before .before .before .range-bits in
     let c-enum-told2 = c .before .enum-told2 in
     let c-slash-at = c .before .before .before .slash-at in
     let c-listed = c .listed in
@@ -210,6 +213,7 @@ parse-register-list-spec =
     returns
     range-bits-requires
     put-item-requires
+    cast-slash-at
     slash-at-requires
     enum-known-p
     enum-told-2

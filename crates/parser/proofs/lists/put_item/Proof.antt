@@ -1,6 +1,9 @@
 -- `parser::lists::put_item` meets its contract.
 -- Assumes nothing.
+use mathlib.Core.Path.{refl}
 use native.Mathlib.Omega.{arith}
+use Rattle.records.specs.Nodes.{words}
+use Rattle.records.specs.Written.{put-told}
 use Rattle.parser.proofs.Ranges.{node-told}
 use borrow.Author.Needs.{needs}
 use Rattle.parser.proofs.lists.put_item.Statement.{statement}
@@ -45,14 +48,19 @@ cast-right c = search needs
 put-node-requires : tie.Need-put-node-requires
 put-node-requires c κs = search needs
 
+add-t18 : tie.Need-add-t18
+add-t18 c = search needs
+
 same-length : tie.Need-same-length
 same-length c = search needs
 
 returns : tie.Need-returns
+unfolding words
 returns c =
-    let c-args = c .before .before .before .before .before .before .before .before .before .before .before .before .before .args in
-    let c-put-node = c .before .before .put-node in
-    node-told (c-args .item) (omega arith) (omega arith) (omega arith) (omega arith) (c-put-node .ensures)
+    let c-args = c .before .before .before .before .before .before .before .before .before .before .before .before .before .before .args in
+    let c-pre = c .before .before .before .before .before .before .before .before .before .before .before .before .before .before .pre in
+    let c-put-node = c .before .before .before .put-node in
+    node-told (c-args .item) (omega arith) (omega arith) (omega arith) (omega arith) (put-told _ _ _ _ (c-pre) refl (c-put-node .ensures))
 
 pub put-item-spec : {M : Type 1} → statement M
 put-item-spec =
@@ -71,5 +79,6 @@ put-item-spec =
     cast-left
     cast-right
     put-node-requires
+    add-t18
     same-length
     returns)

@@ -7,6 +7,12 @@ use borrow.Author.Needs.{needs}
 use Rattle.parser.proofs.lists.ranged.Statement.{statement}
 use Rattle.parser.proofs.lists.ranged.Tie as tie
 
+cast-t10 : tie.Need-cast-t10
+cast-t10 c = search needs
+
+cast-t11 : tie.Need-cast-t11
+cast-t11 c = search needs
+
 diagnostic-requires : tie.Need-diagnostic-requires
 diagnostic-requires c κs = search needs
 
@@ -18,7 +24,7 @@ same-length c = search needs
 
 returns : tie.Need-returns
 returns c =
-    let c-if1 = c .before .before .before .before .before .if1 in
+    let c-if1 = c .before .before .before .before .before .before .before .if1 in
     let c-diagnostic = c .before .before .before .diagnostic in
     let c-raise = c .before .before .raise in
     falling (c-if1 .taken) refl (raised-as (c-diagnostic .ensures) (c-raise .ensures))
@@ -29,4 +35,6 @@ returns-2 c =
     rising (c-if1 .left) refl refl refl
 
 pub ranged-spec : {M : Type 1} → statement M
-ranged-spec = tie.close (tie.spec diagnostic-requires raise-requires same-length returns returns-2)
+ranged-spec =
+    tie.close
+    (tie.spec cast-t10 cast-t11 diagnostic-requires raise-requires same-length returns returns-2)

@@ -7,6 +7,9 @@ use borrow.Author.Needs.{needs}
 use Rattle.parser.proofs.lists.register_expected.Statement.{statement}
 use Rattle.parser.proofs.lists.register_expected.Tie as tie
 
+cast-at : tie.Need-cast-at
+cast-at c = search needs
+
 token-at-requires : tie.Need-token-at-requires
 token-at-requires c κs = search needs
 
@@ -60,6 +63,7 @@ pub register-expected-spec : {M : Type 1} → statement M
 register-expected-spec =
     tie.close
     (tie.spec
+    cast-at
     token-at-requires
     enum-known-p
     span-of-requires

@@ -2,21 +2,23 @@
 -- Assumes nothing.
 use mathlib.Core.Path.{refl, sym, _∙_, ap}
 use native.Mathlib.Omega.{arith}
-use borrow.Author.Tests.{eq-eqb, ne-eqb}
+use borrow.Author.Tests.{eq-eqb, ne-eqb, not-true, not-false}
 use Rattle.names.specs.Kinds
 use Rattle.operand.specs.Operand.{minusOperand}
 use Rattle.names.specs.Places.{live}
 use Rattle.parser.proofs.Paths.{seen, other, beyond}
-use Rattle.parser.proofs.Names.{reg-is, reg-not}
 use Rattle.parser.proofs.Rooms.{room-step}
 use Rattle.parser.proofs.Operations.{token-from, predecrement-told}
 use borrow.Author.Needs.{needs}
 use Rattle.parser.proofs.operands.minus_operand.Statement.{statement}
 use Rattle.parser.proofs.operands.minus_operand.Tie as tie
 
+cast-at : tie.Need-cast-at
+cast-at c = search needs
+
 add-token-at : tie.Need-add-token-at
 add-token-at c =
-    let c-pre = c .before .before .before .before .pre in
+    let c-pre = c .before .before .before .before .before .pre in
     omega (arith, c-pre .0 .room)
 
 token-at-requires : tie.Need-token-at-requires
@@ -30,7 +32,7 @@ enum-told c = search needs
 
 parse-expression-operand-requires : tie.Need-parse-expression-operand-requires
 parse-expression-operand-requires c κs =
-    let c-pre = c .before .before .before .before .before .before .before .before .before .pre in
+    let c-pre = c .before .before .before .before .before .before .before .before .before .before .pre in
     (c-pre .0, c-pre .1)
 
 same-length : tie.Need-same-length
@@ -45,11 +47,11 @@ returns c =
     let c-token-at = c .before .before .before .before .before .before .before .before .before .token-at in
     let c-enum-told = c .before .before .before .before .before .before .before .enum-told in
     let c-parse-expression-operand = c .before .before .before .before .parse-expression-operand in
-    record { told = beyond refl (sym (c-token-at .ensures) ∙ c-enum-told .given .1) (c-parse-expression-operand .ensures .told); past = c-parse-expression-operand .ensures .past }
+    record { told = beyond refl (sym (c-token-at .ensures) ∙ c-enum-told .given .1) (c-parse-expression-operand .ensures .told) }
 
 parse-expression-operand-requires-2 : tie.Need-parse-expression-operand-requires-2
 parse-expression-operand-requires-2 c κs =
-    let c-pre = c .before .before .before .before .before .before .before .before .before .before .before .before .pre in
+    let c-pre = c .before .before .before .before .before .before .before .before .before .before .before .before .before .pre in
     (c-pre .0, c-pre .1)
 
 same-length-3 : tie.Need-same-length-3
@@ -65,11 +67,11 @@ returns-2 c =
     let c-p = c .before .before .before .before .before .before .before .before .before .before .p in
     let c-if1 = c .before .before .before .before .before .before .before .if1 in
     let c-parse-expression-operand2 = c .before .before .before .before .parse-expression-operand2 in
-    record { told = other refl (sym (c-token-at .ensures) ∙ c-p .given .1) (ne-eqb _ Kinds.leftParen (c-if1 .taken)) (c-parse-expression-operand2 .ensures .told); past = c-parse-expression-operand2 .ensures .past }
+    record { told = other refl (sym (c-token-at .ensures) ∙ c-p .given .1) (ne-eqb _ Kinds.leftParen (c-if1 .taken)) (c-parse-expression-operand2 .ensures .told) }
 
 add-token-at-2 : tie.Need-add-token-at-2
 add-token-at-2 c =
-    let c-pre = c .before .before .before .before .before .before .before .before .before .before .pre in
+    let c-pre = c .before .before .before .before .before .before .before .before .before .before .before .pre in
     omega (arith, c-pre .0 .room)
 
 token-at-requires-2 : tie.Need-token-at-requires-2
@@ -83,7 +85,7 @@ enum-told-2 c = search needs
 
 parse-expression-operand-requires-3 : tie.Need-parse-expression-operand-requires-3
 parse-expression-operand-requires-3 c κs =
-    let c-pre = c .before .before .before .before .before .before .before .before .before .before .before .before .before .before .before .pre in
+    let c-pre = c .before .before .before .before .before .before .before .before .before .before .before .before .before .before .before .before .pre in
     (c-pre .0, c-pre .1)
 
 same-length-5 : tie.Need-same-length-5
@@ -101,16 +103,10 @@ returns-3 c =
     let c-token-at2 = c .before .before .before .before .before .before .before .before .before .token-at2 in
     let c-enum-told2 = c .before .before .before .before .before .before .before .enum-told2 in
     let c-parse-expression-operand3 = c .before .before .before .before .parse-expression-operand3 in
-    record { told = seen refl (sym (c-token-at .ensures) ∙ c-p .given .1) (eq-eqb _ Kinds.leftParen (c-if1 .left)) (beyond refl (sym (c-token-at2 .ensures) ∙ c-enum-told2 .given .1) (c-parse-expression-operand3 .ensures .told)); past = c-parse-expression-operand3 .ensures .past }
+    record { told = seen refl (sym (c-token-at .ensures) ∙ c-p .given .1) (eq-eqb _ Kinds.leftParen (c-if1 .left)) (beyond refl (sym (c-token-at2 .ensures) ∙ c-enum-told2 .given .1) (c-parse-expression-operand3 .ensures .told)) }
 
-register-at-requires : tie.Need-register-at-requires
-register-at-requires c κs = search needs
-
-enum-known-index : tie.Need-enum-known-index
-enum-known-index c = search needs
-
-enum-told-3 : tie.Need-enum-told-3
-enum-told-3 c = search needs
+is-register-at-requires : tie.Need-is-register-at-requires
+is-register-at-requires c κs = search needs
 
 parse-expression-operand-requires-4 : tie.Need-parse-expression-operand-requires-4
 parse-expression-operand-requires-4 c κs =
@@ -126,54 +122,53 @@ same-length-8 c = search needs
 returns-4 : tie.Need-returns-4
 unfolding minusOperand
 returns-4 c =
-    let c-token-at = c .before .before .before .before .before .before .before .before .before .before .before .before .before .before .before .before .before .before .before .token-at in
-    let c-p = c .before .before .before .before .before .before .before .before .before .before .before .before .before .before .before .before .before .p in
-    let c-if1 = c .before .before .before .before .before .before .before .before .before .before .before .before .before .before .if1 in
-    let c-token-at2 = c .before .before .before .before .before .before .before .before .before .before .before .before .before .token-at2 in
-    let c-q = c .before .before .before .before .before .before .before .before .before .before .before .q in
-    let c-register-at = c .before .before .before .before .before .before .before .before .before .register-at in
-    let c-enum-told3 = c .before .before .before .before .before .before .before .enum-told3 in
+    let c-token-at = c .before .before .before .before .before .before .before .before .before .before .before .before .before .before .before .before .before .before .token-at in
+    let c-p = c .before .before .before .before .before .before .before .before .before .before .before .before .before .before .before .before .p in
+    let c-if1 = c .before .before .before .before .before .before .before .before .before .before .before .before .before .if1 in
+    let c-token-at2 = c .before .before .before .before .before .before .before .before .before .before .before .before .token-at2 in
+    let c-q = c .before .before .before .before .before .before .before .before .before .before .q in
+    let c-is-register-at = c .before .before .before .before .before .before .before .before .is-register-at in
+    let c-if2 = c .before .before .before .before .before .before .before .if2 in
     let c-parse-expression-operand4 = c .before .before .before .before .parse-expression-operand4 in
-    record { told = seen refl (sym (c-token-at .ensures) ∙ c-p .given .1) (eq-eqb _ Kinds.leftParen (c-if1 .left)) (other refl (sym (c-token-at2 .ensures) ∙ c-q .given .1) (reg-not _ _ (sym (c-register-at .ensures) ∙ c-enum-told3 .given .1)) (c-parse-expression-operand4 .ensures .told)); past = c-parse-expression-operand4 .ensures .past }
-
-span-of-requires : tie.Need-span-of-requires
-span-of-requires c κs = search needs
+    record { told = seen refl (sym (c-token-at .ensures) ∙ c-p .given .1) (eq-eqb _ Kinds.leftParen (c-if1 .left)) (other refl (sym (c-token-at2 .ensures) ∙ c-q .given .1) (sym (c-is-register-at .ensures) ∙ not-true _ (c-if2 .taken)) (c-parse-expression-operand4 .ensures .told)) }
 
 step-over-requires : tie.Need-step-over-requires
 step-over-requires c κs =
-    let c-pre = c .before .before .before .before .before .before .before .before .before .before .before .before .before .before .before .before .before .before .before .pre in
-    let c-token-at2 = c .before .before .before .before .before .before .before .before .token-at2 in
-    let c-q = c .before .before .before .before .before .before .q in
+    let c-pre = c .before .before .before .before .before .before .before .before .before .before .before .before .before .before .before .before .before .pre in
+    let c-token-at2 = c .before .before .before .before .before .token-at2 in
+    let c-q = c .before .before .before .q in
     omega (arith, c-pre .0 .room, live _ _ _ (sym (c-token-at2 .ensures) ∙ c-q .given .1))
 
 step-over-requires-2 : tie.Need-step-over-requires-2
 step-over-requires-2 c κs =
-    let c-pre = c .before .before .before .before .before .before .before .before .before .before .before .before .before .before .before .before .before .before .before .before .pre in
-    let c-token-at2 = c .before .before .before .before .before .before .before .before .before .token-at2 in
-    let c-q = c .before .before .before .before .before .before .before .q in
+    let c-pre = c .before .before .before .before .before .before .before .before .before .before .before .before .before .before .before .before .before .before .pre in
+    let c-token-at2 = c .before .before .before .before .before .before .token-at2 in
+    let c-q = c .before .before .before .before .q in
     let c-step-over = c .step-over in
     omega (arith, c-pre .0 .room, live _ _ _ (sym (c-token-at2 .ensures) ∙ c-q .given .1), (ap (λ z. z .at) (c-step-over .ensures)))
 
 step-over-requires-3 : tie.Need-step-over-requires-3
 step-over-requires-3 c κs =
-    let c-pre = c .before .before .before .before .before .before .before .before .before .before .before .before .before .before .before .before .before .before .before .before .before .pre in
-    let c-token-at2 = c .before .before .before .before .before .before .before .before .before .before .token-at2 in
-    let c-q = c .before .before .before .before .before .before .before .before .q in
+    let c-pre = c .before .before .before .before .before .before .before .before .before .before .before .before .before .before .before .before .before .before .before .pre in
+    let c-token-at2 = c .before .before .before .before .before .before .before .token-at2 in
+    let c-q = c .before .before .before .before .before .q in
     let c-step-over = c .before .step-over in
     let c-step-over2 = c .step-over2 in
     omega (arith, c-pre .0 .room, live _ _ _ (sym (c-token-at2 .ensures) ∙ c-q .given .1), (ap (λ z. z .at) (c-step-over .ensures)), (ap (λ z. z .at) (c-step-over2 .ensures)))
 
 parse-predecrement-requires : tie.Need-parse-predecrement-requires
 parse-predecrement-requires c κs =
-    let c-pre = c .before .before .before .before .before .before .before .before .before .before .before .before .before .before .before .before .before .before .before .before .before .before .before .pre in
+    let c-pre = c .before .before .before .before .before .before .before .before .before .before .before .before .before .before .before .before .before .before .before .before .before .pre in
     let c-step-over = c .before .before .before .step-over in
-    let c-token-at = c .before .before .before .before .before .before .before .before .before .before .before .before .before .before .before .before .before .before .token-at in
-    let c-p = c .before .before .before .before .before .before .before .before .before .before .before .before .before .before .before .before .p in
+    let c-token-at = c .before .before .before .before .before .before .before .before .before .before .before .before .before .before .before .token-at in
+    let c-p = c .before .before .before .before .before .before .before .before .before .before .before .before .before .p in
     let c-step-over2 = c .before .before .step-over2 in
-    let c-token-at2 = c .before .before .before .before .before .before .before .before .before .before .before .before .token-at2 in
-    let c-q = c .before .before .before .before .before .before .before .before .before .before .q in
+    let c-token-at2 = c .before .before .before .before .before .before .before .before .before .token-at2 in
+    let c-q = c .before .before .before .before .before .before .before .q in
     let c-step-over3 = c .before .step-over3 in
-    room-step (room-step (room-step (c-pre .0 .room) (c-pre .2) (c-step-over .ensures)) (token-from _ (ap (λ z. z .at) (c-step-over .ensures)) (sym (c-token-at .ensures) ∙ c-p .given .1)) (c-step-over2 .ensures)) (token-from _ (omega (arith, (ap (λ z. z .at) (c-step-over .ensures)), (ap (λ z. z .at) (c-step-over2 .ensures)))) (sym (c-token-at2 .ensures) ∙ c-q .given .1)) (c-step-over3 .ensures)
+    let c-is-register-at = c .before .before .before .before .before .is-register-at in
+    let c-if2 = c .before .before .before .before .if2 in
+    (room-step (room-step (room-step (c-pre .0 .room) (c-pre .2) (c-step-over .ensures)) (token-from _ (ap (λ z. z .at) (c-step-over .ensures)) (sym (c-token-at .ensures) ∙ c-p .given .1)) (c-step-over2 .ensures)) (token-from _ (omega (arith, (ap (λ z. z .at) (c-step-over .ensures)), (ap (λ z. z .at) (c-step-over2 .ensures)))) (sym (c-token-at2 .ensures) ∙ c-q .given .1)) (c-step-over3 .ensures), (sym (c-is-register-at .ensures) ∙ not-false _ (c-if2 .left)))
 
 same-length-9 : tie.Need-same-length-9
 same-length-9 c = search needs
@@ -181,25 +176,25 @@ same-length-9 c = search needs
 returns-5 : tie.Need-returns-5
 unfolding minusOperand
 returns-5 c =
-    let c-token-at = c .before .before .before .before .before .before .before .before .before .before .before .before .before .before .before .before .before .before .before .before .before .token-at in
-    let c-p = c .before .before .before .before .before .before .before .before .before .before .before .before .before .before .before .before .before .before .before .p in
-    let c-if1 = c .before .before .before .before .before .before .before .before .before .before .before .before .before .before .before .before .if1 in
-    let c-token-at2 = c .before .before .before .before .before .before .before .before .before .before .before .before .before .before .before .token-at2 in
-    let c-q = c .before .before .before .before .before .before .before .before .before .before .before .before .before .q in
-    let c-register-at = c .before .before .before .before .before .before .before .before .before .before .before .register-at in
-    let c-index = c .before .before .before .before .before .before .before .before .before .index in
-    let c-pre = c .before .before .before .before .before .before .before .before .before .before .before .before .before .before .before .before .before .before .before .before .before .before .before .before .before .before .pre in
+    let c-token-at = c .before .before .before .before .before .before .before .before .before .before .before .before .before .before .before .before .before .before .token-at in
+    let c-p = c .before .before .before .before .before .before .before .before .before .before .before .before .before .before .before .before .p in
+    let c-if1 = c .before .before .before .before .before .before .before .before .before .before .before .before .before .if1 in
+    let c-token-at2 = c .before .before .before .before .before .before .before .before .before .before .before .before .token-at2 in
+    let c-q = c .before .before .before .before .before .before .before .before .before .before .q in
+    let c-is-register-at = c .before .before .before .before .before .before .before .before .is-register-at in
+    let c-if2 = c .before .before .before .before .before .before .before .if2 in
+    let c-pre = c .before .before .before .before .before .before .before .before .before .before .before .before .before .before .before .before .before .before .before .before .before .before .before .before .pre in
     let c-step-over = c .before .before .before .before .before .before .step-over in
     let c-step-over2 = c .before .before .before .before .before .step-over2 in
     let c-step-over3 = c .before .before .before .before .step-over3 in
-    let c-span-of = c .before .before .before .before .before .before .before .span-of in
     let c-parse-predecrement = c .before .before .parse-predecrement in
-    record { told = seen refl (sym (c-token-at .ensures) ∙ c-p .given .1) (eq-eqb _ Kinds.leftParen (c-if1 .left)) (seen refl (sym (c-token-at2 .ensures) ∙ c-q .given .1) (reg-is _ _ _ (sym (c-register-at .ensures) ∙ c-index .given .1)) (predecrement-told _ _ (c-pre .1) (c-pre .2) (sym (c-token-at .ensures) ∙ c-p .given .1) (sym (c-token-at2 .ensures) ∙ c-q .given .1) (c-step-over .ensures) (c-step-over2 .ensures) (c-step-over3 .ensures) (sym (c-register-at .ensures) ∙ c-index .given .1) (c-span-of .ensures) (c-parse-predecrement .ensures _))); past = refl }
+    record { told = seen refl (sym (c-token-at .ensures) ∙ c-p .given .1) (eq-eqb _ Kinds.leftParen (c-if1 .left)) (seen refl (sym (c-token-at2 .ensures) ∙ c-q .given .1) (sym (c-is-register-at .ensures) ∙ not-false _ (c-if2 .left)) (predecrement-told _ _ (c-pre .1) (c-pre .2) (sym (c-token-at .ensures) ∙ c-p .given .1) (sym (c-token-at2 .ensures) ∙ c-q .given .1) (c-step-over .ensures) (c-step-over2 .ensures) (c-step-over3 .ensures) (c-parse-predecrement .ensures))) }
 
 pub minus-operand-spec : {M : Type 1} → statement M
 minus-operand-spec =
     tie.close
     (tie.spec
+    cast-at
     add-token-at
     token-at-requires
     enum-known-p
@@ -220,14 +215,11 @@ minus-operand-spec =
     same-length-5
     same-length-6
     returns-3
-    register-at-requires
-    enum-known-index
-    enum-told-3
+    is-register-at-requires
     parse-expression-operand-requires-4
     same-length-7
     same-length-8
     returns-4
-    span-of-requires
     step-over-requires
     step-over-requires-2
     step-over-requires-3

@@ -33,7 +33,7 @@ parse-register-operand-requires c κs =
     let c-step-over = c .before .before .step-over in
     let c-register-at = c .before .before .before .before .before .before .before .register-at in
     let c-r = c .before .before .before .before .before .r in
-    record { room = room-step (c-pre .0 .room) (c-pre .2) (c-step-over .ensures); long = c-pre .0 .nodesLong; none = ap (λ z. z .nodes) (c-step-over .ensures) ∙ c-pre .1; behind = omega (arith, ap (λ z. z .at) (c-step-over .ensures)); small = reg-small _ _ _ (sym (c-register-at .ensures) ∙ c-r .given .1) }
+    record { room = room-step (c-pre .0 .room) (c-pre .2) (c-step-over .ensures); long = omega (arith, c-pre .0 .nodesLong, c-pre .1, ap (λ z. z .at) (c-step-over .ensures)); none = ap (λ z. z .nodes) (c-step-over .ensures) ∙ c-pre .1; behind = omega (arith, ap (λ z. z .at) (c-step-over .ensures)); small = reg-small _ _ _ (sym (c-register-at .ensures) ∙ c-r .given .1) }
 
 same-length : tie.Need-same-length
 same-length c = search needs
@@ -50,7 +50,7 @@ returns c =
     let c-step-over = c .before .before .before .before .before .before .before .step-over in
     let c-span-of = c .before .before .before .before .before .before .before .before .span-of in
     let c-parse-register-operand = c .before .before .before .before .parse-register-operand in
-    record { told = hit (c-pre .2) (reg-is _ _ _ (sym (c-register-at .ensures) ∙ c-r .given .1)) (c-step-over .ensures) (renamed (register-read _ _ _ (sym (c-register-at .ensures) ∙ c-r .given .1) (c-span-of .ensures)) (c-parse-register-operand .ensures .told)); past = c-parse-register-operand .ensures .past }
+    record { told = hit (c-pre .2) (reg-is _ _ _ (sym (c-register-at .ensures) ∙ c-r .given .1)) (c-step-over .ensures) (renamed (register-read _ _ _ (sym (c-register-at .ensures) ∙ c-r .given .1) (c-span-of .ensures)) (c-parse-register-operand .ensures .told)) }
 
 enum-told : tie.Need-enum-told
 enum-told c = search needs
@@ -96,7 +96,7 @@ returns-2 c =
     let c-step-over2 = c .before .step-over2 in
     let c-span-of2 = c .before .before .span-of2 in
     let c-special-register = c .special-register in
-    record { told = miss (c-pre .2) (reg-not _ _ (sym (c-register-at .ensures) ∙ c-enum-told .given .1)) (hit (c-pre .2) (special-is (c-args .token) _ (c-pre .3) (sym (c-parse .ensures ∙ ap specialOf (c-text-of .ensures)) ∙ c-special .given .1)) (c-step-over2 .ensures) (special-told _ (c-args .c) (c-args .token) _ (c-pre .1) (c-step-over2 .ensures) (sym (c-parse .ensures ∙ ap specialOf (c-text-of .ensures)) ∙ c-special .given .1) (c-span-of2 .ensures) (c-special-register .ensures))); past = refl }
+    record { told = miss (c-pre .2) (reg-not _ _ (sym (c-register-at .ensures) ∙ c-enum-told .given .1)) (hit (c-pre .2) (special-is (c-args .token) _ (c-pre .3) (sym (c-parse .ensures ∙ ap specialOf (c-text-of .ensures)) ∙ c-special .given .1)) (c-step-over2 .ensures) (special-told _ (c-args .c) (c-args .token) _ (c-pre .1) (c-step-over2 .ensures) (sym (c-parse .ensures ∙ ap specialOf (c-text-of .ensures)) ∙ c-special .given .1) (c-span-of2 .ensures) (c-special-register .ensures))) }
 
 same-length-3 : tie.Need-same-length-3
 same-length-3 c = search needs
@@ -115,7 +115,7 @@ returns-3 c =
     let c-text-of = c .before .before .before .before .before .before .before .before .before .before .text-of in
     let c-enum-told2 = c .before .before .before .before .before .before .before .enum-told2 in
     let c-parse-expression-operand = c .before .before .before .before .parse-expression-operand in
-    record { told = miss (c-pre .2) (reg-not _ _ (sym (c-register-at .ensures) ∙ c-enum-told .given .1)) (miss (c-pre .2) (special-not (c-args .token) _ (c-pre .3) (sym (c-parse .ensures ∙ ap specialOf (c-text-of .ensures)) ∙ c-enum-told2 .given .1)) (c-parse-expression-operand .ensures .told)); past = c-parse-expression-operand .ensures .past }
+    record { told = miss (c-pre .2) (reg-not _ _ (sym (c-register-at .ensures) ∙ c-enum-told .given .1)) (miss (c-pre .2) (special-not (c-args .token) _ (c-pre .3) (sym (c-parse .ensures ∙ ap specialOf (c-text-of .ensures)) ∙ c-enum-told2 .given .1)) (c-parse-expression-operand .ensures .told)) }
 
 pub named-operand-spec : {M : Type 1} → statement M
 named-operand-spec =

@@ -81,7 +81,7 @@ returns c =
     let c-span-of = c .before .before .before .before .before .span-of in
     let c-raise = c .before .before .before .raise in
     let c-no-operand = c .no-operand in
-    record { told = seen (omega arith) (c-pre .2) (ap (λ z. eqb z Kinds.comma) (c-match .keys1)) (raised (raised-as (rw (c-diagnostic .ensures, c-span-of .ensures)) (c-raise .ensures)) (nothing-stored _ (c-no-operand .ensures))); past = refl }
+    record { told = seen (omega arith) (c-pre .2) (ap (λ z. eqb z Kinds.comma) (c-match .keys1)) (raised (raised-as (rw (c-diagnostic .ensures, c-span-of .ensures)) (c-raise .ensures)) (nothing-stored _ (c-no-operand .ensures))) }
 
 same-length-2 : tie.Need-same-length-2
 same-length-2 c = search needs
@@ -96,7 +96,7 @@ returns-2 c =
     let c-match = c .before .before .before .before .before .before .before .before .match in
     let c-step-over = c .before .before .before .before .before .before .before .step-over in
     let c-parse-immediate = c .before .before .before .before .parse-immediate in
-    record { told = other (omega arith) (c-pre .2) (ap (λ z. eqb z Kinds.comma) (c-match .keys2)) (hit (c-pre .2) (ap (λ z. eqb z Kinds.hash) (c-match .keys2)) (c-step-over .ensures) (c-parse-immediate .ensures .told)); past = c-parse-immediate .ensures .past }
+    record { told = other (omega arith) (c-pre .2) (ap (λ z. eqb z Kinds.comma) (c-match .keys2)) (hit (c-pre .2) (ap (λ z. eqb z Kinds.hash) (c-match .keys2)) (c-step-over .ensures) (c-parse-immediate .ensures .told)) }
 
 same-length-4 : tie.Need-same-length-4
 same-length-4 c = search needs
@@ -111,7 +111,7 @@ returns-3 c =
     let c-match = c .before .before .before .before .before .before .before .before .match in
     let c-step-over2 = c .before .before .before .before .before .before .before .step-over2 in
     let c-parse-parenthesised-operand = c .before .before .before .before .parse-parenthesised-operand in
-    record { told = other (omega arith) (c-pre .2) (ap (λ z. eqb z Kinds.comma) (c-match .keys3)) (miss (c-pre .2) (ap (λ z. eqb z Kinds.hash) (c-match .keys3)) (hit (c-pre .2) (ap (λ z. eqb z Kinds.leftParen) (c-match .keys3)) (c-step-over2 .ensures) (c-parse-parenthesised-operand .ensures .told))); past = c-parse-parenthesised-operand .ensures .past }
+    record { told = other (omega arith) (c-pre .2) (ap (λ z. eqb z Kinds.comma) (c-match .keys3)) (miss (c-pre .2) (ap (λ z. eqb z Kinds.hash) (c-match .keys3)) (hit (c-pre .2) (ap (λ z. eqb z Kinds.leftParen) (c-match .keys3)) (c-step-over2 .ensures) (c-parse-parenthesised-operand .ensures .told))) }
 
 same-length-6 : tie.Need-same-length-6
 same-length-6 c = search needs
@@ -125,7 +125,7 @@ returns-4 c =
     let c-pre = c .before .before .before .before .before .before .before .before .before .before .before .before .pre in
     let c-match = c .before .before .before .before .before .before .before .match in
     let c-minus-operand = c .before .before .before .before .minus-operand in
-    record { told = other (omega arith) (c-pre .2) (ap (λ z. eqb z Kinds.comma) (c-match .keys4)) (miss (c-pre .2) (ap (λ z. eqb z Kinds.hash) (c-match .keys4)) (miss (c-pre .2) (ap (λ z. eqb z Kinds.leftParen) (c-match .keys4)) (seen (omega arith) (c-pre .2) (ap (λ z. eqb z Kinds.minus) (c-match .keys4)) (c-minus-operand .ensures .told)))); past = c-minus-operand .ensures .past }
+    record { told = other (omega arith) (c-pre .2) (ap (λ z. eqb z Kinds.comma) (c-match .keys4)) (miss (c-pre .2) (ap (λ z. eqb z Kinds.hash) (c-match .keys4)) (miss (c-pre .2) (ap (λ z. eqb z Kinds.leftParen) (c-match .keys4)) (seen (omega arith) (c-pre .2) (ap (λ z. eqb z Kinds.minus) (c-match .keys4)) (c-minus-operand .ensures .told)))) }
 
 same-length-8 : tie.Need-same-length-8
 same-length-8 c = search needs
@@ -139,7 +139,7 @@ returns-5 c =
     let c-pre = c .before .before .before .before .before .before .before .before .before .before .before .before .pre in
     let c-match = c .before .before .before .before .before .before .before .match in
     let c-named-operand = c .before .before .before .before .named-operand in
-    record { told = other (omega arith) (c-pre .2) (ap (λ z. eqb z Kinds.comma) (c-match .keys5)) (miss (c-pre .2) (ap (λ z. eqb z Kinds.hash) (c-match .keys5)) (miss (c-pre .2) (ap (λ z. eqb z Kinds.leftParen) (c-match .keys5)) (other (omega arith) (c-pre .2) (ap (λ z. eqb z Kinds.minus) (c-match .keys5)) (c-named-operand .ensures .told)))); past = c-named-operand .ensures .past }
+    record { told = other (omega arith) (c-pre .2) (ap (λ z. eqb z Kinds.comma) (c-match .keys5)) (miss (c-pre .2) (ap (λ z. eqb z Kinds.hash) (c-match .keys5)) (miss (c-pre .2) (ap (λ z. eqb z Kinds.leftParen) (c-match .keys5)) (other (omega arith) (c-pre .2) (ap (λ z. eqb z Kinds.minus) (c-match .keys5)) (c-named-operand .ensures .told)))) }
 
 same-length-10 : tie.Need-same-length-10
 same-length-10 c = search needs
@@ -154,7 +154,7 @@ returns-6 c =
     let c-match = c .before .before .before .before .before .before .before .match in
     let c-args = c .before .before .before .before .before .before .before .before .before .before .before .before .args in
     let c-parse-expression-operand = c .before .before .before .before .parse-expression-operand in
-    record { told = other (omega arith) (c-pre .2) (ne-eqb _ Kinds.comma (c-match .rest .0 .0 .0 .0 .1)) (miss (c-pre .2) (ne-eqb _ Kinds.hash (c-match .rest .0 .0 .0 .1)) (miss (c-pre .2) (ne-eqb _ Kinds.leftParen (c-match .rest .0 .0 .1)) (other (omega arith) (c-pre .2) (ne-eqb _ Kinds.minus (c-match .rest .0 .1)) (miss (c-pre .2) (unnamed-register (c-args .token) _ (c-match .rest .1)) (miss (c-pre .2) (unnamed (λ x. isSpecial (specialOf x)) (c-args .token) _ (c-match .rest .1)) (c-parse-expression-operand .ensures .told)))))); past = c-parse-expression-operand .ensures .past }
+    record { told = other (omega arith) (c-pre .2) (ne-eqb _ Kinds.comma (c-match .rest .0 .0 .0 .0 .1)) (miss (c-pre .2) (ne-eqb _ Kinds.hash (c-match .rest .0 .0 .0 .1)) (miss (c-pre .2) (ne-eqb _ Kinds.leftParen (c-match .rest .0 .0 .1)) (other (omega arith) (c-pre .2) (ne-eqb _ Kinds.minus (c-match .rest .0 .1)) (miss (c-pre .2) (unnamed-register (c-args .token) _ (c-match .rest .1)) (miss (c-pre .2) (unnamed (λ x. isSpecial (specialOf x)) (c-args .token) _ (c-match .rest .1)) (c-parse-expression-operand .ensures .told)))))) }
 
 pub operand-from-spec : {M : Type 1} → statement M
 operand-from-spec =

@@ -1,14 +1,16 @@
--- `parser::operands::parse_predecrement` meets its contract.
+-- `parser::operands::parse_predecrement` meets its contract: a register has been seen, so that one stands there.
 -- Assumes nothing.
-use mathlib.Core.Path.{refl, sym, _∙_}
+use mathlib.Core.Path.{refl, sym, _∙_, ap}
 use native.Mathlib.Omega.{arith}
 use borrow.Author.Tests.{le-leb, lt-leb}
 use lib.Dec.{leb}
+use Rattle.expressions.specs.Costs.{true-false}
 use Rattle.operand.specs.Operand.{predecrementClose, predecremented}
 use Rattle.operand.specs.Operands.{undisplaced}
 use Rattle.operand.specs.Records.{sizeD, nodesD, sizeO, nodesO}
 use Rattle.operand.specs.Forms.{recordOf, operandRead}
-use Rattle.parser.proofs.Paths.{bound, chosen, unchosen, failed-register, raised-same}
+use Rattle.parser.proofs.Names.{reg-not, register-as}
+use Rattle.parser.proofs.Paths.{renamed, bound, chosen, unchosen, failed-register, raised-same}
 use Rattle.parser.proofs.Rooms.{close-is, close-not}
 use Rattle.parser.proofs.Tails.{operand-told}
 use Rattle.parser.proofs.Holdings.{kept-none, nothing-told}
@@ -16,34 +18,60 @@ use borrow.Author.Needs.{needs}
 use Rattle.parser.proofs.operands.parse_predecrement.Statement.{statement}
 use Rattle.parser.proofs.operands.parse_predecrement.Tie as tie
 
-not-an-address-register-requires : tie.Need-not-an-address-register-requires
-not-an-address-register-requires c κs =
-    let c-pre = c .before .before .before .before .before .pre in
-    omega (arith, c-pre)
+register-at-requires : tie.Need-register-at-requires
+register-at-requires c κs = search needs
 
-no-operand-requires : tie.Need-no-operand-requires
-no-operand-requires c κs = search needs
-
-same-length : tie.Need-same-length
-same-length c = search needs
-
-returns : tie.Need-returns
-unfolding predecrementClose predecremented operandRead recordOf sizeD nodesD sizeO nodesO
-returns c =
-    let c-args = c .before .before .before .before .before .before .before .before .before .args in
-    let c-if1 = c .before .before .before .before .before .if1 in
-    let c-not-an-address-register = c .before .before .before .not-an-address-register in
-    let c-no-operand = c .no-operand in
-    λ L. unchosen (leb 8 (c-args .r .index)) _ (lt-leb 8 _ (c-if1 .taken)) (failed-register _ 4 (c-args .token) (c-not-an-address-register .ensures) (c-no-operand .ensures .0) (c-no-operand .ensures .1) (kept-none undisplaced (raised-same (c-not-an-address-register .ensures))))
-
-expect-close-requires : tie.Need-expect-close-requires
-expect-close-requires c κs = search needs
+enum-known-index : tie.Need-enum-known-index
+enum-known-index c = search needs
 
 enum-told : tie.Need-enum-told
 enum-told c = search needs
 
+no-operand-requires : tie.Need-no-operand-requires
+no-operand-requires c κs = search needs
+
+returns : tie.Need-returns
+returns c =
+    let c-pre = c .before .before .before .before .before .before .before .pre in
+    let c-register-at = c .before .before .before .register-at in
+    let c-enum-told = c .before .enum-told in
+    absurd (true-false (sym (c-pre .1) ∙ reg-not _ _ (sym (c-register-at .ensures) ∙ c-enum-told .given .1)))
+
+not-an-address-register-requires : tie.Need-not-an-address-register-requires
+not-an-address-register-requires c κs =
+    let c-pre = c .before .before .before .before .before .before .before .before .before .pre in
+    omega (arith, c-pre .0)
+
 no-operand-requires-2 : tie.Need-no-operand-requires-2
 no-operand-requires-2 c κs = search needs
+
+same-length : tie.Need-same-length
+same-length c = search needs
+
+returns-2 : tie.Need-returns-2
+unfolding predecrementClose predecremented operandRead recordOf sizeD nodesD sizeO nodesO
+returns-2 c =
+    let c-args = c .before .before .before .before .before .before .before .before .before .before .before .before .before .args in
+    let c-register-at = c .before .before .before .before .before .before .before .before .before .register-at in
+    let c-index = c .before .before .before .before .before .before .before .index in
+    let c-if1 = c .before .before .before .before .before .if1 in
+    let c-not-an-address-register = c .before .before .before .not-an-address-register in
+    let c-no-operand2 = c .no-operand2 in
+    renamed (ap (predecrementClose (c-args .s) (c-args .minus) (c-args .paren) (c-args .token)) (register-as _ _ (sym (c-register-at .ensures) ∙ c-index .given .1) refl)) (unchosen (leb 8 (c-index .given .0 .0)) _ (lt-leb 8 _ (c-if1 .taken)) (failed-register _ 4 (c-args .token) (c-not-an-address-register .ensures) (c-no-operand2 .ensures .0) (c-no-operand2 .ensures .1) (kept-none undisplaced (raised-same (c-not-an-address-register .ensures)))))
+
+register-of-requires : tie.Need-register-of-requires
+register-of-requires c κs = search needs
+
+expect-close-requires : tie.Need-expect-close-requires
+expect-close-requires c κs =
+    let c-pre = c .before .before .before .before .before .before .before .before .before .before .pre in
+    c-pre .0
+
+enum-told-2 : tie.Need-enum-told-2
+enum-told-2 c = search needs
+
+no-operand-requires-3 : tie.Need-no-operand-requires-3
+no-operand-requires-3 c κs = search needs
 
 enum-known-close : tie.Need-enum-known-close
 enum-known-close c = search needs
@@ -57,45 +85,56 @@ an-operand-requires c κs = search needs
 same-length-2 : tie.Need-same-length-2
 same-length-2 c = search needs
 
-returns-2 : tie.Need-returns-2
+returns-3 : tie.Need-returns-3
 unfolding predecrementClose predecremented operandRead recordOf sizeD nodesD sizeO nodesO
-returns-2 c =
-    let c-args = c .before .before .before .before .before .before .before .before .before .before .before .before .args in
-    let c-if1 = c .before .before .before .before .before .before .before .before .if1 in
+returns-3 c =
+    let c-args = c .before .before .before .before .before .before .before .before .before .before .before .before .before .before .before .before .before .args in
+    let c-register-at = c .before .before .before .before .before .before .before .before .before .before .before .before .before .register-at in
+    let c-index = c .before .before .before .before .before .before .before .before .before .before .before .index in
+    let c-if1 = c .before .before .before .before .before .before .before .before .before .if1 in
     let c-expect-close = c .before .before .before .before .before .before .expect-close in
-    let c-enum-told = c .before .enum-told in
-    let c-no-operand2 = c .no-operand2 in
-    λ L. chosen (leb 8 (c-args .r .index)) _ (le-leb 8 _ (c-if1 .left)) (bound (c-expect-close .ensures L) (close-not _ (sym ((c-expect-close .ensures L) .what) ∙ c-enum-told .given .1)) (nothing-told undisplaced (c-no-operand2 .ensures) ((c-expect-close .ensures L) .held)))
+    let c-enum-told2 = c .before .enum-told2 in
+    let c-no-operand3 = c .no-operand3 in
+    renamed (ap (predecrementClose (c-args .s) (c-args .minus) (c-args .paren) (c-args .token)) (register-as _ _ (sym (c-register-at .ensures) ∙ c-index .given .1) refl)) (chosen (leb 8 (c-index .given .0 .0)) _ (le-leb 8 _ (c-if1 .left)) (bound (c-expect-close .ensures (c-args .line .now)) (close-not _ (sym ((c-expect-close .ensures (c-args .line .now)) .what) ∙ c-enum-told2 .given .1)) (nothing-told undisplaced (c-no-operand3 .ensures) ((c-expect-close .ensures (c-args .line .now)) .held))))
 
 same-length-3 : tie.Need-same-length-3
 same-length-3 c = search needs
 
-returns-3 : tie.Need-returns-3
+returns-4 : tie.Need-returns-4
 unfolding predecrementClose predecremented operandRead recordOf sizeD nodesD sizeO nodesO
-returns-3 c =
-    let c-args = c .before .before .before .before .before .before .before .before .before .before .before .before .before .before .args in
-    let c-if1 = c .before .before .before .before .before .before .before .before .before .before .if1 in
+returns-4 c =
+    let c-args = c .before .before .before .before .before .before .before .before .before .before .before .before .before .before .before .before .before .before .before .args in
+    let c-register-at = c .before .before .before .before .before .before .before .before .before .before .before .before .before .before .before .register-at in
+    let c-index = c .before .before .before .before .before .before .before .before .before .before .before .before .before .index in
+    let c-if1 = c .before .before .before .before .before .before .before .before .before .before .before .if1 in
     let c-expect-close = c .before .before .before .before .before .before .before .before .expect-close in
     let c-close = c .before .before .before .close in
     let c-an-operand = c .an-operand in
     let c-plain-operand = c .before .plain-operand in
-    λ L. chosen (leb 8 (c-args .r .index)) _ (le-leb 8 _ (c-if1 .left)) (bound (c-expect-close .ensures L) (close-is _ (sym ((c-expect-close .ensures L) .what) ∙ c-close .given .1)) (operand-told _ undisplaced (c-an-operand .ensures) (c-plain-operand .ensures) ((c-expect-close .ensures L) .held) refl refl))
+    let c-register-of = c .before .before .before .before .before .before .before .before .before .before .register-of in
+    renamed (ap (predecrementClose (c-args .s) (c-args .minus) (c-args .paren) (c-args .token)) (register-as _ _ (sym (c-register-at .ensures) ∙ c-index .given .1) refl)) (chosen (leb 8 (c-index .given .0 .0)) _ (le-leb 8 _ (c-if1 .left)) (bound (c-expect-close .ensures (c-args .line .now)) (close-is _ (sym ((c-expect-close .ensures (c-args .line .now)) .what) ∙ c-close .given .1)) (operand-told _ undisplaced (c-an-operand .ensures) (c-plain-operand .ensures ∙ rw (c-register-of .ensures)) ((c-expect-close .ensures (c-args .line .now)) .held) refl refl)))
 
 pub parse-predecrement-spec : {M : Type 1} → statement M
 parse-predecrement-spec =
     tie.close
     (tie.spec
-    not-an-address-register-requires
-    no-operand-requires
-    same-length
-    returns
-    expect-close-requires
+    register-at-requires
+    enum-known-index
     enum-told
+    no-operand-requires
+    returns
+    not-an-address-register-requires
     no-operand-requires-2
+    same-length
+    returns-2
+    register-of-requires
+    expect-close-requires
+    enum-told-2
+    no-operand-requires-3
     enum-known-close
     plain-operand-requires
     an-operand-requires
     same-length-2
-    returns-2
+    returns-3
     same-length-3
-    returns-3)
+    returns-4)

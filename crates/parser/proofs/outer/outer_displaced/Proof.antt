@@ -36,7 +36,7 @@ returns c =
     let c-parse-sized-displacement = c .before .before .before .before .before .before .before .before .parse-sized-displacement in
     let c-enum-told = c .before .enum-told in
     let c-no-outer = c .no-outer in
-    record { told = bound (c-parse-sized-displacement .ensures .told) (displacement-not _ _ (sym (c-parse-sized-displacement .ensures .told .what) ∙ c-enum-told .given .1)) (answered (c-no-outer .ensures .0) (c-no-outer .ensures .1) tt); past = c-parse-sized-displacement .ensures .past }
+    record { told = bound (c-parse-sized-displacement .ensures .told) (displacement-not _ _ (sym (c-parse-sized-displacement .ensures .told .what) ∙ c-enum-told .given .1)) (answered (c-no-outer .ensures .0) (c-no-outer .ensures .1) tt) }
 
 same-length-3 : tie.Need-same-length-3
 same-length-3 c = search needs
@@ -50,7 +50,7 @@ returns-2 c =
     let c-parse-sized-displacement = c .before .before .before .before .before .before .before .before .before .parse-sized-displacement in
     let c-displacement = c .before .before .displacement in
     let c-an-outer = c .an-outer in
-    record { told = bound (c-parse-sized-displacement .ensures .told) (displacement-is _ _ (sym (c-parse-sized-displacement .ensures .told .what) ∙ c-displacement .given .1) .is) (outer-answered _ _ _ (displacement-is _ _ (sym (c-parse-sized-displacement .ensures .told .what) ∙ c-displacement .given .1) .form) (c-an-outer .ensures .0) (c-an-outer .ensures .1) (held-some (c-parse-sized-displacement .ensures .told) (displacement-is _ _ (sym (c-parse-sized-displacement .ensures .told .what) ∙ c-displacement .given .1) .is))); past = c-parse-sized-displacement .ensures .past }
+    record { told = bound (c-parse-sized-displacement .ensures .told) (displacement-is _ _ (sym (c-parse-sized-displacement .ensures .told .what) ∙ c-displacement .given .1) .is) (outer-answered _ _ _ (displacement-is _ _ (sym (c-parse-sized-displacement .ensures .told .what) ∙ c-displacement .given .1) .form) (c-an-outer .ensures .0) (c-an-outer .ensures .1) (held-some (c-parse-sized-displacement .ensures .told) (displacement-is _ _ (sym (c-parse-sized-displacement .ensures .told .what) ∙ c-displacement .given .1) .is))) }
 
 pub outer-displaced-spec : {M : Type 1} → statement M
 outer-displaced-spec =

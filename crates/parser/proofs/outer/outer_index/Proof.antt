@@ -31,7 +31,7 @@ returns c =
     let c-enum-told = c .before .before .before .before .before .enum-told in
     let c-stepped-over = c .before .before .before .stepped-over in
     let c-no-outer = c .no-outer in
-    record { told = outer-twice _ _ (c-enum-told .given .1) (failed-over _ 9 9 (c-stepped-over .ensures) (c-no-outer .ensures .0) (c-no-outer .ensures .1) tt); past = refl }
+    record { told = outer-twice _ (c-enum-told .given .1) (failed-over _ 9 9 (c-stepped-over .ensures) (c-no-outer .ensures .0) (c-no-outer .ensures .1) tt) }
 
 enum-told-2 : tie.Need-enum-told-2
 enum-told-2 c = search needs
@@ -55,7 +55,7 @@ outer-indexed-requires c κs =
     let c-pre = c .before .before .before .before .before .before .before .before .before .before .before .before .before .before .before .before .pre in
     let c-parse-index-register = c .before .before .before .before .before .before .before .before .parse-index-register in
     let c-read = c .before .before .before .read in
-    same-room (c-pre) (c-parse-index-register .ensures) (index-room _ _ _ (c-pre .room) (c-parse-index-register .ensures) (c-read .given .1) (omega (arith, c-parse-index-register .kept)))
+    same-room (c-pre) (c-parse-index-register .ensures) (index-room _ _ (c-pre .room) (c-parse-index-register .ensures) (c-read .given .1))
 
 same-length-2 : tie.Need-same-length-2
 same-length-2 c = search needs
@@ -67,7 +67,7 @@ returns-2 c =
     let c-parse-index-register = c .before .before .before .before .before .before .parse-index-register in
     let c-enum-told3 = c .before .enum-told3 in
     let c-no-outer2 = c .no-outer2 in
-    record { told = outer-once _ _ (c-enum-told2 .given .1) (bound (c-parse-index-register .ensures) (index-not _ (sym (c-parse-index-register .ensures .what) ∙ c-enum-told3 .given .1)) (answered (c-no-outer2 .ensures .0) (c-no-outer2 .ensures .1) tt)); past = refl }
+    record { told = outer-once _ (c-enum-told2 .given .1) (bound (c-parse-index-register .ensures) (index-not _ (sym (c-parse-index-register .ensures .what) ∙ c-enum-told3 .given .1)) (answered (c-no-outer2 .ensures .0) (c-no-outer2 .ensures .1) tt)) }
 
 same-length-3 : tie.Need-same-length-3
 same-length-3 c = search needs
@@ -81,7 +81,7 @@ returns-3 c =
     let c-parse-index-register = c .before .before .before .before .before .before .before .before .before .before .before .before .before .parse-index-register in
     let c-read = c .before .before .before .before .before .before .before .before .read in
     let c-outer-indexed = c .before .before .before .before .outer-indexed in
-    record { told = outer-once _ _ (c-enum-told2 .given .1) (bound (c-parse-index-register .ensures) (index-is _ (sym (c-parse-index-register .ensures .what) ∙ c-read .given .1)) (outer-from (c-parse-index-register .ensures .held) (c-outer-indexed .ensures))); past = c-outer-indexed .ensures .past }
+    record { told = outer-once _ (c-enum-told2 .given .1) (bound (c-parse-index-register .ensures) (index-is _ (sym (c-parse-index-register .ensures .what) ∙ c-read .given .1)) (outer-from (c-parse-index-register .ensures .held) (c-outer-indexed .ensures))) }
 
 pub outer-index-spec : {M : Type 1} → statement M
 outer-index-spec =

@@ -14,6 +14,9 @@ use borrow.Author.Needs.{needs}
 use Rattle.parser.proofs.outer.outer_indexed.Statement.{statement}
 use Rattle.parser.proofs.outer.outer_indexed.Tie as tie
 
+cast-at : tie.Need-cast-at
+cast-at c = search needs
+
 token-at-requires : tie.Need-token-at-requires
 token-at-requires c κs = search needs
 
@@ -36,18 +39,18 @@ returns c =
     let c-p = c .before .before .before .before .p in
     let c-if1 = c .before .if1 in
     let c-an-outer2 = c .an-outer2 in
-    record { told = miss (sym (c-token-at .ensures) ∙ c-p .given .1) (ne-eqb _ Kinds.comma (c-if1 .taken)) (outer-answered _ 2 undisplaced refl (c-an-outer2 .ensures .0) (c-an-outer2 .ensures .1) (stored-none _ _)); past = refl }
+    record { told = miss (sym (c-token-at .ensures) ∙ c-p .given .1) (ne-eqb _ Kinds.comma (c-if1 .taken)) (outer-answered _ 2 undisplaced refl (c-an-outer2 .ensures .0) (c-an-outer2 .ensures .1) (stored-none _ _)) }
 
 step-over-requires : tie.Need-step-over-requires
 step-over-requires c κs =
-    let c-pre = c .before .before .before .before .before .before .before .before .before .before .pre in
+    let c-pre = c .before .before .before .before .before .before .before .before .before .before .before .pre in
     let c-token-at = c .before .before .before .before .before .token-at in
     let c-p = c .before .before .before .p in
     omega (arith, c-pre .room, live _ _ _ (sym (c-token-at .ensures) ∙ c-p .given .1))
 
 outer-displaced-requires : tie.Need-outer-displaced-requires
 outer-displaced-requires c κs =
-    let c-pre = c .before .before .before .before .before .before .before .before .before .before .before .before .before .pre in
+    let c-pre = c .before .before .before .before .before .before .before .before .before .before .before .before .before .before .pre in
     let c-token-at = c .before .before .before .before .before .before .before .before .token-at in
     let c-p = c .before .before .before .before .before .before .p in
     let c-step-over = c .before .before .step-over in
@@ -59,7 +62,7 @@ returns-2 c =
     let c-token-at = c .before .before .before .token-at in
     let c-enum-told = c .before .enum-told in
     let c-an-outer = c .an-outer in
-    record { told = done (sym (c-token-at .ensures) ∙ c-enum-told .given .1) (outer-answered _ 2 undisplaced refl (c-an-outer .ensures .0) (c-an-outer .ensures .1) (stored-none _ _)); past = refl }
+    record { told = done (sym (c-token-at .ensures) ∙ c-enum-told .given .1) (outer-answered _ 2 undisplaced refl (c-an-outer .ensures .0) (c-an-outer .ensures .1) (stored-none _ _)) }
 
 same-length : tie.Need-same-length
 same-length c = search needs
@@ -81,6 +84,7 @@ pub outer-indexed-spec : {M : Type 1} → statement M
 outer-indexed-spec =
     tie.close
     (tie.spec
+    cast-at
     token-at-requires
     enum-told
     an-outer-requires

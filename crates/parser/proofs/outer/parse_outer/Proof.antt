@@ -14,6 +14,9 @@ use borrow.Author.Needs.{needs}
 use Rattle.parser.proofs.outer.parse_outer.Statement.{statement}
 use Rattle.parser.proofs.outer.parse_outer.Tie as tie
 
+cast-at : tie.Need-cast-at
+cast-at c = search needs
+
 token-at-requires : tie.Need-token-at-requires
 token-at-requires c κs = search needs
 
@@ -32,7 +35,7 @@ returns c =
     let c-token-at = c .before .before .before .token-at in
     let c-enum-told = c .before .enum-told in
     let c-an-outer = c .an-outer in
-    record { told = done (sym (c-token-at .ensures) ∙ c-enum-told .given .1) (outer-answered _ 1 undisplaced refl (c-an-outer .ensures .0) (c-an-outer .ensures .1) (stored-none _ _)); past = refl }
+    record { told = done (sym (c-token-at .ensures) ∙ c-enum-told .given .1) (outer-answered _ 1 undisplaced refl (c-an-outer .ensures .0) (c-an-outer .ensures .1) (stored-none _ _)) }
 
 an-outer-requires-2 : tie.Need-an-outer-requires-2
 an-outer-requires-2 c κs = search needs
@@ -44,24 +47,27 @@ returns-2 c =
     let c-p = c .before .before .before .before .p in
     let c-if1 = c .before .if1 in
     let c-an-outer2 = c .an-outer2 in
-    record { told = miss (sym (c-token-at .ensures) ∙ c-p .given .1) (ne-eqb _ Kinds.comma (c-if1 .taken)) (outer-answered _ 1 undisplaced refl (c-an-outer2 .ensures .0) (c-an-outer2 .ensures .1) (stored-none _ _)); past = refl }
+    record { told = miss (sym (c-token-at .ensures) ∙ c-p .given .1) (ne-eqb _ Kinds.comma (c-if1 .taken)) (outer-answered _ 1 undisplaced refl (c-an-outer2 .ensures .0) (c-an-outer2 .ensures .1) (stored-none _ _)) }
 
 step-over-requires : tie.Need-step-over-requires
 step-over-requires c κs =
-    let c-pre = c .before .before .before .before .before .before .before .before .before .before .pre in
+    let c-pre = c .before .before .before .before .before .before .before .before .before .before .before .pre in
     let c-token-at = c .before .before .before .before .before .token-at in
     let c-p = c .before .before .before .p in
     omega (arith, c-pre .room, live _ _ _ (sym (c-token-at .ensures) ∙ c-p .given .1))
+
+cast-next : tie.Need-cast-next
+cast-next c = search needs
 
 is-an-index-at-requires : tie.Need-is-an-index-at-requires
 is-an-index-at-requires c κs = search needs
 
 outer-index-requires : tie.Need-outer-index-requires
 outer-index-requires c κs =
-    let c-pre = c .before .before .before .before .before .before .before .before .before .before .before .before .before .before .before .pre in
-    let c-token-at = c .before .before .before .before .before .before .before .before .before .before .token-at in
-    let c-p = c .before .before .before .before .before .before .before .before .p in
-    let c-step-over = c .before .before .before .before .step-over in
+    let c-pre = c .before .before .before .before .before .before .before .before .before .before .before .before .before .before .before .before .before .pre in
+    let c-token-at = c .before .before .before .before .before .before .before .before .before .before .before .token-at in
+    let c-p = c .before .before .before .before .before .before .before .before .before .p in
+    let c-step-over = c .before .before .before .before .before .step-over in
     node-step (c-pre) (sym (c-token-at .ensures) ∙ c-p .given .1) (c-step-over .ensures)
 
 same-length : tie.Need-same-length
@@ -73,10 +79,10 @@ same-length-2 c = search needs
 returns-3 : tie.Need-returns-3
 unfolding parseOuter sizedOf
 returns-3 c =
-    let c-token-at = c .before .before .before .before .before .before .before .before .before .before .before .before .before .before .before .token-at in
-    let c-p = c .before .before .before .before .before .before .before .before .before .before .before .before .before .p in
-    let c-if1 = c .before .before .before .before .before .before .before .before .before .before .if1 in
-    let c-step-over = c .before .before .before .before .before .before .before .before .before .step-over in
+    let c-token-at = c .before .before .before .before .before .before .before .before .before .before .before .before .before .before .before .before .token-at in
+    let c-p = c .before .before .before .before .before .before .before .before .before .before .before .before .before .before .p in
+    let c-if1 = c .before .before .before .before .before .before .before .before .before .before .before .if1 in
+    let c-step-over = c .before .before .before .before .before .before .before .before .before .before .step-over in
     let c-is-an-index-at = c .before .before .before .before .before .before .before .before .is-an-index-at in
     let c-if2 = c .before .before .before .before .before .before .before .if2 in
     let c-outer-index = c .before .before .before .before .outer-index in
@@ -84,10 +90,10 @@ returns-3 c =
 
 outer-displaced-requires : tie.Need-outer-displaced-requires
 outer-displaced-requires c κs =
-    let c-pre = c .before .before .before .before .before .before .before .before .before .before .before .before .before .before .before .pre in
-    let c-token-at = c .before .before .before .before .before .before .before .before .before .before .token-at in
-    let c-p = c .before .before .before .before .before .before .before .before .p in
-    let c-step-over = c .before .before .before .before .step-over in
+    let c-pre = c .before .before .before .before .before .before .before .before .before .before .before .before .before .before .before .before .before .pre in
+    let c-token-at = c .before .before .before .before .before .before .before .before .before .before .before .token-at in
+    let c-p = c .before .before .before .before .before .before .before .before .before .p in
+    let c-step-over = c .before .before .before .before .before .step-over in
     node-step (c-pre) (sym (c-token-at .ensures) ∙ c-p .given .1) (c-step-over .ensures)
 
 same-length-3 : tie.Need-same-length-3
@@ -99,10 +105,10 @@ same-length-4 c = search needs
 returns-4 : tie.Need-returns-4
 unfolding parseOuter sizedOf
 returns-4 c =
-    let c-token-at = c .before .before .before .before .before .before .before .before .before .before .before .before .before .before .before .token-at in
-    let c-p = c .before .before .before .before .before .before .before .before .before .before .before .before .before .p in
-    let c-if1 = c .before .before .before .before .before .before .before .before .before .before .if1 in
-    let c-step-over = c .before .before .before .before .before .before .before .before .before .step-over in
+    let c-token-at = c .before .before .before .before .before .before .before .before .before .before .before .before .before .before .before .before .token-at in
+    let c-p = c .before .before .before .before .before .before .before .before .before .before .before .before .before .before .p in
+    let c-if1 = c .before .before .before .before .before .before .before .before .before .before .before .if1 in
+    let c-step-over = c .before .before .before .before .before .before .before .before .before .before .step-over in
     let c-is-an-index-at = c .before .before .before .before .before .before .before .before .is-an-index-at in
     let c-if2 = c .before .before .before .before .before .before .before .if2 in
     let c-outer-displaced = c .before .before .before .before .outer-displaced in
@@ -112,6 +118,7 @@ pub parse-outer-spec : {M : Type 1} → statement M
 parse-outer-spec =
     tie.close
     (tie.spec
+    cast-at
     token-at-requires
     enum-known-p
     enum-told
@@ -120,6 +127,7 @@ parse-outer-spec =
     an-outer-requires-2
     returns-2
     step-over-requires
+    cast-next
     is-an-index-at-requires
     outer-index-requires
     same-length

@@ -7,14 +7,17 @@ use borrow.Author.Needs.{needs}
 use Rattle.parser.proofs.parentheses.after_comma.Statement.{statement}
 use Rattle.parser.proofs.parentheses.after_comma.Tie as tie
 
+cast-at : tie.Need-cast-at
+cast-at c = search needs
+
 starts-a-full-index-requires : tie.Need-starts-a-full-index-requires
 starts-a-full-index-requires c κs =
-    let c-pre = c .before .before .before .pre in
+    let c-pre = c .before .before .before .before .pre in
     omega (arith, c-pre)
 
 parse-full-index-requires : tie.Need-parse-full-index-requires
 parse-full-index-requires c κs =
-    let c-pre = c .before .before .before .before .before .before .pre in
+    let c-pre = c .before .before .before .before .before .before .before .pre in
     c-pre
 
 same-length : tie.Need-same-length
@@ -29,7 +32,7 @@ returns c =
 
 parse-base-and-index-requires : tie.Need-parse-base-and-index-requires
 parse-base-and-index-requires c κs =
-    let c-pre = c .before .before .before .before .before .before .pre in
+    let c-pre = c .before .before .before .before .before .before .before .pre in
     c-pre
 
 same-length-2 : tie.Need-same-length-2
@@ -46,6 +49,7 @@ pub after-comma-spec : {M : Type 1} → statement M
 after-comma-spec =
     tie.close
     (tie.spec
+    cast-at
     starts-a-full-index-requires
     parse-full-index-requires
     same-length

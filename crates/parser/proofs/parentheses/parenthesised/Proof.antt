@@ -4,16 +4,16 @@ use mathlib.Core.Path.{_∙_}
 use native.Mathlib.Omega.{arith}
 use Rattle.operand.specs.Operand.{parenthesised, parenthesisedExpression}
 use Rattle.parser.proofs.Paths.{raised}
-use Rattle.parser.proofs.Trees.{fit, term-past, tree-read, absent-room}
-use Rattle.parser.proofs.Holdings.{nothing-stored, tree-stands, left-stands, behind-tree, behind-reported, behind-absent}
+use Rattle.parser.proofs.Trees.{tree-read, absent-room}
+use Rattle.parser.proofs.Holdings.{nothing-stored, tree-stands, behind-tree, behind-reported, behind-absent}
 use borrow.Author.Needs.{needs}
 use Rattle.parser.proofs.parentheses.parenthesised.Statement.{statement}
 use Rattle.parser.proofs.parentheses.parenthesised.Tie as tie
 
-expression-requires : tie.Need-expression-requires
-expression-requires c κs =
+expression-at-requires : tie.Need-expression-at-requires
+expression-at-requires c κs =
     let c-pre = c .before .before .before .before .before .before .pre in
-    fit (c-pre .0)
+    c-pre .0
 
 enum-known-parsed : tie.Need-enum-known-parsed
 enum-known-parsed c = search needs
@@ -21,9 +21,9 @@ enum-known-parsed c = search needs
 after-expression-requires : tie.Need-after-expression-requires
 after-expression-requires c κs =
     let c-pre = c .before .before .before .before .before .before .before .before .before .before .before .before .before .before .before .before .before .pre in
-    let c-expression = c .before .before .before .before .before .before .before .before .before .before .expression in
+    let c-expression-at = c .before .before .before .before .before .before .before .before .before .before .expression-at in
     let c-parsed = c .before .before .before .parsed in
-    ((tree-read _ _ (c-pre .0) (c-expression .ensures) (c-parsed .given .1) (omega (arith, c-expression .kept)) (omega (arith, c-expression .kept))) .room, left-stands (tree-stands (tree-read _ _ (c-pre .0) (c-expression .ensures) (c-parsed .given .1) (omega (arith, c-expression .kept)) (omega (arith, c-expression .kept))) (c-pre .1)))
+    (tree-read _ _ (c-pre .0) (c-expression-at .ensures) (c-parsed .given .1) (omega (arith, c-expression-at .kept))) .room
 
 enum-told : tie.Need-enum-told
 enum-told c = search needs
@@ -37,9 +37,9 @@ enum-told-2 c = search needs
 expression-expected-requires : tie.Need-expression-expected-requires
 expression-expected-requires c κs =
     let c-pre = c .before .before .before .before .before .before .before .before .before .before .before .before .before .before .before .pre in
-    let c-expression = c .before .before .before .before .before .before .before .before .expression in
+    let c-expression-at = c .before .before .before .before .before .before .before .before .expression-at in
     let c-enum-told2 = c .before .enum-told2 in
-    omega (arith, absent-room _ _ (c-pre .0) (c-expression .ensures) (c-enum-told2 .given .1) (omega (arith, c-expression .kept)))
+    omega (arith, absent-room _ _ (c-pre .0) (c-expression-at .ensures) (c-enum-told2 .given .1))
 
 no-operand-requires-2 : tie.Need-no-operand-requires-2
 no-operand-requires-2 c κs = search needs
@@ -54,10 +54,10 @@ returns : tie.Need-returns
 unfolding parenthesised parenthesisedExpression
 returns c =
     let c-pre = c .before .before .before .before .before .before .before .before .before .before .before .before .before .before .before .before .before .before .before .before .before .before .pre in
-    let c-expression = c .before .before .before .before .before .before .before .before .before .before .before .before .before .before .before .expression in
+    let c-expression-at = c .before .before .before .before .before .before .before .before .before .before .before .before .before .before .before .expression-at in
     let c-parsed = c .before .before .before .before .before .before .before .before .parsed in
     let c-after-expression = c .before .before .before .before .after-expression in
-    record { told = behind-tree _ _ (c-pre .0) (c-expression .ensures) (tree-read _ _ (c-pre .0) (c-expression .ensures) (c-parsed .given .1) (omega (arith, c-expression .kept)) (omega (arith, c-expression .kept))) (c-after-expression .ensures .told _ (tree-stands (tree-read _ _ (c-pre .0) (c-expression .ensures) (c-parsed .given .1) (omega (arith, c-expression .kept)) (omega (arith, c-expression .kept))) (c-pre .1)) ((tree-read _ _ (c-pre .0) (c-expression .ensures) (c-parsed .given .1) (omega (arith, c-expression .kept)) (omega (arith, c-expression .kept))) .span)); past = c-after-expression .ensures .past ∙ term-past _ _ (c-pre .0) (c-expression .ensures) }
+    record { told = behind-tree _ _ (c-pre .0) (c-expression-at .ensures) (tree-read _ _ (c-pre .0) (c-expression-at .ensures) (c-parsed .given .1) (omega (arith, c-expression-at .kept))) (c-after-expression .ensures .told _ (tree-stands (tree-read _ _ (c-pre .0) (c-expression-at .ensures) (c-parsed .given .1) (omega (arith, c-expression-at .kept))) (c-pre .1)) ((tree-read _ _ (c-pre .0) (c-expression-at .ensures) (c-parsed .given .1) (omega (arith, c-expression-at .kept))) .span)) }
 
 same-length-3 : tie.Need-same-length-3
 same-length-3 c = search needs
@@ -69,10 +69,10 @@ returns-2 : tie.Need-returns-2
 unfolding parenthesised parenthesisedExpression
 returns-2 c =
     let c-pre = c .before .before .before .before .before .before .before .before .before .before .before .before .before .before .before .pre in
-    let c-expression = c .before .before .before .before .before .before .before .before .expression in
+    let c-expression-at = c .before .before .before .before .before .before .before .before .expression-at in
     let c-enum-told = c .before .enum-told in
     let c-no-operand = c .no-operand in
-    record { told = behind-reported _ _ (c-pre .0) (c-expression .ensures) (c-enum-told .given .1) (nothing-stored _ (c-no-operand .ensures)); past = term-past _ _ (c-pre .0) (c-expression .ensures) }
+    record { told = behind-reported _ _ (c-pre .0) (c-expression-at .ensures) (c-enum-told .given .1) (nothing-stored _ (c-no-operand .ensures)) }
 
 same-length-5 : tie.Need-same-length-5
 same-length-5 c = search needs
@@ -84,17 +84,17 @@ returns-3 : tie.Need-returns-3
 unfolding parenthesised parenthesisedExpression
 returns-3 c =
     let c-pre = c .before .before .before .before .before .before .before .before .before .before .before .before .before .before .before .before .before .before .before .pre in
-    let c-expression = c .before .before .before .before .before .before .before .before .before .before .before .before .expression in
+    let c-expression-at = c .before .before .before .before .before .before .before .before .before .before .before .before .expression-at in
     let c-enum-told2 = c .before .before .before .before .before .enum-told2 in
     let c-expression-expected = c .before .before .before .expression-expected in
     let c-no-operand2 = c .no-operand2 in
-    record { told = behind-absent _ _ (c-pre .0) (c-expression .ensures) (c-enum-told2 .given .1) (raised (c-expression-expected .ensures) (nothing-stored _ (c-no-operand2 .ensures))); past = term-past _ _ (c-pre .0) (c-expression .ensures) }
+    record { told = behind-absent _ _ (c-pre .0) (c-expression-at .ensures) (c-enum-told2 .given .1) (raised (c-expression-expected .ensures) (nothing-stored _ (c-no-operand2 .ensures))) }
 
 pub parenthesised-spec : {M : Type 1} → statement M
 parenthesised-spec =
     tie.close
     (tie.spec
-    expression-requires
+    expression-at-requires
     enum-known-parsed
     after-expression-requires
     enum-told

@@ -12,6 +12,9 @@ use borrow.Author.Needs.{needs}
 use Rattle.parser.proofs.parentheses.parse_parenthesised_operand.Statement.{statement}
 use Rattle.parser.proofs.parentheses.parse_parenthesised_operand.Tie as tie
 
+cast-at : tie.Need-cast-at
+cast-at c = search needs
+
 token-at-requires : tie.Need-token-at-requires
 token-at-requires c κs = search needs
 
@@ -23,7 +26,7 @@ enum-told c = search needs
 
 unbracketed-requires : tie.Need-unbracketed-requires
 unbracketed-requires c κs =
-    let c-pre = c .before .before .before .before .before .before .before .before .before .pre in
+    let c-pre = c .before .before .before .before .before .before .before .before .before .before .pre in
     c-pre
 
 same-length : tie.Need-same-length
@@ -38,11 +41,11 @@ returns c =
     let c-token-at = c .before .before .before .before .before .before .before .before .before .token-at in
     let c-enum-told = c .before .before .before .before .before .before .before .enum-told in
     let c-unbracketed = c .before .before .before .before .unbracketed in
-    record { told = done (sym (c-token-at .ensures) ∙ c-enum-told .given .1) (c-unbracketed .ensures .told); past = c-unbracketed .ensures .past }
+    record { told = done (sym (c-token-at .ensures) ∙ c-enum-told .given .1) (c-unbracketed .ensures .told) }
 
 unbracketed-requires-2 : tie.Need-unbracketed-requires-2
 unbracketed-requires-2 c κs =
-    let c-pre = c .before .before .before .before .before .before .before .before .before .before .before .before .pre in
+    let c-pre = c .before .before .before .before .before .before .before .before .before .before .before .before .before .pre in
     c-pre
 
 same-length-3 : tie.Need-same-length-3
@@ -58,18 +61,18 @@ returns-2 c =
     let c-p = c .before .before .before .before .before .before .before .before .before .before .p in
     let c-if1 = c .before .before .before .before .before .before .before .if1 in
     let c-unbracketed2 = c .before .before .before .before .unbracketed2 in
-    record { told = miss (sym (c-token-at .ensures) ∙ c-p .given .1) (ne-eqb _ Kinds.leftBracket (c-if1 .taken)) (c-unbracketed2 .ensures .told); past = c-unbracketed2 .ensures .past }
+    record { told = miss (sym (c-token-at .ensures) ∙ c-p .given .1) (ne-eqb _ Kinds.leftBracket (c-if1 .taken)) (c-unbracketed2 .ensures .told) }
 
 step-over-requires : tie.Need-step-over-requires
 step-over-requires c κs =
-    let c-pre = c .before .before .before .before .before .before .before .before .before .before .pre in
+    let c-pre = c .before .before .before .before .before .before .before .before .before .before .before .pre in
     let c-token-at = c .before .before .before .before .before .token-at in
     let c-p = c .before .before .before .p in
     omega (arith, c-pre .0 .room, live _ _ _ (sym (c-token-at .ensures) ∙ c-p .given .1))
 
 parse-memory-indirect-requires : tie.Need-parse-memory-indirect-requires
 parse-memory-indirect-requires c κs =
-    let c-pre = c .before .before .before .before .before .before .before .before .before .before .before .before .before .pre in
+    let c-pre = c .before .before .before .before .before .before .before .before .before .before .before .before .before .before .pre in
     let c-token-at = c .before .before .before .before .before .before .before .before .token-at in
     let c-p = c .before .before .before .before .before .before .p in
     let c-step-over = c .before .before .step-over in
@@ -89,12 +92,13 @@ returns-3 c =
     let c-if1 = c .before .before .before .before .before .before .before .before .if1 in
     let c-step-over = c .before .before .before .before .before .before .before .step-over in
     let c-parse-memory-indirect = c .before .before .before .before .parse-memory-indirect in
-    record { told = hit (sym (c-token-at .ensures) ∙ c-p .given .1) (eq-eqb _ Kinds.leftBracket (c-if1 .left)) (c-step-over .ensures) (c-parse-memory-indirect .ensures .told); past = c-parse-memory-indirect .ensures .past }
+    record { told = hit (sym (c-token-at .ensures) ∙ c-p .given .1) (eq-eqb _ Kinds.leftBracket (c-if1 .left)) (c-step-over .ensures) (c-parse-memory-indirect .ensures .told) }
 
 pub parse-parenthesised-operand-spec : {M : Type 1} → statement M
 parse-parenthesised-operand-spec =
     tie.close
     (tie.spec
+    cast-at
     token-at-requires
     enum-known-p
     enum-told

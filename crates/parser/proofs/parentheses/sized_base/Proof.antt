@@ -15,6 +15,9 @@ use borrow.Author.Needs.{needs}
 use Rattle.parser.proofs.parentheses.sized_base.Statement.{statement}
 use Rattle.parser.proofs.parentheses.sized_base.Tie as tie
 
+cast-at : tie.Need-cast-at
+cast-at c = search needs
+
 add-token-at : tie.Need-add-token-at
 add-token-at c = search needs
 
@@ -29,8 +32,8 @@ enum-told c = search needs
 
 unexpected-requires : tie.Need-unexpected-requires
 unexpected-requires c κs =
-    let c-pre = c .before .before .before .before .before .before .before .pre in
-    c-pre .0 .room
+    let c-pre = c .before .before .before .before .before .before .before .before .pre in
+    omega (arith, c-pre .0)
 
 same-length : tie.Need-same-length
 same-length c = search needs
@@ -45,8 +48,8 @@ returns c =
 
 unexpected-requires-2 : tie.Need-unexpected-requires-2
 unexpected-requires-2 c κs =
-    let c-pre = c .before .before .before .before .before .before .before .before .before .before .pre in
-    c-pre .0 .room
+    let c-pre = c .before .before .before .before .before .before .before .before .before .before .before .pre in
+    omega (arith, c-pre .0)
 
 same-length-2 : tie.Need-same-length-2
 same-length-2 c = search needs
@@ -62,60 +65,60 @@ returns-2 c =
 
 take-size-suffix-requires : tie.Need-take-size-suffix-requires
 take-size-suffix-requires c κs =
-    let c-pre = c .before .before .before .before .before .before .before .before .before .before .pre in
-    c-pre .0 .room
+    let c-pre = c .before .before .before .before .before .before .before .before .before .before .before .pre in
+    omega (arith, c-pre .0)
 
 enum-told-2 : tie.Need-enum-told-2
 enum-told-2 c = search needs
 
 last-tree-requires : tie.Need-last-tree-requires
 last-tree-requires c κs =
-    let c-pre = c .before .before .before .before .before .before .before .before .before .before .before .before .before .before .before .before .pre in
+    let c-pre = c .before .before .before .before .before .before .before .before .before .before .before .before .before .before .before .before .before .pre in
     let c-take-size-suffix = c .before .before .before .before .before .take-size-suffix in
-    (omega (arith, c-pre .0, (c-take-size-suffix .ensures) .held), omega (arith, c-pre .0, (c-take-size-suffix .ensures) .held))
+    omega (arith, c-pre .0, (c-take-size-suffix .ensures) .held)
 
 step-over-requires : tie.Need-step-over-requires
 step-over-requires c κs =
-    let c-pre = c .before .before .before .before .before .before .before .before .before .before .before .before .before .before .before .before .before .before .pre in
+    let c-pre = c .before .before .before .before .before .before .before .before .before .before .before .before .before .before .before .before .before .before .before .pre in
     let c-take-size-suffix = c .before .before .before .before .before .before .before .take-size-suffix in
     let c-token-at = c .before .before .before .before .before .before .before .before .before .before .before .before .before .before .token-at in
     let c-p = c .before .before .before .before .before .before .before .before .before .before .before .before .p in
-    omega (arith, c-pre .0 .room, live _ _ _ (token-from _ (size-passed _ (c-pre .1) (c-take-size-suffix .ensures)) (sym (c-token-at .ensures) ∙ c-p .given .1)))
+    omega (arith, c-pre .0, live _ _ _ (token-from _ (size-passed _ (c-pre .1) (c-take-size-suffix .ensures)) (sym (c-token-at .ensures) ∙ c-p .given .1)))
 
 parse-full-index-requires : tie.Need-parse-full-index-requires
 parse-full-index-requires c κs =
-    let c-pre = c .before .before .before .before .before .before .before .before .before .before .before .before .before .before .before .before .before .before .before .pre in
+    let c-pre = c .before .before .before .before .before .before .before .before .before .before .before .before .before .before .before .before .before .before .before .before .pre in
     let c-take-size-suffix = c .before .before .before .before .before .before .before .before .take-size-suffix in
     let c-token-at = c .before .before .before .before .before .before .before .before .before .before .before .before .before .before .before .token-at in
     let c-p = c .before .before .before .before .before .before .before .before .before .before .before .before .before .p in
     let c-step-over = c .step-over in
-    room-step (suffix-room _ (c-pre .0 .room) (c-take-size-suffix .ensures) (omega (arith, c-take-size-suffix .kept))) (token-from _ (size-passed _ (c-pre .1) (c-take-size-suffix .ensures)) (sym (c-token-at .ensures) ∙ c-p .given .1)) (c-step-over .ensures)
+    room-step (suffix-room _ (c-pre .0) (c-take-size-suffix .ensures)) (token-from _ (size-passed _ (c-pre .1) (c-take-size-suffix .ensures)) (sym (c-token-at .ensures) ∙ c-p .given .1)) (c-step-over .ensures)
 
 enum-known-suffix : tie.Need-enum-known-suffix
 enum-known-suffix c = search needs
 
 last-tree-requires-2 : tie.Need-last-tree-requires-2
 last-tree-requires-2 c κs =
-    let c-pre = c .before .before .before .before .before .before .before .before .before .before .before .before .before .before .before .before .before .pre in
+    let c-pre = c .before .before .before .before .before .before .before .before .before .before .before .before .before .before .before .before .before .before .pre in
     let c-take-size-suffix = c .before .before .before .before .before .before .take-size-suffix in
-    (omega (arith, c-pre .0, (c-take-size-suffix .ensures) .held), omega (arith, c-pre .0, (c-take-size-suffix .ensures) .held))
+    omega (arith, c-pre .0, (c-take-size-suffix .ensures) .held)
 
 step-over-requires-2 : tie.Need-step-over-requires-2
 step-over-requires-2 c κs =
-    let c-pre = c .before .before .before .before .before .before .before .before .before .before .before .before .before .before .before .before .before .before .before .pre in
+    let c-pre = c .before .before .before .before .before .before .before .before .before .before .before .before .before .before .before .before .before .before .before .before .pre in
     let c-take-size-suffix = c .before .before .before .before .before .before .before .before .take-size-suffix in
     let c-token-at = c .before .before .before .before .before .before .before .before .before .before .before .before .before .before .before .token-at in
     let c-p = c .before .before .before .before .before .before .before .before .before .before .before .before .before .p in
-    omega (arith, c-pre .0 .room, live _ _ _ (token-from _ (size-passed _ (c-pre .1) (c-take-size-suffix .ensures)) (sym (c-token-at .ensures) ∙ c-p .given .1)))
+    omega (arith, c-pre .0, live _ _ _ (token-from _ (size-passed _ (c-pre .1) (c-take-size-suffix .ensures)) (sym (c-token-at .ensures) ∙ c-p .given .1)))
 
 parse-full-index-requires-2 : tie.Need-parse-full-index-requires-2
 parse-full-index-requires-2 c κs =
-    let c-pre = c .before .before .before .before .before .before .before .before .before .before .before .before .before .before .before .before .before .before .before .before .pre in
+    let c-pre = c .before .before .before .before .before .before .before .before .before .before .before .before .before .before .before .before .before .before .before .before .before .pre in
     let c-take-size-suffix = c .before .before .before .before .before .before .before .before .before .take-size-suffix in
     let c-token-at = c .before .before .before .before .before .before .before .before .before .before .before .before .before .before .before .before .token-at in
     let c-p = c .before .before .before .before .before .before .before .before .before .before .before .before .before .before .p in
     let c-step-over2 = c .step-over2 in
-    room-step (suffix-room _ (c-pre .0 .room) (c-take-size-suffix .ensures) (omega (arith, c-take-size-suffix .kept))) (token-from _ (size-passed _ (c-pre .1) (c-take-size-suffix .ensures)) (sym (c-token-at .ensures) ∙ c-p .given .1)) (c-step-over2 .ensures)
+    room-step (suffix-room _ (c-pre .0) (c-take-size-suffix .ensures)) (token-from _ (size-passed _ (c-pre .1) (c-take-size-suffix .ensures)) (sym (c-token-at .ensures) ∙ c-p .given .1)) (c-step-over2 .ensures)
 
 same-length-3 : tie.Need-same-length-3
 same-length-3 c = search needs
@@ -126,10 +129,10 @@ returns-3 c =
     let c-token-at = c .before .before .before .before .before .before .before .before .before .before .before .before .before .before .before .before .before .before .token-at in
     let c-p = c .before .before .before .before .before .before .before .before .before .before .before .before .before .before .before .before .p in
     let c-if1 = c .before .before .before .before .before .before .before .before .before .before .before .before .before .if1 in
-    let c-args = c .before .before .before .before .before .before .before .before .before .before .before .before .before .before .before .before .before .before .before .before .before .before .args in
+    let c-args = c .before .before .before .before .before .before .before .before .before .before .before .before .before .before .before .before .before .before .before .before .before .before .before .args in
     let c-take-size-suffix = c .before .before .before .before .before .before .before .before .before .before .before .take-size-suffix in
     let c-enum-told2 = c .before .before .before .before .before .before .enum-told2 in
-    let c-pre = c .before .before .before .before .before .before .before .before .before .before .before .before .before .before .before .before .before .before .before .before .before .before .pre in
+    let c-pre = c .before .before .before .before .before .before .before .before .before .before .before .before .before .before .before .before .before .before .before .before .before .before .before .pre in
     let c-step-over = c .before .before .before .step-over in
     let c-parse-full-index = c .before .before .parse-full-index in
     let c-last-tree = c .before .before .before .before .before .last-tree in
@@ -144,10 +147,10 @@ returns-4 c =
     let c-token-at = c .before .before .before .before .before .before .before .before .before .before .before .before .before .before .before .before .before .before .before .token-at in
     let c-p = c .before .before .before .before .before .before .before .before .before .before .before .before .before .before .before .before .before .p in
     let c-if1 = c .before .before .before .before .before .before .before .before .before .before .before .before .before .before .if1 in
-    let c-args = c .before .before .before .before .before .before .before .before .before .before .before .before .before .before .before .before .before .before .before .before .before .before .before .args in
+    let c-args = c .before .before .before .before .before .before .before .before .before .before .before .before .before .before .before .before .before .before .before .before .before .before .before .before .args in
     let c-take-size-suffix = c .before .before .before .before .before .before .before .before .before .before .before .before .take-size-suffix in
     let c-suffix = c .before .before .before .before .before .before .before .suffix in
-    let c-pre = c .before .before .before .before .before .before .before .before .before .before .before .before .before .before .before .before .before .before .before .before .before .before .before .pre in
+    let c-pre = c .before .before .before .before .before .before .before .before .before .before .before .before .before .before .before .before .before .before .before .before .before .before .before .before .pre in
     let c-step-over2 = c .before .before .before .step-over2 in
     let c-parse-full-index2 = c .before .before .parse-full-index2 in
     let c-last-tree2 = c .before .before .before .before .before .last-tree2 in
@@ -157,6 +160,7 @@ pub sized-base-spec : {M : Type 1} → statement M
 sized-base-spec =
     tie.close
     (tie.spec
+    cast-at
     add-token-at
     token-at-requires
     enum-known-p

@@ -11,6 +11,9 @@ use borrow.Author.Needs.{needs}
 use Rattle.parser.proofs.parentheses.unexpected.Statement.{statement}
 use Rattle.parser.proofs.parentheses.unexpected.Tie as tie
 
+cast-at : tie.Need-cast-at
+cast-at c = search needs
+
 token-at-requires : tie.Need-token-at-requires
 token-at-requires c κs = search needs
 
@@ -37,7 +40,7 @@ diagnostic-requires c κs = search needs
 
 raise-requires : tie.Need-raise-requires
 raise-requires c κs =
-    let c-pre = c .before .before .before .before .before .before .before .before .before .before .before .pre in
+    let c-pre = c .before .before .before .before .before .before .before .before .before .before .before .before .pre in
     omega (arith, c-pre)
 
 no-operand-requires-2 : tie.Need-no-operand-requires-2
@@ -54,7 +57,7 @@ diagnostic-requires-2 c κs = search needs
 
 raise-requires-2 : tie.Need-raise-requires-2
 raise-requires-2 c κs =
-    let c-pre = c .before .before .before .before .before .before .before .before .pre in
+    let c-pre = c .before .before .before .before .before .before .before .before .before .pre in
     omega (arith, c-pre)
 
 no-operand-requires-3 : tie.Need-no-operand-requires-3
@@ -93,6 +96,7 @@ pub unexpected-spec : {M : Type 1} → statement M
 unexpected-spec =
     tie.close
     (tie.spec
+    cast-at
     token-at-requires
     enum-known-p
     no-operand-requires

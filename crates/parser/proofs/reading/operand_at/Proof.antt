@@ -1,37 +1,56 @@
 -- `parser::reading::operand_at` meets its contract.
 -- Assumes nothing.
+use mathlib.Core.Path.{refl, sym, _∙_}
 use native.Mathlib.Omega.{arith}
-use Rattle.parser.proofs.Cleared.{operand-fits, operand-kept, nothing-kept}
+use Rattle.parser.specs.Reading.{OperandAsks, read, unread}
+use Rattle.parser.proofs.Cleared.{nothing-from, ended-kept}
 use borrow.Author.Needs.{needs}
 use Rattle.parser.proofs.reading.operand_at.Statement.{statement}
 use Rattle.parser.proofs.reading.operand_at.Tie as tie
 
-operand-from-requires : tie.Need-operand-from-requires
-operand-from-requires c κs =
-    let c-pre = c .before .before .before .before .before .before .pre in
-    (c-pre .0, c-pre .1, c-pre .2)
+returns : tie.Need-returns
+returns c = unread refl (λ h. omega (arith, h)) refl refl
+
+returns-2 : tie.Need-returns-2
+returns-2 c = unread refl (λ h. omega (arith, h)) refl refl
+
+mul-if3 : tie.Need-mul-if3
+mul-if3 c = omega arith
+
+returns-3 : tie.Need-returns-3
+returns-3 c = unread refl (λ h. omega (arith, h)) refl refl
+
+returns-4 : tie.Need-returns-4
+returns-4 c = unread refl (λ h. omega (arith, h)) refl refl
+
+token-at-requires : tie.Need-token-at-requires
+token-at-requires c κs = search needs
+
+enum-known-p : tie.Need-enum-known-p
+enum-known-p c = search needs
+
+read-requires : tie.Need-read-requires
+read-requires c κs =
+    let c-args = c .before .before .before .before .before .before .before .before .before .before .before .before .before .before .args in
+    let c-if1 = c .before .before .before .before .before .before .before .before .before .if1 in
+    let c-if2 = c .before .before .before .before .before .before .before .before .if2 in
+    let c-if3 = c .before .before .before .before .before .before .before .if3 in
+    let c-if4 = c .before .before .before .before .before .before .if4 in
+    let c-token-at = c .before .before .before .before .before .token-at in
+    let c-p = c .before .before .before .p in
+    let asks : OperandAsks (c-args .tokens .now) (c-args .nodes .now) (c-args .start) (c-args .limit) = omega (arith, c-if1 .left, c-if2 .left, c-if3 .left, c-if4 .left) in (asks, sym (c-token-at .ensures) ∙ c-p .given .1)
 
 enum-told : tie.Need-enum-told
 enum-told c = search needs
 
-cast-clear-nodes : tie.Need-cast-clear-nodes
-cast-clear-nodes c = search needs
+first-requires : tie.Need-first-requires
+first-requires c κs =
+    let c-if1 = c .before .before .before .before .before .before .before .if1 in
+    let c-if2 = c .before .before .before .before .before .before .if2 in
+    omega (arith, c-if1 .left, c-if2 .left)
 
-clear-nodes-requires : tie.Need-clear-nodes-requires
-clear-nodes-requires c κs =
-    let c-operand-from = c .before .before .before .before .before .before .before .before .before .operand-from in
-    let c-enum-told = c .before .before .enum-told in
-    let c-pre = c .before .before .before .before .before .before .before .before .before .before .before .before .before .before .before .before .pre in
-    omega (arith, operand-fits _ _ (c-operand-from .ensures) (c-enum-told .given .1) (c-pre .0) (c-pre .3), c-pre .0 .nodesLong, c-operand-from .kept)
-
-enum-told-2 : tie.Need-enum-told-2
-enum-told-2 c = search needs
-
-clear-nodes-requires-2 : tie.Need-clear-nodes-requires-2
-clear-nodes-requires-2 c κs =
-    let c-pre = c .before .before .before .before .before .before .before .before .before .before .before .before .before .before .before .pre in
-    let c-operand-from = c .before .before .before .before .before .before .before .before .operand-from in
-    (omega arith, omega arith, omega (arith, c-pre .0 .nodesLong, c-operand-from .kept))
+nothing-requires : tie.Need-nothing-requires
+nothing-requires c κs = search needs
 
 same-length : tie.Need-same-length
 same-length c = search needs
@@ -39,39 +58,49 @@ same-length c = search needs
 same-length-2 : tie.Need-same-length-2
 same-length-2 c = search needs
 
-returns : tie.Need-returns
-returns c =
-    let c-operand-from = c .before .before .before .before .before .before .before .before .before .before .before .before .operand-from in
-    let c-enum-told = c .before .before .before .before .before .enum-told in
-    let c-clear-nodes = c .before .before .clear-nodes in
-    operand-kept _ _ (c-operand-from .ensures) (c-enum-told .given .1) (c-clear-nodes .ensures)
+returns-5 : tie.Need-returns-5
+returns-5 c =
+    let c-args = c .before .before .before .before .before .before .before .before .before .before .before .before .before .before .before .before .before .before .before .args in
+    let c-if1 = c .before .before .before .before .before .before .before .before .before .before .before .before .before .before .if1 in
+    let c-if2 = c .before .before .before .before .before .before .before .before .before .before .before .before .before .if2 in
+    let c-if3 = c .before .before .before .before .before .before .before .before .before .before .before .before .if3 in
+    let c-if4 = c .before .before .before .before .before .before .before .before .before .before .before .if4 in
+    let c-read = c .before .before .before .before .read in
+    let asks : OperandAsks (c-args .tokens .now) (c-args .nodes .now) (c-args .start) (c-args .limit) = omega (arith, c-if1 .left, c-if2 .left, c-if3 .left, c-if4 .left) in read _ refl asks (c-read .ensures)
 
 same-length-3 : tie.Need-same-length-3
 same-length-3 c = search needs
 
-same-length-4 : tie.Need-same-length-4
-same-length-4 c = search needs
-
-returns-2 : tie.Need-returns-2
-returns-2 c =
-    let c-operand-from = c .before .before .before .before .before .before .before .before .before .before .before .operand-from in
-    let c-enum-told2 = c .before .before .before .before .enum-told2 in
-    let c-clear-nodes2 = c .before .before .clear-nodes2 in
-    nothing-kept _ _ (c-operand-from .ensures) (c-enum-told2 .given .1) (c-clear-nodes2 .ensures)
+returns-6 : tie.Need-returns-6
+returns-6 c =
+    let c-args = c .before .before .before .before .before .before .before .before .before .before .before .before .before .before .before .before .args in
+    let c-if1 = c .before .before .before .before .before .before .before .before .before .before .before .if1 in
+    let c-if2 = c .before .before .before .before .before .before .before .before .before .before .if2 in
+    let c-if3 = c .before .before .before .before .before .before .before .before .before .if3 in
+    let c-if4 = c .before .before .before .before .before .before .before .before .if4 in
+    let c-token-at = c .before .before .before .before .before .before .before .token-at in
+    let c-enum-told = c .before .before .before .before .before .enum-told in
+    let c-first = c .before .before .before .first in
+    let c-nothing = c .before .before .nothing in
+    let asks : OperandAsks (c-args .tokens .now) (c-args .nodes .now) (c-args .start) (c-args .limit) = omega (arith, c-if1 .left, c-if2 .left, c-if3 .left, c-if4 .left) in read _ refl asks (ended-kept _ _ _ _ _ (sym (c-token-at .ensures) ∙ c-enum-told .given .1) (nothing-from (c-first .ensures) (c-nothing .ensures)))
 
 pub operand-at-spec : {M : Type 1} → statement M
 operand-at-spec =
     tie.close
     (tie.spec
-    operand-from-requires
+    returns
+    returns-2
+    mul-if3
+    returns-3
+    returns-4
+    token-at-requires
+    enum-known-p
+    read-requires
     enum-told
-    cast-clear-nodes
-    clear-nodes-requires
-    enum-told-2
-    clear-nodes-requires-2
+    first-requires
+    nothing-requires
     same-length
     same-length-2
-    returns
+    returns-5
     same-length-3
-    same-length-4
-    returns-2)
+    returns-6)

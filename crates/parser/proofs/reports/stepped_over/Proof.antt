@@ -11,6 +11,9 @@ use borrow.Author.Needs.{needs}
 use Rattle.parser.proofs.reports.stepped_over.Statement.{statement}
 use Rattle.parser.proofs.reports.stepped_over.Tie as tie
 
+cast-at : tie.Need-cast-at
+cast-at c = search needs
+
 token-at-requires : tie.Need-token-at-requires
 token-at-requires c κs = search needs
 
@@ -19,14 +22,14 @@ enum-known-p c = search needs
 
 step-over-requires : tie.Need-step-over-requires
 step-over-requires c κs =
-    let c-pre = c .before .before .before .before .before .before .before .pre in
+    let c-pre = c .before .before .before .before .before .before .before .before .pre in
     let c-token-at = c .before .before .before .before .token-at in
     let c-p = c .before .before .p in
     omega (arith, c-pre, live _ _ _ (sym (c-token-at .ensures) ∙ c-p .given .1))
 
 malformed-requires : tie.Need-malformed-requires
 malformed-requires c κs =
-    let c-pre = c .before .before .before .before .before .before .before .before .pre in
+    let c-pre = c .before .before .before .before .before .before .before .before .before .pre in
     let c-token-at = c .before .before .before .before .before .token-at in
     let c-p = c .before .before .before .p in
     let c-step-over = c .step-over in
@@ -37,7 +40,7 @@ enum-told c = search needs
 
 malformed-requires-2 : tie.Need-malformed-requires-2
 malformed-requires-2 c κs =
-    let c-pre = c .before .before .before .before .before .before .pre in
+    let c-pre = c .before .before .before .before .before .before .before .pre in
     omega (arith, c-pre)
 
 same-length : tie.Need-same-length
@@ -47,10 +50,10 @@ returns : tie.Need-returns
 returns c =
     let c-token-at = c .before .before .before .before .before .before .before .before .token-at in
     let c-p = c .before .before .before .before .before .before .p in
-    let c-args = c .before .before .before .before .before .before .before .before .before .before .before .args in
+    let c-args = c .before .before .before .before .before .before .before .before .before .before .before .before .args in
     let c-step-over = c .before .before .before .step-over in
     let c-malformed = c .before .before .malformed in
-    over _ (sym (c-token-at .ensures) ∙ c-p .given .1) (raised-at (λ l. malformedOperand (c-args .shape) (c-args .problem) (span (c-args .o) l) noSpan) (c-step-over .ensures) (c-malformed .ensures))
+    over _ (sym (c-token-at .ensures) ∙ c-p .given .1) (raised-at (λ l. malformedOperand (c-args .shape) (c-args .problem) (span (c-args .s .start) l) noSpan) (c-step-over .ensures) (c-malformed .ensures))
 
 same-length-2 : tie.Need-same-length-2
 same-length-2 c = search needs
@@ -66,6 +69,7 @@ pub stepped-over-spec : {M : Type 1} → statement M
 stepped-over-spec =
     tie.close
     (tie.spec
+    cast-at
     token-at-requires
     enum-known-p
     step-over-requires

@@ -1,6 +1,5 @@
 -- `records::reports::push_diagnostic` meets its contract.
 -- Assumes nothing.
-use mathlib.Core.Path.{refl}
 use Rattle.records.specs.Diagnostics.{diagnosticRecord}
 use borrow.Author.Needs.{needs}
 use Rattle.records.proofs.reports.push_diagnostic.Statement.{statement}
@@ -15,9 +14,6 @@ slice-aggregate-write c = search needs
 write-requires : tie.Need-write-requires
 write-requires c κs = search needs
 
-add-result : tie.Need-add-result
-add-result c = search needs
-
 same-length : tie.Need-same-length
 same-length c = search needs
 
@@ -25,9 +21,8 @@ returns : tie.Need-returns
 unfolding diagnosticRecord
 returns c =
     let c-write = c .before .before .write in
-    record { next = refl; more = c-write .ensures }
+    c-write .ensures
 
 pub push-diagnostic-spec : {M : Type 1} → statement M
 push-diagnostic-spec =
-    tie.close
-    (tie.spec mul-write slice-aggregate-write write-requires add-result same-length returns)
+    tie.close (tie.spec mul-write slice-aggregate-write write-requires same-length returns)

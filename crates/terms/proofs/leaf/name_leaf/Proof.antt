@@ -22,7 +22,9 @@ plain-requires : tie.Need-plain-requires
 plain-requires c κs = search needs
 
 report-requires : tie.Need-report-requires
-report-requires c κs = search needs
+report-requires c κs =
+    let c-pre = c .before .before .before .before .before .before .before .before .before .pre in
+    omega (arith, c-pre)
 
 same-length : tie.Need-same-length
 same-length c = search needs
@@ -41,7 +43,9 @@ own-requires : tie.Need-own-requires
 own-requires c κs = search needs
 
 read-leaf-requires : tie.Need-read-leaf-requires
-read-leaf-requires c κs = search needs
+read-leaf-requires c κs =
+    let c-pre = c .before .before .before .before .before .before .before .before .before .pre in
+    omega (arith, c-pre)
 
 same-length-2 : tie.Need-same-length-2
 same-length-2 c = search needs

@@ -1,6 +1,7 @@
 -- `terms::leaf::number_leaf` meets its contract.
 -- Assumes nothing.
 use mathlib.Core.Path.{refl, sym, _∙_, ap}
+use native.Mathlib.Omega.{arith}
 use Rattle.names.specs.Numbers.{numberOf}
 use Rattle.terms.proofs.Leaves.{number-value, number-large, number-invalid}
 use borrow.Author.Needs.{needs}
@@ -20,7 +21,9 @@ enum-known-number : tie.Need-enum-known-number
 enum-known-number c = search needs
 
 read-leaf-requires : tie.Need-read-leaf-requires
-read-leaf-requires c κs = search needs
+read-leaf-requires c κs =
+    let c-pre = c .before .before .before .before .before .before .before .before .before .before .pre in
+    omega (arith, c-pre)
 
 enum-told : tie.Need-enum-told
 enum-told c = search needs
@@ -31,14 +34,21 @@ plain-requires c κs = search needs
 push-diagnostic-requires : tie.Need-push-diagnostic-requires
 push-diagnostic-requires c κs = search needs
 
+add-t19 : tie.Need-add-t19
+add-t19 c = search needs
+
 read-leaf-requires-2 : tie.Need-read-leaf-requires-2
-read-leaf-requires-2 c κs = search needs
+read-leaf-requires-2 c κs =
+    let c-pre = c .before .before .before .before .before .before .before .before .before .before .before .before .before .before .before .pre in
+    omega (arith, c-pre)
 
 enum-told-2 : tie.Need-enum-told-2
 enum-told-2 c = search needs
 
 read-leaf-requires-3 : tie.Need-read-leaf-requires-3
-read-leaf-requires-3 c κs = search needs
+read-leaf-requires-3 c κs =
+    let c-pre = c .before .before .before .before .before .before .before .before .before .pre in
+    omega (arith, c-pre)
 
 same-length : tie.Need-same-length
 same-length c = search needs
@@ -60,14 +70,14 @@ same-length-3 c = search needs
 
 returns-2 : tie.Need-returns-2
 returns-2 c =
-    let c-parse-number = c .before .before .before .before .before .before .before .before .before .before .before .parse-number in
-    let c-text-of = c .before .before .before .before .before .before .before .before .before .before .before .before .before .text-of in
-    let c-enum-told = c .before .before .before .before .before .before .before .before .before .enum-told in
-    let c-span-of = c .before .before .before .before .before .before .before .before .before .before .before .before .span-of in
-    let c-plain = c .before .before .before .before .before .before .before .plain in
-    let c-push-diagnostic = c .before .before .before .before .before .before .push-diagnostic in
+    let c-parse-number = c .before .before .before .before .before .before .before .before .before .before .before .before .parse-number in
+    let c-text-of = c .before .before .before .before .before .before .before .before .before .before .before .before .before .before .text-of in
+    let c-enum-told = c .before .before .before .before .before .before .before .before .before .before .enum-told in
+    let c-span-of = c .before .before .before .before .before .before .before .before .before .before .before .before .before .span-of in
+    let c-plain = c .before .before .before .before .before .before .before .before .plain in
+    let c-push-diagnostic = c .before .before .before .before .before .before .before .push-diagnostic in
     let c-read-leaf2 = c .before .before .read-leaf2 in
-    number-large _ _ _ _ _ (sym (c-parse-number .ensures ∙ ap (numberOf _) (c-text-of .ensures)) ∙ c-enum-told .given .1) refl (c-span-of .ensures) (c-plain .ensures) (c-push-diagnostic .ensures) (c-read-leaf2 .ensures)
+    number-large _ _ _ _ _ (sym (c-parse-number .ensures ∙ ap (numberOf _) (c-text-of .ensures)) ∙ c-enum-told .given .1) refl (c-span-of .ensures) (c-plain .ensures) (record { next = refl; more = c-push-diagnostic .ensures }) (c-read-leaf2 .ensures)
 
 same-length-4 : tie.Need-same-length-4
 same-length-4 c = search needs
@@ -93,6 +103,7 @@ number-leaf-spec =
     enum-told
     plain-requires
     push-diagnostic-requires
+    add-t19
     read-leaf-requires-2
     enum-told-2
     read-leaf-requires-3

@@ -17,13 +17,13 @@ read-leaf-requires : tie.Need-read-leaf-requires
 read-leaf-requires c κs =
     let c-step-over = c .before .before .before .step-over in
     let c-pre = c .before .before .before .before .before .before .before .pre in
-    let h = c-step-over .ensures in rw h (c-pre .0 .number, c-pre .0 .long)
+    let h = c-step-over .ensures in rw h (omega (arith, c-pre .0))
 
 number-leaf-requires : tie.Need-number-leaf-requires
 number-leaf-requires c κs =
     let c-step-over = c .before .before .before .before .step-over in
     let c-pre = c .before .before .before .before .before .before .before .before .pre in
-    let h = c-step-over .ensures in rw h (record { number = c-pre .0 .number; long = c-pre .0 .long; room = c-pre .0 .room })
+    let h = c-step-over .ensures in rw h (omega (arith, c-pre .0))
 
 own-requires : tie.Need-own-requires
 own-requires c κs = search needs
@@ -32,13 +32,13 @@ read-leaf-requires-2 : tie.Need-read-leaf-requires-2
 read-leaf-requires-2 c κs =
     let c-step-over = c .before .before .before .before .step-over in
     let c-pre = c .before .before .before .before .before .before .before .before .pre in
-    let h = c-step-over .ensures in rw h (c-pre .0 .number, c-pre .0 .long)
+    let h = c-step-over .ensures in rw h (omega (arith, c-pre .0))
 
 name-leaf-requires : tie.Need-name-leaf-requires
 name-leaf-requires c κs =
     let c-step-over = c .before .before .before .before .step-over in
     let c-pre = c .before .before .before .before .before .before .before .before .pre in
-    let h = c-step-over .ensures in rw h (record { number = c-pre .0 .number; long = c-pre .0 .long; room = c-pre .0 .room })
+    let h = c-step-over .ensures in rw h (omega (arith, c-pre .0))
 
 own-requires-2 : tie.Need-own-requires-2
 own-requires-2 c κs = search needs
@@ -47,7 +47,7 @@ read-leaf-requires-3 : tie.Need-read-leaf-requires-3
 read-leaf-requires-3 c κs =
     let c-step-over = c .before .before .before .before .step-over in
     let c-pre = c .before .before .before .before .before .before .before .before .pre in
-    let h = c-step-over .ensures in rw h (c-pre .0 .number, c-pre .0 .long)
+    let h = c-step-over .ensures in rw h (omega (arith, c-pre .0))
 
 same-length : tie.Need-same-length
 same-length c = search needs

@@ -11,6 +11,9 @@ returns c =
     let c-if1 = c .if1 in
     sym (operator-past _ (c-if1 .taken))
 
+mul-result : tie.Need-mul-result
+mul-result c = search needs
+
 array-read-result : tie.Need-array-read-result
 array-read-result c = search needs
 
@@ -20,4 +23,4 @@ returns-2 c =
     operator-at _ (c-if1 .left)
 
 pub binary-operator-spec : {M : Type 1} → statement M
-binary-operator-spec = tie.close (tie.spec returns array-read-result returns-2)
+binary-operator-spec = tie.close (tie.spec returns mul-result array-read-result returns-2)

@@ -1,37 +1,48 @@
 -- `terms::reading::expression` meets its contract.
 -- Assumes nothing.
+use mathlib.Core.Path.{refl, sym, _∙_}
 use native.Mathlib.Omega.{arith}
-use Rattle.terms.proofs.Kept.{expression-kept}
+use Rattle.terms.specs.Promises.{read, unread}
+use Rattle.terms.proofs.Kept.{expression-kept, room-fits, room-lacks}
 use borrow.Author.Needs.{needs}
 use Rattle.terms.proofs.reading.expression.Statement.{statement}
 use Rattle.terms.proofs.reading.expression.Tie as tie
 
+has-room-requires : tie.Need-has-room-requires
+has-room-requires c κs = search needs
+
+returns : tie.Need-returns
+returns c =
+    let c-has-room = c .before .has-room in
+    let c-args = c .before .before .before .before .before .before .args in
+    let c-if1 = c .if1 in
+    unread refl (room-lacks (c-has-room .ensures (c-args .tokens .now) (c-args .nodes .now) refl refl) (c-if1 .taken)) refl refl
+
 parse-expression-requires : tie.Need-parse-expression-requires
-parse-expression-requires c κs = search needs
-
-cast-clear-nodes : tie.Need-cast-clear-nodes
-cast-clear-nodes c = search needs
-
-cast-clear-nodes-2 : tie.Need-cast-clear-nodes-2
-cast-clear-nodes-2 c = search needs
+parse-expression-requires c κs =
+    let c-has-room = c .before .before .before .has-room in
+    let c-args = c .before .before .before .before .before .before .before .before .args in
+    let c-if1 = c .before .before .if1 in
+    (room-fits (c-has-room .ensures (c-args .tokens .now) (c-args .nodes .now) refl refl) (c-if1 .left))
 
 sub-clear-nodes : tie.Need-sub-clear-nodes
 sub-clear-nodes c =
-    let c-pre = c .before .before .before .before .before .before .before .before .before .before .before .before .before .before .before .before .before .pre in
-    let c-parse-expression = c .before .before .before .before .before .before .before .before .before .before .parse-expression in
-    omega (arith, c-pre, c-parse-expression)
+    let c-has-room = c .before .before .before .before .before .before .before .before .before .before .before .before .has-room in
+    let c-args = c .before .before .before .before .before .before .before .before .before .before .before .before .before .before .before .before .before .args in
+    let c-if1 = c .before .before .before .before .before .before .before .before .before .before .before .if1 in
+    let c-parse-expression = c .before .before .before .before .before .before .before .before .parse-expression in
+    omega (arith, (room-fits (c-has-room .ensures (c-args .tokens .now) (c-args .nodes .now) refl refl) (c-if1 .left)), c-parse-expression)
 
 add-clear-nodes : tie.Need-add-clear-nodes
 add-clear-nodes c =
-    let c-pre = c .before .before .before .before .before .before .before .before .before .before .before .before .before .before .before .before .before .pre in
-    let c-parse-expression = c .before .before .before .before .before .before .before .before .before .before .parse-expression in
-    omega (arith, c-pre, c-parse-expression)
+    let c-has-room = c .before .before .before .before .before .before .before .before .before .before .before .before .before .has-room in
+    let c-args = c .before .before .before .before .before .before .before .before .before .before .before .before .before .before .before .before .before .before .args in
+    let c-if1 = c .before .before .before .before .before .before .before .before .before .before .before .before .if1 in
+    let c-parse-expression = c .before .before .before .before .before .before .before .before .before .parse-expression in
+    omega (arith, (room-fits (c-has-room .ensures (c-args .tokens .now) (c-args .nodes .now) refl refl) (c-if1 .left)), c-parse-expression)
 
 clear-nodes-requires : tie.Need-clear-nodes-requires
-clear-nodes-requires c κs =
-    let c-pre = c .before .before .before .before .before .before .before .before .before .before .before .before .before .before .before .before .before .pre in
-    let c-parse-expression = c .before .before .before .before .before .before .before .before .before .before .parse-expression in
-    omega (arith, c-pre, c-parse-expression)
+clear-nodes-requires c κs = search needs
 
 same-length : tie.Need-same-length
 same-length c = search needs
@@ -39,22 +50,25 @@ same-length c = search needs
 same-length-2 : tie.Need-same-length-2
 same-length-2 c = search needs
 
-returns : tie.Need-returns
-returns c =
-    let c-parse-expression = c .before .before .before .before .before .before .before .before .before .before .before .before .before .parse-expression in
+returns-2 : tie.Need-returns-2
+returns-2 c =
+    let c-has-room = c .before .before .before .before .before .before .before .before .before .before .before .before .before .before .before .before .has-room in
+    let c-args = c .before .before .before .before .before .before .before .before .before .before .before .before .before .before .before .before .before .before .before .before .before .args in
+    let c-if1 = c .before .before .before .before .before .before .before .before .before .before .before .before .before .before .before .if1 in
+    let c-parse-expression = c .before .before .before .before .before .before .before .before .before .before .before .before .parse-expression in
     let c-clear-nodes = c .before .before .clear-nodes in
-    expression-kept _ _ _ _ _ _ _ _ _ _ (c-parse-expression .ensures) (c-clear-nodes .ensures)
+    read _ refl (room-fits (c-has-room .ensures (c-args .tokens .now) (c-args .nodes .now) refl refl) (c-if1 .left)) (expression-kept _ _ _ _ _ _ _ _ _ _ (c-parse-expression .ensures) (omega (arith, (room-fits (c-has-room .ensures (c-args .tokens .now) (c-args .nodes .now) refl refl) (c-if1 .left)), c-parse-expression, c-parse-expression .kept)) (c-clear-nodes .ensures))
 
 pub expression-spec : {M : Type 1} → statement M
 expression-spec =
     tie.close
     (tie.spec
+    has-room-requires
+    returns
     parse-expression-requires
-    cast-clear-nodes
-    cast-clear-nodes-2
     sub-clear-nodes
     add-clear-nodes
     clear-nodes-requires
     same-length
     same-length-2
-    returns)
+    returns-2)

@@ -6,6 +6,9 @@ use borrow.Author.Needs.{needs}
 use Rattle.terms.proofs.reports.too_deep.Statement.{statement}
 use Rattle.terms.proofs.reports.too_deep.Tie as tie
 
+cast-at : tie.Need-cast-at
+cast-at c = search needs
+
 token-at-requires : tie.Need-token-at-requires
 token-at-requires c κs = search needs
 
@@ -57,6 +60,7 @@ pub too-deep-spec : {M : Type 1} → statement M
 too-deep-spec =
     tie.close
     (tie.spec
+    cast-at
     token-at-requires
     enum-known-p
     span-of-requires

@@ -1,16 +1,19 @@
 -- The proof of the cycle of calls {parse_expression, parse_expression_from, parse_group, parse_operated, parse_plus, parse_prefix, parse_unary}.
 -- The measure is four times the tokens left, and up to 3 more for one that calls another at the same place.
+-- The loop's invariant: what the rest of the climb tells, the whole tells (`Climbing`).
 -- Assumes nothing.
 use borrow.Author.Needs.{needs}
 use native.Mathlib.Omega.{arith}
 use mathlib.Core.Path.{sym, _∙_, ap}
+use mathlib.Core.Logic.{inl, inr}
 use Prim.Native.Nat.{ℕ, _+_, _-_, _*_, _<_}
 use Rattle.names.specs.Tokens.{count}
 use Rattle.terms.proofs.Tables.{precedence-small}
 use Rattle.names.specs.Places.{live}
 use Rattle.terms.proofs.Returns.{read-some, absent-quiet, prefix-full, prefix-end, prefix-minus, prefix-tilde, prefix-plus, prefix-group, prefix-leaf, unary-reads, unary-reports, unary-absents, plus-reads, plus-reports, plus-absents, expression-reads, expression-reports, expression-absents}
 use Rattle.terms.proofs.Closings.{group-reports, group-absents, group-tells}
-use Rattle.terms.proofs.Climbs.{climb-ends, climb-lows, climb-reports, climb-absents, climb-reads}
+use Rattle.terms.proofs.Climbs.{climb-ends, climb-lows, operated-reports, operated-absents, operated-reads}
+use Rattle.terms.proofs.Turns.{Climbing, started, is-longer, again, ends}
 use borrow.Fn.Kinds.{In}
 use borrow.Fn.PlainCycle.{Measures, is, falls, and}
 use Rattle.terms.proofs.terms.parse_expression.Reads as parse-expression
@@ -34,19 +37,19 @@ use Rattle.terms.proofs.terms.+parse_expression+parse_expression_from+p
 use Rattle.terms.proofs.terms.parse_unary.Reads as parse-unary
 use Rattle.terms.proofs.terms.parse_unary.Kinds as parse-unary-kinds
 use Rattle.terms.proofs.terms.+parse_expression+parse_expression_from+parse_group+parse_operated+parse_plus+parse_prefix+parse_unary.Lts-parse_unary as parse-unary-lts
-use Rattle.terms.proofs.reports.plain.Reads as plain-reads
-use Rattle.terms.proofs.levels.binary_operator.Reads as binary-operator-reads
-use Rattle.terms.proofs.terms.close_group.Reads as close-group-reads
-use Rattle.terms.proofs.reports.expected_after.Reads as expected-after-reads
-use Rattle.terms.proofs.leaf.parse_leaf.Reads as parse-leaf-reads
-use Rattle.terms.proofs.levels.precedence.Reads as precedence-reads
-use Rattle.terms.proofs.leaf.put_operator.Reads as put-operator-reads
-use Rattle.terms.proofs.reports.report.Reads as report-reads
-use Rattle.records.proofs.span_of.Reads as span-of-reads
-use Rattle.records.proofs.step_over.Reads as step-over-reads
-use Rattle.terms.proofs.reports.too_deep.Reads as too-deep-reads
-use Rattle.terms.proofs.levels.unary_operator.Reads as unary-operator-reads
 use Rattle.names.proofs.token_at.Reads as token-at-reads
+use Rattle.records.proofs.span_of.Reads as span-of-reads
+use Rattle.terms.proofs.leaf.parse_leaf.Reads as parse-leaf-reads
+use Rattle.terms.proofs.leaf.put_operator.Reads as put-operator-reads
+use Rattle.terms.proofs.levels.binary_operator.Reads as binary-operator-reads
+use Rattle.terms.proofs.levels.precedence.Reads as precedence-reads
+use Rattle.terms.proofs.levels.unary_operator.Reads as unary-operator-reads
+use Rattle.terms.proofs.reports.expected_after.Reads as expected-after-reads
+use Rattle.terms.proofs.reports.plain.Reads as plain-reads
+use Rattle.terms.proofs.reports.report.Reads as report-reads
+use Rattle.terms.proofs.reports.too_deep.Reads as too-deep-reads
+use Rattle.terms.proofs.steps.step_over.Reads as step-over-reads
+use Rattle.terms.proofs.terms.close_group.Reads as close-group-reads
 use Rattle.terms.proofs.terms.+parse_expression+parse_expression_from+parse_group+parse_operated+parse_plus+parse_prefix+parse_unary.{
   statement,
 }
@@ -166,7 +169,7 @@ abbrev parse-expression-claims : ℕ → parse-expression-lts.Claims
 parse-expression-claims t = (parse-prefix-below t, parse-prefix.Post, parse-expression-from-below t, parse-expression-from.Post)
 
 abbrev parse-operated-claims : ℕ → parse-operated-lts.Claims
-parse-operated-claims t = (step-over-reads.Asked, step-over-reads.Learnt, parse-prefix-below t, parse-prefix.Post, expected-after-reads.Asked, expected-after-reads.Learnt, report-reads.Asked, report-reads.Learnt, precedence-reads.Asked, precedence-reads.Learnt, parse-expression-from-below t, parse-expression-from.Post, binary-operator-reads.Asked, binary-operator-reads.Learnt, put-operator-reads.Asked, put-operator-reads.Learnt)
+parse-operated-claims t = (step-over-reads.Asked, step-over-reads.Learnt, parse-prefix-below t, parse-prefix.Post, precedence-reads.Asked, precedence-reads.Learnt, parse-expression-from-below t, parse-expression-from.Post, binary-operator-reads.Asked, binary-operator-reads.Learnt, put-operator-reads.Asked, put-operator-reads.Learnt, expected-after-reads.Asked, expected-after-reads.Learnt, report-reads.Asked, report-reads.Learnt)
 
 abbrev parse-group-claims : ℕ → parse-group-lts.Claims
 parse-group-claims t = (parse-expression-below t, parse-expression.Post, close-group-reads.Asked, close-group-reads.Learnt, expected-after-reads.Asked, expected-after-reads.Learnt, report-reads.Asked, report-reads.Learnt)
@@ -212,7 +215,7 @@ parse-expression-returns t c =
     let c-parse-prefix = c .before .before .before .before .before .before .before .before .before .before .before .before .before .before .before .before .before .parse-prefix in
     let c-w = c .before .before .before .before .before .before .before .before .before .before .w in
     let c-parse-expression-from = c .before .before .before .before .before .before .parse-expression-from in
-    expression-reads _ _ _ _ _ _ _ _ _ (omega (arith, c-pre)) (c-parse-prefix .ensures) (c-pre .1 .within) (c-pre .1 .few) (c-w .given .1) (c-parse-expression-from .ensures)
+    expression-reads _ _ _ _ _ _ _ _ _ (omega (arith, c-pre)) (c-parse-prefix .ensures) (c-pre .1 .room .within) (c-pre .1 .room .few) (c-w .given .1) (c-parse-expression-from .ensures)
 
 parse-expression-same-length-3 : (t : ℕ) → parse-expression-lts.Need-same-length-3 (parse-expression-claims t) (parse-expression-at t) parse-expression.Post
 parse-expression-same-length-3 t c = search needs
@@ -225,7 +228,7 @@ parse-expression-returns-2 t c =
     let c-pre = c .before .before .before .before .before .before .before .before .before .before .before .before .before .before .pre in
     let c-parse-prefix = c .before .before .before .before .before .before .before .parse-prefix in
     let c-enum-told = c .enum-told in
-    expression-reports _ _ _ _ _ _ _ _ _ (omega (arith, c-pre)) (c-parse-prefix .ensures) (c-pre .1 .within) (c-enum-told .given .1)
+    expression-reports _ _ _ _ _ _ _ _ _ (omega (arith, c-pre)) (c-parse-prefix .ensures) (c-pre .1 .room .within) (c-enum-told .given .1)
 
 parse-expression-same-length-5 : (t : ℕ) → parse-expression-lts.Need-same-length-5 (parse-expression-claims t) (parse-expression-at t) parse-expression.Post
 parse-expression-same-length-5 t c = search needs
@@ -238,58 +241,178 @@ parse-expression-returns-3 t c =
     let c-pre = c .before .before .before .before .before .before .before .before .before .before .before .before .before .before .pre in
     let c-parse-prefix = c .before .before .before .before .before .before .before .parse-prefix in
     let c-enum-told2 = c .enum-told2 in
-    expression-absents _ _ _ _ _ _ _ _ _ (omega (arith, c-pre)) (c-parse-prefix .ensures) (c-pre .1 .within) (c-enum-told2 .given .1)
+    expression-absents _ _ _ _ _ _ _ _ _ (omega (arith, c-pre)) (c-parse-prefix .ensures) (c-pre .1 .room .within) (c-enum-told2 .given .1)
+
+abbrev parse-expression-from-Inv-loop : parse-expression-from-lts.InvT-loop
+parse-expression-from-Inv-loop line tokens nodes₀ diagnostics₀ minimum room e₀ span₀ nodes diagnostics e span = Climbing line tokens nodes₀ diagnostics₀ nodes diagnostics e₀ span₀ minimum room e span
+
+abbrev parse-expression-from-μ-loop : parse-expression-from-lts.MeasureT-loop
+parse-expression-from-μ-loop line tokens nodes₀ diagnostics₀ minimum room e₀ span₀ nodes diagnostics e span = count tokens - e .at
+
+parse-expression-from-loop-holds : (t : ℕ) → parse-expression-from-lts.Need-loop-holds (parse-expression-from-claims t) (parse-expression-from-at t)
+    parse-expression-from.Post
+    parse-expression-from-Inv-loop
+    parse-expression-from-μ-loop
+parse-expression-from-loop-holds t c =
+    let c-pre = c .before .before .before .before .pre in
+    started (c-pre .1)
+
+parse-expression-from-cast-at : (t : ℕ) → parse-expression-from-lts.Need-cast-at (parse-expression-from-claims t) (parse-expression-from-at t)
+    parse-expression-from.Post
+    parse-expression-from-Inv-loop
+    parse-expression-from-μ-loop
+parse-expression-from-cast-at t c =
+    let c-loop = c .before .loop in
+    omega (arith, (c-loop .inv))
 
 parse-expression-from-token-at-requires :
-    (t : ℕ) → parse-expression-from-lts.Need-token-at-requires (parse-expression-from-claims t) (parse-expression-from-at t) parse-expression-from.Post
+    (t : ℕ) → parse-expression-from-lts.Need-token-at-requires (parse-expression-from-claims t) (parse-expression-from-at t)
+    parse-expression-from.Post
+    parse-expression-from-Inv-loop
+    parse-expression-from-μ-loop
 parse-expression-from-token-at-requires t c κs = search needs
 
-parse-expression-from-enum-told : (t : ℕ) → parse-expression-from-lts.Need-enum-told (parse-expression-from-claims t) (parse-expression-from-at t) parse-expression-from.Post
-parse-expression-from-enum-told t c = search needs
-
-parse-expression-from-enum-known-p : (t : ℕ) → parse-expression-from-lts.Need-enum-known-p (parse-expression-from-claims t) (parse-expression-from-at t) parse-expression-from.Post
+parse-expression-from-enum-known-p : (t : ℕ) → parse-expression-from-lts.Need-enum-known-p (parse-expression-from-claims t) (parse-expression-from-at t)
+    parse-expression-from.Post
+    parse-expression-from-Inv-loop
+    parse-expression-from-μ-loop
 parse-expression-from-enum-known-p t c = search needs
 
+parse-expression-from-enum-told : (t : ℕ) → parse-expression-from-lts.Need-enum-told (parse-expression-from-claims t) (parse-expression-from-at t)
+    parse-expression-from.Post
+    parse-expression-from-Inv-loop
+    parse-expression-from-μ-loop
+parse-expression-from-enum-told t c = search needs
+
 parse-expression-from-precedence-requires :
-    (t : ℕ) → parse-expression-from-lts.Need-precedence-requires (parse-expression-from-claims t) (parse-expression-from-at t) parse-expression-from.Post
+    (t : ℕ) → parse-expression-from-lts.Need-precedence-requires (parse-expression-from-claims t) (parse-expression-from-at t)
+    parse-expression-from.Post
+    parse-expression-from-Inv-loop
+    parse-expression-from-μ-loop
 parse-expression-from-precedence-requires t c κs = search needs
 
-parse-expression-from-returns : (t : ℕ) → parse-expression-from-lts.Need-returns (parse-expression-from-claims t) (parse-expression-from-at t) parse-expression-from.Post
+parse-expression-from-parse-operated-requires :
+    (t : ℕ) → parse-expression-from-lts.Need-parse-operated-requires (parse-expression-from-claims t) (parse-expression-from-at t)
+    parse-expression-from.Post
+    parse-expression-from-Inv-loop
+    parse-expression-from-μ-loop
+parse-expression-from-parse-operated-requires t c κs =
+    let c-pre = c .before .before .before .before .before .before .before .before .before .before .before .before .before .before .pre in
+    let c-loop = c .before .before .before .before .before .before .before .before .before .loop in
+    let c-token-at = c .before .before .before .before .before .before .before .token-at in
+    let c-p = c .before .before .before .before .before .p in
+    (omega (arith, c-pre, (c-loop .inv)), ((c-loop .inv) .free, (sym (c-token-at .ensures) ∙ c-p .given .1)))
+
+parse-expression-from-enum-known-w : (t : ℕ) → parse-expression-from-lts.Need-enum-known-w (parse-expression-from-claims t) (parse-expression-from-at t)
+    parse-expression-from.Post
+    parse-expression-from-Inv-loop
+    parse-expression-from-μ-loop
+parse-expression-from-enum-known-w t c = search needs
+
+parse-expression-from-loop-less : (t : ℕ) → parse-expression-from-lts.Need-loop-less (parse-expression-from-claims t) (parse-expression-from-at t)
+    parse-expression-from.Post
+    parse-expression-from-Inv-loop
+    parse-expression-from-μ-loop
+parse-expression-from-loop-less t c =
+    let c-parse-operated = c .before .before .before .before .before .before .before .before .parse-operated in
+    let c-w = c .before .w in
+    omega (arith, is-longer (c-parse-operated .ensures) (c-w .given .1))
+
+parse-expression-from-loop-again : (t : ℕ) → parse-expression-from-lts.Need-loop-again (parse-expression-from-claims t) (parse-expression-from-at t)
+    parse-expression-from.Post
+    parse-expression-from-Inv-loop
+    parse-expression-from-μ-loop
+parse-expression-from-loop-again t c =
+    let c-loop = c .before .before .before .before .before .before .before .before .before .before .before .before .before .before .before .before .before .before .loop in
+    let c-precedence = c .before .before .before .before .before .before .before .before .before .before .before .before .precedence in
+    let c-if1 = c .before .before .before .before .before .before .before .before .before .before .before .if1 in
+    let c-parse-operated = c .before .before .before .before .before .before .before .before .parse-operated in
+    let c-w = c .before .w in
+    again (c-loop .inv) (omega (arith, c-precedence .ensures, c-if1 .left)) (c-parse-operated .ensures) (c-w .given .1) (omega (arith, c-parse-operated .kept)) (omega (arith, c-parse-operated .kept))
+
+parse-expression-from-same-length : (t : ℕ) → parse-expression-from-lts.Need-same-length (parse-expression-from-claims t) (parse-expression-from-at t)
+    parse-expression-from.Post
+    parse-expression-from-Inv-loop
+    parse-expression-from-μ-loop
+parse-expression-from-same-length t c =
+    let c-loop = c .before .before .before .before .loop in
+    omega (arith, (c-loop .inv))
+
+parse-expression-from-same-length-2 : (t : ℕ) → parse-expression-from-lts.Need-same-length-2 (parse-expression-from-claims t) (parse-expression-from-at t)
+    parse-expression-from.Post
+    parse-expression-from-Inv-loop
+    parse-expression-from-μ-loop
+parse-expression-from-same-length-2 t c =
+    let c-loop = c .before .before .before .before .loop in
+    omega (arith, (c-loop .inv))
+
+parse-expression-from-returns : (t : ℕ) → parse-expression-from-lts.Need-returns (parse-expression-from-claims t) (parse-expression-from-at t)
+    parse-expression-from.Post
+    parse-expression-from-Inv-loop
+    parse-expression-from-μ-loop
 parse-expression-from-returns t c =
+    let c-loop = c .before .before .before .before .loop in
+    let c-token-at = c .before .before .token-at in
+    let c-enum-told = c .enum-told in
+    (c-loop .inv) .whole _ _ _ (climb-ends _ _ _ _ _ _ _ _ (sym (c-token-at .ensures) ∙ c-enum-told .given .1) ((c-loop .inv) .free .room .stand) ((c-loop .inv) .free .room .within))
+
+parse-expression-from-same-length-3 : (t : ℕ) → parse-expression-from-lts.Need-same-length-3 (parse-expression-from-claims t) (parse-expression-from-at t)
+    parse-expression-from.Post
+    parse-expression-from-Inv-loop
+    parse-expression-from-μ-loop
+parse-expression-from-same-length-3 t c =
+    let c-loop = c .before .before .before .before .before .before .before .loop in
+    omega (arith, (c-loop .inv))
+
+parse-expression-from-same-length-4 : (t : ℕ) → parse-expression-from-lts.Need-same-length-4 (parse-expression-from-claims t) (parse-expression-from-at t)
+    parse-expression-from.Post
+    parse-expression-from-Inv-loop
+    parse-expression-from-μ-loop
+parse-expression-from-same-length-4 t c =
+    let c-loop = c .before .before .before .before .before .before .before .loop in
+    omega (arith, (c-loop .inv))
+
+parse-expression-from-returns-2 : (t : ℕ) → parse-expression-from-lts.Need-returns-2 (parse-expression-from-claims t) (parse-expression-from-at t)
+    parse-expression-from.Post
+    parse-expression-from-Inv-loop
+    parse-expression-from-μ-loop
+parse-expression-from-returns-2 t c =
+    let c-loop = c .before .before .before .before .before .before .before .loop in
     let c-token-at = c .before .before .before .before .before .token-at in
     let c-p = c .before .before .before .p in
     let c-precedence = c .before .precedence in
     let c-if1 = c .if1 in
-    let c-pre = c .before .before .before .before .before .before .before .before .before .before .pre in
-    climb-lows _ _ _ _ _ _ _ _ _ (sym (c-token-at .ensures) ∙ c-p .given .1) (omega (arith, c-precedence .ensures, c-if1 .taken)) (c-pre .1 .some) (c-pre .1 .within)
+    (c-loop .inv) .whole _ _ _ (climb-lows _ _ _ _ _ _ _ _ _ (sym (c-token-at .ensures) ∙ c-p .given .1) (omega (arith, c-precedence .ensures, c-if1 .taken)) ((c-loop .inv) .free .room .stand) ((c-loop .inv) .free .room .within))
 
-parse-expression-from-parse-operated-requires :
-    (t : ℕ) → parse-expression-from-lts.Need-parse-operated-requires (parse-expression-from-claims t) (parse-expression-from-at t) parse-expression-from.Post
-parse-expression-from-parse-operated-requires t c κs =
-    let c-pre = c .before .before .before .before .before .before .before .before .before .before .before .before .pre in
-    let c-token-at = c .before .before .before .before .before .before .before .token-at in
-    let c-p = c .before .before .before .before .before .p in
-    let c-precedence = c .before .before .before .precedence in
-    let c-if1 = c .before .before .if1 in
-    (omega (arith, c-pre), (c-pre .1, record { there = (sym (c-token-at .ensures) ∙ c-p .given .1); level = omega (arith, c-precedence .ensures, c-if1 .left) }))
+parse-expression-from-same-length-5 : (t : ℕ) → parse-expression-from-lts.Need-same-length-5 (parse-expression-from-claims t) (parse-expression-from-at t)
+    parse-expression-from.Post
+    parse-expression-from-Inv-loop
+    parse-expression-from-μ-loop
+parse-expression-from-same-length-5 t c =
+    let c-loop = c .before .before .before .before .before .before .before .before .before .before .before .before .before .before .before .before .loop in
+    let c-parse-operated = c .before .before .before .before .before .before .parse-operated in
+    omega (arith, (c-loop .inv), c-parse-operated .kept)
 
-parse-expression-from-returns-2 : (t : ℕ) → parse-expression-from-lts.Need-returns-2 (parse-expression-from-claims t) (parse-expression-from-at t) parse-expression-from.Post
-parse-expression-from-returns-2 t c =
-    let c-token-at = c .before .before .token-at in
-    let c-enum-told = c .enum-told in
-    let c-pre = c .before .before .before .before .before .before .before .pre in
-    climb-ends _ _ _ _ _ _ _ _ (sym (c-token-at .ensures) ∙ c-enum-told .given .1) (c-pre .1 .some) (c-pre .1 .within)
+parse-expression-from-same-length-6 : (t : ℕ) → parse-expression-from-lts.Need-same-length-6 (parse-expression-from-claims t) (parse-expression-from-at t)
+    parse-expression-from.Post
+    parse-expression-from-Inv-loop
+    parse-expression-from-μ-loop
+parse-expression-from-same-length-6 t c =
+    let c-loop = c .before .before .before .before .before .before .before .before .before .before .before .before .before .before .before .before .loop in
+    let c-parse-operated = c .before .before .before .before .before .before .parse-operated in
+    omega (arith, (c-loop .inv), c-parse-operated .kept)
 
-parse-expression-from-same-length : (t : ℕ) → parse-expression-from-lts.Need-same-length (parse-expression-from-claims t) (parse-expression-from-at t) parse-expression-from.Post
-parse-expression-from-same-length t c = search needs
-
-parse-expression-from-same-length-2 : (t : ℕ) → parse-expression-from-lts.Need-same-length-2 (parse-expression-from-claims t) (parse-expression-from-at t) parse-expression-from.Post
-parse-expression-from-same-length-2 t c = search needs
-
-parse-expression-from-returns-3 : (t : ℕ) → parse-expression-from-lts.Need-returns-3 (parse-expression-from-claims t) (parse-expression-from-at t) parse-expression-from.Post
+parse-expression-from-returns-3 : (t : ℕ) → parse-expression-from-lts.Need-returns-3 (parse-expression-from-claims t) (parse-expression-from-at t)
+    parse-expression-from.Post
+    parse-expression-from-Inv-loop
+    parse-expression-from-μ-loop
 parse-expression-from-returns-3 t c =
-    let c-parse-operated = c .before .before .before .before .parse-operated in
-    c-parse-operated .ensures
+    let c-loop = c .before .before .before .before .before .before .before .before .before .before .before .before .before .before .before .before .loop in
+    let c-precedence = c .before .before .before .before .before .before .before .before .before .before .precedence in
+    let c-if1 = c .before .before .before .before .before .before .before .before .before .if1 in
+    let c-parse-operated = c .before .before .before .before .before .before .parse-operated in
+    let c-match2 = c .match2 in
+    ends (c-loop .inv) (omega (arith, c-precedence .ensures, c-if1 .left)) (c-parse-operated .ensures) λ x p. elim (rw p at (c-match2 .keys2)) [ inl z ↦ omega arith | inr z ↦ omega arith ]
 
 parse-group-parse-expression-requires : (t : ℕ) → parse-group-lts.Need-parse-expression-requires (parse-group-claims t) (parse-group-at t) parse-group.Post
 parse-group-parse-expression-requires t c κs = search needs
@@ -331,7 +454,7 @@ parse-group-returns t c =
     let c-parse-expression = c .before .before .before .before .before .before .before .before .before .before .before .before .before .before .parse-expression in
     let c-enum-told = c .before .before .before .before .before .before .before .enum-told in
     let c-close-group = c .before .before .before .before .close-group in
-    group-tells _ _ _ _ _ _ _ _ _ _ (omega (arith, c-pre)) (omega (arith, c-pre, c-parse-expression)) (omega (arith, c-pre, c-parse-expression)) (c-parse-expression .ensures) (c-enum-told .given .1) (c-close-group .ensures)
+    group-tells _ _ _ _ _ _ _ _ _ _ (omega (arith, c-pre)) (omega (arith, c-pre, c-parse-expression)) (c-parse-expression .ensures) (c-enum-told .given .1) (c-close-group .ensures)
 
 parse-group-same-length-3 : (t : ℕ) → parse-group-lts.Need-same-length-3 (parse-group-claims t) (parse-group-at t) parse-group.Post
 parse-group-same-length-3 t c = search needs
@@ -344,7 +467,7 @@ parse-group-returns-2 t c =
     let c-pre = c .before .before .before .before .before .before .before .before .before .before .before .before .before .before .pre in
     let c-parse-expression = c .before .before .before .before .before .before .before .parse-expression in
     let c-enum-told2 = c .enum-told2 in
-    group-reports _ _ _ _ _ _ _ _ _ _ (omega (arith, c-pre)) (omega (arith, c-pre, c-parse-expression)) (omega (arith, c-pre, c-parse-expression)) (c-parse-expression .ensures) (c-enum-told2 .given .1)
+    group-reports _ _ _ _ _ _ _ _ _ _ (omega (arith, c-pre)) (omega (arith, c-pre, c-parse-expression)) (c-parse-expression .ensures) (c-enum-told2 .given .1)
 
 parse-group-same-length-5 : (t : ℕ) → parse-group-lts.Need-same-length-5 (parse-group-claims t) (parse-group-at t) parse-group.Post
 parse-group-same-length-5 t c = search needs
@@ -359,7 +482,7 @@ parse-group-returns-3 t c =
     let c-enum-told3 = c .before .before .before .before .before .enum-told3 in
     let c-expected-after = c .before .before .before .expected-after in
     let c-report = c .before .before .report in
-    group-absents _ _ _ _ _ _ _ _ _ _ (omega (arith, c-pre)) (omega (arith, c-pre, c-parse-expression)) (omega (arith, c-pre, c-parse-expression)) (c-parse-expression .ensures) (c-enum-told3 .given .1) (c-expected-after .ensures) (c-report .ensures)
+    group-absents _ _ _ _ _ _ _ _ _ _ (omega (arith, c-pre)) (omega (arith, c-pre, c-parse-expression)) (c-parse-expression .ensures) (c-enum-told3 .given .1) (c-expected-after .ensures) (c-report .ensures)
 
 parse-operated-step-over-requires : (t : ℕ) → parse-operated-lts.Need-step-over-requires (parse-operated-claims t) (parse-operated-at t) parse-operated.Post
 parse-operated-step-over-requires t c κs =
@@ -370,24 +493,7 @@ parse-operated-parse-prefix-requires : (t : ℕ) → parse-operated-lts.Need-par
 parse-operated-parse-prefix-requires t c κs =
     let c-step-over = c .step-over in
     let c-pre = c .before .before .before .before .before .before .before .pre in
-    let h = c-step-over .ensures in rw h (omega (arith, live _ _ _ (c-pre .1 .1 .there), c-pre .0, c-pre .1 .0))
-
-parse-operated-enum-told : (t : ℕ) → parse-operated-lts.Need-enum-told (parse-operated-claims t) (parse-operated-at t) parse-operated.Post
-parse-operated-enum-told t c = search needs
-
-parse-operated-enum-told-2 : (t : ℕ) → parse-operated-lts.Need-enum-told-2 (parse-operated-claims t) (parse-operated-at t) parse-operated.Post
-parse-operated-enum-told-2 t c = search needs
-
-parse-operated-expected-after-requires : (t : ℕ) → parse-operated-lts.Need-expected-after-requires (parse-operated-claims t) (parse-operated-at t) parse-operated.Post
-parse-operated-expected-after-requires t c κs = search needs
-
-parse-operated-report-requires : (t : ℕ) → parse-operated-lts.Need-report-requires (parse-operated-claims t) (parse-operated-at t) parse-operated.Post
-parse-operated-report-requires t c κs =
-    let c-step-over = c .before .before .before .before .before .before .before .before .before .before .step-over in
-    let c-pre = c .before .before .before .before .before .before .before .before .before .before .before .before .before .before .before .before .before .pre in
-    let c-parse-prefix = c .before .before .before .before .before .before .before .before .before .parse-prefix in
-    let c-enum-told2 = c .before .before .enum-told2 in
-    omega (arith, ap (λ z. z .at) (c-step-over .ensures), ap (λ z. z .nodes) (c-step-over .ensures), ap (λ z. z .diagnostics) (c-step-over .ensures), live _ _ _ (c-pre .1 .1 .there), c-pre .0, c-pre .1 .0, c-parse-prefix, absent-quiet _ _ _ _ _ _ _ _ _ (c-parse-prefix .ensures) (c-enum-told2 .given .1))
+    let h = c-step-over .ensures in rw h (omega (arith, live _ _ _ (c-pre .1 .1), c-pre .0, c-pre .1 .0))
 
 parse-operated-enum-known-w : (t : ℕ) → parse-operated-lts.Need-enum-known-w (parse-operated-claims t) (parse-operated-at t) parse-operated.Post
 parse-operated-enum-known-w t c = search needs
@@ -407,7 +513,7 @@ parse-operated-parse-expression-from-requires t c κs =
     let c-pre = c .before .before .before .before .before .before .before .before .before .before .before .before .before .before .before .before .before .before .before .pre in
     let c-parse-prefix = c .before .before .before .before .before .before .before .before .before .before .before .parse-prefix in
     let c-w = c .before .before .before .before .w in
-    omega (arith, ap (λ z. z .at) (c-step-over .ensures), ap (λ z. z .nodes) (c-step-over .ensures), ap (λ z. z .diagnostics) (c-step-over .ensures), live _ _ _ (c-pre .1 .1 .there), c-pre .0, c-pre .1 .0, c-parse-prefix, read-some (c-parse-prefix .ensures .told) (c-w .given .1))
+    omega (arith, ap (λ z. z .at) (c-step-over .ensures), ap (λ z. z .nodes) (c-step-over .ensures), ap (λ z. z .diagnostics) (c-step-over .ensures), live _ _ _ (c-pre .1 .1), c-pre .0, c-pre .1 .0, c-parse-prefix, read-some (c-parse-prefix .ensures .told) (c-w .given .1))
 
 parse-operated-binary-operator-requires :
     (t : ℕ) → parse-operated-lts.Need-binary-operator-requires (parse-operated-claims t) (parse-operated-at t) parse-operated.Post
@@ -429,31 +535,50 @@ parse-operated-put-operator-requires t c κs =
     let c-pre = c .before .before .before .before .before .before .before .before .before .before .before .before .before .before .before .before .before .before .before .before .before .before .before .before .before .before .before .before .before .before .pre in
     let c-parse-prefix = c .before .before .before .before .before .before .before .before .before .before .before .before .before .before .before .before .before .before .before .before .before .before .parse-prefix in
     let c-parse-expression-from = c .before .before .before .before .before .before .before .before .before .before .parse-expression-from in
-    omega (arith, ap (λ z. z .at) (c-step-over .ensures), ap (λ z. z .nodes) (c-step-over .ensures), ap (λ z. z .diagnostics) (c-step-over .ensures), live _ _ _ (c-pre .1 .1 .there), c-pre .0, c-pre .1 .0, c-parse-prefix, c-parse-expression-from)
+    omega (arith, ap (λ z. z .at) (c-step-over .ensures), ap (λ z. z .nodes) (c-step-over .ensures), ap (λ z. z .diagnostics) (c-step-over .ensures), live _ _ _ (c-pre .1 .1), c-pre .0, c-pre .1 .0, c-parse-prefix, c-parse-expression-from)
 
-parse-operated-parse-expression-from-requires-2 :
-    (t : ℕ) → parse-operated-lts.Need-parse-expression-from-requires-2 (parse-operated-claims t) (parse-operated-at t) parse-operated.Post
-parse-operated-parse-expression-from-requires-2 t c κs =
-    let c-step-over = c .before .before .before .before .before .before .before .before .before .before .before .before .before .before .before .before .before .before .before .before .before .before .before .before .before .before .before .before .step-over in
-    let c-pre = c .before .before .before .before .before .before .before .before .before .before .before .before .before .before .before .before .before .before .before .before .before .before .before .before .before .before .before .before .before .before .before .before .before .before .before .pre in
-    let c-parse-prefix = c .before .before .before .before .before .before .before .before .before .before .before .before .before .before .before .before .before .before .before .before .before .before .before .before .before .before .before .parse-prefix in
-    let c-parse-expression-from = c .before .before .before .before .before .before .before .before .before .before .before .before .before .before .before .parse-expression-from in
-    let c-put-operator = c .before .before .before .before .put-operator in
-    omega (arith, ap (λ z. z .at) (c-step-over .ensures), ap (λ z. z .nodes) (c-step-over .ensures), ap (λ z. z .diagnostics) (c-step-over .ensures), live _ _ _ (c-pre .1 .1 .there), c-pre .0, c-pre .1 .0, c-parse-prefix, c-parse-expression-from, c-put-operator .ensures .put, c-put-operator)
+parse-operated-enum-told : (t : ℕ) → parse-operated-lts.Need-enum-told (parse-operated-claims t) (parse-operated-at t) parse-operated.Post
+parse-operated-enum-told t c = search needs
+
+parse-operated-enum-told-2 : (t : ℕ) → parse-operated-lts.Need-enum-told-2 (parse-operated-claims t) (parse-operated-at t) parse-operated.Post
+parse-operated-enum-told-2 t c = search needs
+
+parse-operated-expected-after-requires : (t : ℕ) → parse-operated-lts.Need-expected-after-requires (parse-operated-claims t) (parse-operated-at t) parse-operated.Post
+parse-operated-expected-after-requires t c κs = search needs
+
+parse-operated-report-requires : (t : ℕ) → parse-operated-lts.Need-report-requires (parse-operated-claims t) (parse-operated-at t) parse-operated.Post
+parse-operated-report-requires t c κs =
+    let c-step-over = c .before .before .before .before .before .before .before .before .before .before .step-over in
+    let c-pre = c .before .before .before .before .before .before .before .before .before .before .before .before .before .before .before .before .before .pre in
+    let c-parse-prefix = c .before .before .before .before .before .before .before .before .before .parse-prefix in
+    let c-enum-told2 = c .before .before .enum-told2 in
+    omega (arith, ap (λ z. z .at) (c-step-over .ensures), ap (λ z. z .nodes) (c-step-over .ensures), ap (λ z. z .diagnostics) (c-step-over .ensures), live _ _ _ (c-pre .1 .1), c-pre .0, c-pre .1 .0, c-parse-prefix, absent-quiet _ _ _ _ _ _ _ _ _ (c-parse-prefix .ensures) (c-enum-told2 .given .1))
 
 parse-operated-same-length : (t : ℕ) → parse-operated-lts.Need-same-length (parse-operated-claims t) (parse-operated-at t) parse-operated.Post
-parse-operated-same-length t c = search needs
+parse-operated-same-length t c =
+    let c-parse-prefix = c .before .before .before .before .before .before .before .before .before .before .before .before .before .before .before .before .before .before .before .before .before .before .before .before .before .parse-prefix in
+    let c-parse-expression-from = c .before .before .before .before .before .before .before .before .before .before .before .before .before .parse-expression-from in
+    let c-put-operator = c .before .before .put-operator in
+    omega (arith, c-parse-prefix .kept, c-parse-expression-from .kept, c-put-operator .kept)
 
 parse-operated-same-length-2 : (t : ℕ) → parse-operated-lts.Need-same-length-2 (parse-operated-claims t) (parse-operated-at t) parse-operated.Post
-parse-operated-same-length-2 t c = search needs
+parse-operated-same-length-2 t c =
+    let c-parse-prefix = c .before .before .before .before .before .before .before .before .before .before .before .before .before .before .before .before .before .before .before .before .before .before .before .before .before .parse-prefix in
+    let c-parse-expression-from = c .before .before .before .before .before .before .before .before .before .before .before .before .before .parse-expression-from in
+    let c-put-operator = c .before .before .put-operator in
+    omega (arith, c-parse-prefix .kept, c-parse-expression-from .kept, c-put-operator .kept)
 
 parse-operated-returns : (t : ℕ) → parse-operated-lts.Need-returns (parse-operated-claims t) (parse-operated-at t) parse-operated.Post
 parse-operated-returns t c =
-    let c-pre = c .before .before .before .before .before .before .before .before .before .before .before .before .before .before .before .pre in
-    let c-step-over = c .before .before .before .before .before .before .before .before .step-over in
-    let c-parse-prefix = c .before .before .before .before .before .before .before .parse-prefix in
-    let c-enum-told = c .enum-told in
-    climb-reports _ _ _ _ _ _ _ _ _ _ _ _ _ (c-pre .1 .1 .there) (c-pre .1 .1 .level) (c-step-over .ensures) (c-parse-prefix .ensures) (omega (arith, c-pre .1 .0)) (c-pre .1 .0 .some) (c-enum-told .given .1)
+    let c-pre = c .before .before .before .before .before .before .before .before .before .before .before .before .before .before .before .before .before .before .before .before .before .before .before .before .before .before .before .before .before .before .before .before .before .pre in
+    let c-step-over = c .before .before .before .before .before .before .before .before .before .before .before .before .before .before .before .before .before .before .before .before .before .before .before .before .before .before .step-over in
+    let c-parse-prefix = c .before .before .before .before .before .before .before .before .before .before .before .before .before .before .before .before .before .before .before .before .before .before .before .before .before .parse-prefix in
+    let c-w = c .before .before .before .before .before .before .before .before .before .before .before .before .before .before .before .before .before .before .w in
+    let c-precedence = c .before .before .before .before .before .before .before .before .before .before .before .before .before .before .before .before .precedence in
+    let c-binary-operator = c .before .before .before .before .before .before .binary-operator in
+    let c-parse-expression-from = c .before .before .before .before .before .before .before .before .before .before .before .before .before .parse-expression-from in
+    let c-put-operator = c .before .before .put-operator in
+    operated-reads _ _ _ _ _ _ _ _ _ _ _ _ (c-pre .1 .1) (c-step-over .ensures) (c-parse-prefix .ensures) (omega (arith, c-pre .1 .0)) (c-pre .1 .0 .room .stand) (c-w .given .1) (c-precedence .ensures) (c-binary-operator .ensures) (c-parse-expression-from .ensures) (c-put-operator .ensures)
 
 parse-operated-same-length-3 : (t : ℕ) → parse-operated-lts.Need-same-length-3 (parse-operated-claims t) (parse-operated-at t) parse-operated.Post
 parse-operated-same-length-3 t c = search needs
@@ -463,42 +588,27 @@ parse-operated-same-length-4 t c = search needs
 
 parse-operated-returns-2 : (t : ℕ) → parse-operated-lts.Need-returns-2 (parse-operated-claims t) (parse-operated-at t) parse-operated.Post
 parse-operated-returns-2 t c =
-    let c-pre = c .before .before .before .before .before .before .before .before .before .before .before .before .before .before .before .before .before .before .before .before .before .pre in
-    let c-step-over = c .before .before .before .before .before .before .before .before .before .before .before .before .before .before .step-over in
-    let c-parse-prefix = c .before .before .before .before .before .before .before .before .before .before .before .before .before .parse-prefix in
-    let c-enum-told2 = c .before .before .before .before .before .before .enum-told2 in
-    let c-expected-after = c .before .before .before .before .expected-after in
-    let c-report = c .before .before .before .report in
-    climb-absents _ _ _ _ _ _ _ _ _ _ _ _ _ (c-pre .1 .1 .there) (c-pre .1 .1 .level) (c-step-over .ensures) (c-parse-prefix .ensures) (omega (arith, c-pre .1 .0)) (c-pre .1 .0 .some) (c-enum-told2 .given .1) (c-expected-after .ensures) (c-report .ensures)
+    let c-pre = c .before .before .before .before .before .before .before .before .before .before .before .before .before .before .before .pre in
+    let c-step-over = c .before .before .before .before .before .before .before .before .step-over in
+    let c-parse-prefix = c .before .before .before .before .before .before .before .parse-prefix in
+    let c-enum-told = c .enum-told in
+    operated-reports _ _ _ _ _ _ _ _ _ _ _ _ (c-pre .1 .1) (c-step-over .ensures) (c-parse-prefix .ensures) (omega (arith, c-pre .1 .0)) (c-pre .1 .0 .room .stand) (c-enum-told .given .1)
 
 parse-operated-same-length-5 : (t : ℕ) → parse-operated-lts.Need-same-length-5 (parse-operated-claims t) (parse-operated-at t) parse-operated.Post
-parse-operated-same-length-5 t c =
-    let c-parse-prefix = c .before .before .before .before .before .before .before .before .before .before .before .before .before .before .before .before .before .before .before .before .before .before .before .before .before .before .before .before .before .before .before .before .parse-prefix in
-    let c-parse-expression-from = c .before .before .before .before .before .before .before .before .before .before .before .before .before .before .before .before .before .before .before .before .parse-expression-from in
-    let c-put-operator = c .before .before .before .before .before .before .before .before .before .put-operator in
-    let c-parse-expression-from2 = c .before .before .before .before .parse-expression-from2 in
-    omega (arith, c-parse-prefix .kept, c-parse-expression-from .kept, c-put-operator .kept, c-parse-expression-from2 .kept)
+parse-operated-same-length-5 t c = search needs
 
 parse-operated-same-length-6 : (t : ℕ) → parse-operated-lts.Need-same-length-6 (parse-operated-claims t) (parse-operated-at t) parse-operated.Post
-parse-operated-same-length-6 t c =
-    let c-parse-prefix = c .before .before .before .before .before .before .before .before .before .before .before .before .before .before .before .before .before .before .before .before .before .before .before .before .before .before .before .before .before .before .before .before .parse-prefix in
-    let c-parse-expression-from = c .before .before .before .before .before .before .before .before .before .before .before .before .before .before .before .before .before .before .before .before .parse-expression-from in
-    let c-put-operator = c .before .before .before .before .before .before .before .before .before .put-operator in
-    let c-parse-expression-from2 = c .before .before .before .before .parse-expression-from2 in
-    omega (arith, c-parse-prefix .kept, c-parse-expression-from .kept, c-put-operator .kept, c-parse-expression-from2 .kept)
+parse-operated-same-length-6 t c = search needs
 
 parse-operated-returns-3 : (t : ℕ) → parse-operated-lts.Need-returns-3 (parse-operated-claims t) (parse-operated-at t) parse-operated.Post
 parse-operated-returns-3 t c =
-    let c-pre = c .before .before .before .before .before .before .before .before .before .before .before .before .before .before .before .before .before .before .before .before .before .before .before .before .before .before .before .before .before .before .before .before .before .before .before .before .before .before .before .before .pre in
-    let c-step-over = c .before .before .before .before .before .before .before .before .before .before .before .before .before .before .before .before .before .before .before .before .before .before .before .before .before .before .before .before .before .before .before .before .before .step-over in
-    let c-parse-prefix = c .before .before .before .before .before .before .before .before .before .before .before .before .before .before .before .before .before .before .before .before .before .before .before .before .before .before .before .before .before .before .before .before .parse-prefix in
-    let c-w = c .before .before .before .before .before .before .before .before .before .before .before .before .before .before .before .before .before .before .before .before .before .before .before .before .before .w in
-    let c-precedence = c .before .before .before .before .before .before .before .before .before .before .before .before .before .before .before .before .before .before .before .before .before .before .before .precedence in
-    let c-binary-operator = c .before .before .before .before .before .before .before .before .before .before .before .before .before .binary-operator in
-    let c-parse-expression-from = c .before .before .before .before .before .before .before .before .before .before .before .before .before .before .before .before .before .before .before .before .parse-expression-from in
-    let c-put-operator = c .before .before .before .before .before .before .before .before .before .put-operator in
-    let c-parse-expression-from2 = c .before .before .before .before .parse-expression-from2 in
-    climb-reads _ _ _ _ _ _ _ _ _ _ _ _ _ (c-pre .1 .1 .there) (c-pre .1 .1 .level) (c-step-over .ensures) (c-parse-prefix .ensures) (omega (arith, c-pre .1 .0)) (c-pre .1 .0 .some) (c-w .given .1) (c-precedence .ensures) (c-binary-operator .ensures) (c-parse-expression-from .ensures) (c-put-operator .ensures) (c-parse-expression-from2 .ensures)
+    let c-pre = c .before .before .before .before .before .before .before .before .before .before .before .before .before .before .before .before .before .before .before .before .pre in
+    let c-step-over = c .before .before .before .before .before .before .before .before .before .before .before .before .before .step-over in
+    let c-parse-prefix = c .before .before .before .before .before .before .before .before .before .before .before .before .parse-prefix in
+    let c-enum-told2 = c .before .before .before .before .before .enum-told2 in
+    let c-expected-after = c .before .before .before .expected-after in
+    let c-report = c .before .before .report in
+    operated-absents _ _ _ _ _ _ _ _ _ _ _ _ (c-pre .1 .1) (c-step-over .ensures) (c-parse-prefix .ensures) (omega (arith, c-pre .1 .0)) (c-pre .1 .0 .room .stand) (c-enum-told2 .given .1) (c-expected-after .ensures) (c-report .ensures)
 
 parse-plus-parse-prefix-requires : (t : ℕ) → parse-plus-lts.Need-parse-prefix-requires (parse-plus-claims t) (parse-plus-at t) parse-plus.Post
 parse-plus-parse-prefix-requires t c κs = search needs
@@ -603,7 +713,10 @@ parse-prefix-returns t c =
     let c-pre = c .before .before .before .before .before .before .before .before .before .pre in
     let c-if1 = c .before .before .before .before .if1 in
     let c-too-deep = c .before .before .too-deep in
-    prefix-full _ _ _ _ _ _ (c-pre .1 .within) (c-if1 .taken) (c-too-deep .ensures)
+    prefix-full _ _ _ _ _ _ (c-pre .1 .room .within) (c-if1 .taken) (c-too-deep .ensures)
+
+parse-prefix-cast-at : (t : ℕ) → parse-prefix-lts.Need-cast-at (parse-prefix-claims t) (parse-prefix-at t) parse-prefix.Post
+parse-prefix-cast-at t c = search needs
 
 parse-prefix-token-at-requires : (t : ℕ) → parse-prefix-lts.Need-token-at-requires (parse-prefix-claims t) (parse-prefix-at t) parse-prefix.Post
 parse-prefix-token-at-requires t c κs = search needs
@@ -616,7 +729,7 @@ parse-prefix-enum-known-p t c = search needs
 
 parse-prefix-step-over-requires : (t : ℕ) → parse-prefix-lts.Need-step-over-requires (parse-prefix-claims t) (parse-prefix-at t) parse-prefix.Post
 parse-prefix-step-over-requires t c κs =
-    let c-pre = c .before .before .before .before .before .before .before .before .before .pre in
+    let c-pre = c .before .before .before .before .before .before .before .before .before .before .pre in
     omega (arith, c-pre)
 
 parse-prefix-sub-less : (t : ℕ) → parse-prefix-lts.Need-sub-less (parse-prefix-claims t) (parse-prefix-at t) parse-prefix.Post
@@ -627,7 +740,7 @@ parse-prefix-parse-unary-requires t c κs =
     let c-step-over = c .before .before .before .step-over in
     let c-token-at = c .before .before .before .before .before .before .before .token-at in
     let c-p = c .before .before .before .before .before .p in
-    let c-pre = c .before .before .before .before .before .before .before .before .before .before .before .before .before .pre in
+    let c-pre = c .before .before .before .before .before .before .before .before .before .before .before .before .before .before .pre in
     let h = c-step-over .ensures in rw h (omega (arith, live _ _ _ (sym (c-token-at .ensures) ∙ c-p .given .1), c-pre))
 
 parse-prefix-parse-unary-requires-2 : (t : ℕ) → parse-prefix-lts.Need-parse-unary-requires-2 (parse-prefix-claims t) (parse-prefix-at t) parse-prefix.Post
@@ -635,7 +748,7 @@ parse-prefix-parse-unary-requires-2 t c κs =
     let c-step-over = c .before .before .before .step-over in
     let c-token-at = c .before .before .before .before .before .before .before .token-at in
     let c-p = c .before .before .before .before .before .p in
-    let c-pre = c .before .before .before .before .before .before .before .before .before .before .before .before .before .pre in
+    let c-pre = c .before .before .before .before .before .before .before .before .before .before .before .before .before .before .pre in
     let h = c-step-over .ensures in rw h (omega (arith, live _ _ _ (sym (c-token-at .ensures) ∙ c-p .given .1), c-pre))
 
 parse-prefix-parse-plus-requires : (t : ℕ) → parse-prefix-lts.Need-parse-plus-requires (parse-prefix-claims t) (parse-prefix-at t) parse-prefix.Post
@@ -643,7 +756,7 @@ parse-prefix-parse-plus-requires t c κs =
     let c-step-over = c .before .before .before .step-over in
     let c-token-at = c .before .before .before .before .before .before .before .token-at in
     let c-p = c .before .before .before .before .before .p in
-    let c-pre = c .before .before .before .before .before .before .before .before .before .before .before .before .before .pre in
+    let c-pre = c .before .before .before .before .before .before .before .before .before .before .before .before .before .before .pre in
     let h = c-step-over .ensures in rw h (omega (arith, live _ _ _ (sym (c-token-at .ensures) ∙ c-p .given .1), c-pre))
 
 parse-prefix-parse-group-requires : (t : ℕ) → parse-prefix-lts.Need-parse-group-requires (parse-prefix-claims t) (parse-prefix-at t) parse-prefix.Post
@@ -651,23 +764,23 @@ parse-prefix-parse-group-requires t c κs =
     let c-step-over = c .before .before .before .step-over in
     let c-token-at = c .before .before .before .before .before .before .before .token-at in
     let c-p = c .before .before .before .before .before .p in
-    let c-pre = c .before .before .before .before .before .before .before .before .before .before .before .before .before .pre in
+    let c-pre = c .before .before .before .before .before .before .before .before .before .before .before .before .before .before .pre in
     let h = c-step-over .ensures in rw h (omega (arith, live _ _ _ (sym (c-token-at .ensures) ∙ c-p .given .1), c-pre))
 
 parse-prefix-parse-leaf-requires : (t : ℕ) → parse-prefix-lts.Need-parse-leaf-requires (parse-prefix-claims t) (parse-prefix-at t) parse-prefix.Post
 parse-prefix-parse-leaf-requires t c κs =
     let c-token-at = c .before .before .before .before .before .before .before .token-at in
     let c-p = c .before .before .before .before .before .p in
-    let c-pre = c .before .before .before .before .before .before .before .before .before .before .before .before .before .pre in
+    let c-pre = c .before .before .before .before .before .before .before .before .before .before .before .before .before .before .pre in
     omega (arith, live _ _ _ (sym (c-token-at .ensures) ∙ c-p .given .1), c-pre)
 
 parse-prefix-returns-2 : (t : ℕ) → parse-prefix-lts.Need-returns-2 (parse-prefix-claims t) (parse-prefix-at t) parse-prefix.Post
 parse-prefix-returns-2 t c =
-    let c-pre = c .before .before .before .before .before .before .before .before .pre in
-    let c-if1 = c .before .before .before .if1 in
+    let c-pre = c .before .before .before .before .before .before .before .before .before .pre in
+    let c-if1 = c .before .before .before .before .if1 in
     let c-token-at = c .before .before .token-at in
     let c-enum-told = c .enum-told in
-    prefix-end _ _ _ _ _ _ (c-pre .1 .within) (c-if1 .left) (sym (c-token-at .ensures) ∙ c-enum-told .given .1)
+    prefix-end _ _ _ _ _ _ (c-pre .1 .room .within) (c-if1 .left) (sym (c-token-at .ensures) ∙ c-enum-told .given .1)
 
 parse-prefix-same-length-2 : (t : ℕ) → parse-prefix-lts.Need-same-length-2 (parse-prefix-claims t) (parse-prefix-at t) parse-prefix.Post
 parse-prefix-same-length-2 t c = search needs
@@ -677,14 +790,14 @@ parse-prefix-same-length-3 t c = search needs
 
 parse-prefix-returns-3 : (t : ℕ) → parse-prefix-lts.Need-returns-3 (parse-prefix-claims t) (parse-prefix-at t) parse-prefix.Post
 parse-prefix-returns-3 t c =
-    let c-pre = c .before .before .before .before .before .before .before .before .before .before .before .before .before .before .before .before .before .before .pre in
-    let c-if1 = c .before .before .before .before .before .before .before .before .before .before .before .before .before .if1 in
+    let c-pre = c .before .before .before .before .before .before .before .before .before .before .before .before .before .before .before .before .before .before .before .pre in
+    let c-if1 = c .before .before .before .before .before .before .before .before .before .before .before .before .before .before .if1 in
     let c-token-at = c .before .before .before .before .before .before .before .before .before .before .before .before .token-at in
     let c-p = c .before .before .before .before .before .before .before .before .before .before .p in
     let c-step-over = c .before .before .before .before .before .before .before .before .step-over in
     let c-match2 = c .before .before .before .before .before .before .before .match2 in
     let c-parse-unary = c .before .before .before .before .parse-unary in
-    prefix-minus _ _ _ _ _ _ (c-pre .1 .within) (c-if1 .left) (sym (c-token-at .ensures) ∙ c-p .given .1) (c-step-over .ensures) (c-match2 .keys1) (c-parse-unary .ensures)
+    prefix-minus _ _ _ _ _ _ (c-pre .1 .room .within) (c-if1 .left) (sym (c-token-at .ensures) ∙ c-p .given .1) (c-step-over .ensures) (c-match2 .keys1) (c-parse-unary .ensures)
 
 parse-prefix-same-length-4 : (t : ℕ) → parse-prefix-lts.Need-same-length-4 (parse-prefix-claims t) (parse-prefix-at t) parse-prefix.Post
 parse-prefix-same-length-4 t c = search needs
@@ -694,14 +807,14 @@ parse-prefix-same-length-5 t c = search needs
 
 parse-prefix-returns-4 : (t : ℕ) → parse-prefix-lts.Need-returns-4 (parse-prefix-claims t) (parse-prefix-at t) parse-prefix.Post
 parse-prefix-returns-4 t c =
-    let c-pre = c .before .before .before .before .before .before .before .before .before .before .before .before .before .before .before .before .before .before .pre in
-    let c-if1 = c .before .before .before .before .before .before .before .before .before .before .before .before .before .if1 in
+    let c-pre = c .before .before .before .before .before .before .before .before .before .before .before .before .before .before .before .before .before .before .before .pre in
+    let c-if1 = c .before .before .before .before .before .before .before .before .before .before .before .before .before .before .if1 in
     let c-token-at = c .before .before .before .before .before .before .before .before .before .before .before .before .token-at in
     let c-p = c .before .before .before .before .before .before .before .before .before .before .p in
     let c-step-over = c .before .before .before .before .before .before .before .before .step-over in
     let c-match2 = c .before .before .before .before .before .before .before .match2 in
     let c-parse-unary2 = c .before .before .before .before .parse-unary2 in
-    prefix-tilde _ _ _ _ _ _ (c-pre .1 .within) (c-if1 .left) (sym (c-token-at .ensures) ∙ c-p .given .1) (c-step-over .ensures) (c-match2 .keys2) (c-parse-unary2 .ensures)
+    prefix-tilde _ _ _ _ _ _ (c-pre .1 .room .within) (c-if1 .left) (sym (c-token-at .ensures) ∙ c-p .given .1) (c-step-over .ensures) (c-match2 .keys2) (c-parse-unary2 .ensures)
 
 parse-prefix-same-length-6 : (t : ℕ) → parse-prefix-lts.Need-same-length-6 (parse-prefix-claims t) (parse-prefix-at t) parse-prefix.Post
 parse-prefix-same-length-6 t c = search needs
@@ -711,14 +824,14 @@ parse-prefix-same-length-7 t c = search needs
 
 parse-prefix-returns-5 : (t : ℕ) → parse-prefix-lts.Need-returns-5 (parse-prefix-claims t) (parse-prefix-at t) parse-prefix.Post
 parse-prefix-returns-5 t c =
-    let c-pre = c .before .before .before .before .before .before .before .before .before .before .before .before .before .before .before .before .before .before .pre in
-    let c-if1 = c .before .before .before .before .before .before .before .before .before .before .before .before .before .if1 in
+    let c-pre = c .before .before .before .before .before .before .before .before .before .before .before .before .before .before .before .before .before .before .before .pre in
+    let c-if1 = c .before .before .before .before .before .before .before .before .before .before .before .before .before .before .if1 in
     let c-token-at = c .before .before .before .before .before .before .before .before .before .before .before .before .token-at in
     let c-p = c .before .before .before .before .before .before .before .before .before .before .p in
     let c-step-over = c .before .before .before .before .before .before .before .before .step-over in
     let c-match2 = c .before .before .before .before .before .before .before .match2 in
     let c-parse-plus = c .before .before .before .before .parse-plus in
-    prefix-plus _ _ _ _ _ _ (c-pre .1 .within) (c-if1 .left) (sym (c-token-at .ensures) ∙ c-p .given .1) (c-step-over .ensures) (c-match2 .keys3) (c-parse-plus .ensures)
+    prefix-plus _ _ _ _ _ _ (c-pre .1 .room .within) (c-if1 .left) (sym (c-token-at .ensures) ∙ c-p .given .1) (c-step-over .ensures) (c-match2 .keys3) (c-parse-plus .ensures)
 
 parse-prefix-same-length-8 : (t : ℕ) → parse-prefix-lts.Need-same-length-8 (parse-prefix-claims t) (parse-prefix-at t) parse-prefix.Post
 parse-prefix-same-length-8 t c = search needs
@@ -728,14 +841,14 @@ parse-prefix-same-length-9 t c = search needs
 
 parse-prefix-returns-6 : (t : ℕ) → parse-prefix-lts.Need-returns-6 (parse-prefix-claims t) (parse-prefix-at t) parse-prefix.Post
 parse-prefix-returns-6 t c =
-    let c-pre = c .before .before .before .before .before .before .before .before .before .before .before .before .before .before .before .before .before .before .pre in
-    let c-if1 = c .before .before .before .before .before .before .before .before .before .before .before .before .before .if1 in
+    let c-pre = c .before .before .before .before .before .before .before .before .before .before .before .before .before .before .before .before .before .before .before .pre in
+    let c-if1 = c .before .before .before .before .before .before .before .before .before .before .before .before .before .before .if1 in
     let c-token-at = c .before .before .before .before .before .before .before .before .before .before .before .before .token-at in
     let c-p = c .before .before .before .before .before .before .before .before .before .before .p in
     let c-step-over = c .before .before .before .before .before .before .before .before .step-over in
     let c-match2 = c .before .before .before .before .before .before .before .match2 in
     let c-parse-group = c .before .before .before .before .parse-group in
-    prefix-group _ _ _ _ _ _ (c-pre .1 .within) (c-if1 .left) (sym (c-token-at .ensures) ∙ c-p .given .1) (c-step-over .ensures) (c-match2 .keys4) (c-parse-group .ensures)
+    prefix-group _ _ _ _ _ _ (c-pre .1 .room .within) (c-if1 .left) (sym (c-token-at .ensures) ∙ c-p .given .1) (c-step-over .ensures) (c-match2 .keys4) (c-parse-group .ensures)
 
 parse-prefix-same-length-10 : (t : ℕ) → parse-prefix-lts.Need-same-length-10 (parse-prefix-claims t) (parse-prefix-at t) parse-prefix.Post
 parse-prefix-same-length-10 t c = search needs
@@ -745,13 +858,13 @@ parse-prefix-same-length-11 t c = search needs
 
 parse-prefix-returns-7 : (t : ℕ) → parse-prefix-lts.Need-returns-7 (parse-prefix-claims t) (parse-prefix-at t) parse-prefix.Post
 parse-prefix-returns-7 t c =
-    let c-pre = c .before .before .before .before .before .before .before .before .before .before .before .before .before .before .before .before .before .before .pre in
-    let c-if1 = c .before .before .before .before .before .before .before .before .before .before .before .before .before .if1 in
+    let c-pre = c .before .before .before .before .before .before .before .before .before .before .before .before .before .before .before .before .before .before .before .pre in
+    let c-if1 = c .before .before .before .before .before .before .before .before .before .before .before .before .before .before .if1 in
     let c-token-at = c .before .before .before .before .before .before .before .before .before .before .before .before .token-at in
     let c-p = c .before .before .before .before .before .before .before .before .before .before .p in
     let c-match2 = c .before .before .before .before .before .before .before .match2 in
     let c-parse-leaf = c .before .before .before .before .parse-leaf in
-    prefix-leaf _ _ _ _ _ _ (c-pre .1 .within) (c-if1 .left) (sym (c-token-at .ensures) ∙ c-p .given .1) (c-match2 .rest .0 .0 .0 .1) (c-match2 .rest .0 .0 .1) (c-match2 .rest .0 .1) (c-match2 .rest .1) (c-parse-leaf .ensures)
+    prefix-leaf _ _ _ _ _ _ (c-pre .1 .room .within) (c-if1 .left) (sym (c-token-at .ensures) ∙ c-p .given .1) (c-match2 .rest .0 .0 .0 .1) (c-match2 .rest .0 .0 .1) (c-match2 .rest .0 .1) (c-match2 .rest .1) (c-parse-leaf .ensures)
 
 parse-unary-parse-prefix-requires : (t : ℕ) → parse-unary-lts.Need-parse-prefix-requires (parse-unary-claims t) (parse-unary-at t) parse-unary.Post
 parse-unary-parse-prefix-requires t c κs = search needs
@@ -862,15 +975,26 @@ pub +parse-expression+parse-expression-from+parse-group+parse-operated+parse-plu
     (parse-expression-returns-3 t))
     (λ t. parse-expression-from-lts.spec (parse-expression-from-claims t) (parse-expression-from-at t)
     parse-expression-from.Post
+    parse-expression-from-Inv-loop
+    parse-expression-from-μ-loop
+    (parse-expression-from-loop-holds t)
+    (parse-expression-from-cast-at t)
     (parse-expression-from-token-at-requires t)
-    (parse-expression-from-enum-told t)
     (parse-expression-from-enum-known-p t)
+    (parse-expression-from-enum-told t)
     (parse-expression-from-precedence-requires t)
-    (parse-expression-from-returns t)
     (parse-expression-from-parse-operated-requires t)
-    (parse-expression-from-returns-2 t)
+    (parse-expression-from-enum-known-w t)
+    (parse-expression-from-loop-less t)
+    (parse-expression-from-loop-again t)
     (parse-expression-from-same-length t)
     (parse-expression-from-same-length-2 t)
+    (parse-expression-from-returns t)
+    (parse-expression-from-same-length-3 t)
+    (parse-expression-from-same-length-4 t)
+    (parse-expression-from-returns-2 t)
+    (parse-expression-from-same-length-5 t)
+    (parse-expression-from-same-length-6 t)
     (parse-expression-from-returns-3 t))
     (λ t. parse-group-lts.spec (parse-group-claims t) (parse-group-at t)
     parse-group.Post
@@ -894,10 +1018,6 @@ pub +parse-expression+parse-expression-from+parse-group+parse-operated+parse-plu
     parse-operated.Post
     (parse-operated-step-over-requires t)
     (parse-operated-parse-prefix-requires t)
-    (parse-operated-enum-told t)
-    (parse-operated-enum-told-2 t)
-    (parse-operated-expected-after-requires t)
-    (parse-operated-report-requires t)
     (parse-operated-enum-known-w t)
     (parse-operated-precedence-requires t)
     (parse-operated-add-above t)
@@ -906,7 +1026,10 @@ pub +parse-expression+parse-expression-from+parse-group+parse-operated+parse-plu
     (parse-operated-sub-put-operator t)
     (parse-operated-sub-put-operator-2 t)
     (parse-operated-put-operator-requires t)
-    (parse-operated-parse-expression-from-requires-2 t)
+    (parse-operated-enum-told t)
+    (parse-operated-enum-told-2 t)
+    (parse-operated-expected-after-requires t)
+    (parse-operated-report-requires t)
     (parse-operated-same-length t)
     (parse-operated-same-length-2 t)
     (parse-operated-returns t)
@@ -943,6 +1066,7 @@ pub +parse-expression+parse-expression-from+parse-group+parse-operated+parse-plu
     (parse-prefix-too-deep-requires t)
     (parse-prefix-same-length t)
     (parse-prefix-returns t)
+    (parse-prefix-cast-at t)
     (parse-prefix-token-at-requires t)
     (parse-prefix-enum-told t)
     (parse-prefix-enum-known-p t)

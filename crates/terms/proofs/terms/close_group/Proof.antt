@@ -8,6 +8,9 @@ use borrow.Author.Needs.{needs}
 use Rattle.terms.proofs.terms.close_group.Statement.{statement}
 use Rattle.terms.proofs.terms.close_group.Tie as tie
 
+cast-at : tie.Need-cast-at
+cast-at c = search needs
+
 token-at-requires : tie.Need-token-at-requires
 token-at-requires c κs = search needs
 
@@ -69,6 +72,7 @@ pub close-group-spec : {M : Type 1} → statement M
 close-group-spec =
     tie.close
     (tie.spec
+    cast-at
     token-at-requires
     enum-known-p
     sub-widen

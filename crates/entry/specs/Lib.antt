@@ -1,0 +1,2 @@
+-- What the functions within the crate ask and tell.
+pub mod Inner

@@ -1,0 +1,107 @@
+-- `layout::nodes::encode_nodes` meets its contract. The loop's invariant: the first i records are written.
+-- Assumes nothing.
+use mathlib.Core.Path.{_≡_, refl, _∙_, ap}
+use Prim.Native.Nat.{_≤_, _-_, _*_}
+use native.Mathlib.Omega.{arith}
+use lib.ListN.{length}
+use Rattle.records.specs.Stores.{written}
+use Rattle.operand.specs.Layout.{nodeBytes}
+use Rattle.operand.specs.Entry.{node-store}
+use Rattle.layout.proofs.Encoding.{nodes-none, nodes-on, nodes-long, cleared-long, nodes-all, nodes-many, nodes-missing, nodes-short}
+use Rattle.layout.proofs.nodes.encode_nodes.Statement.{statement}
+use Rattle.layout.proofs.nodes.encode_nodes.Tie as tie
+
+abbrev Inv-loop : tie.InvT-loop
+Inv-loop numbers n nodes₀ i₀ nodes i = (i ≤ n) × (nodes ≡ written nodes₀ 0 (nodeBytes numbers i))
+
+abbrev μ-loop : tie.MeasureT-loop
+μ-loop numbers n nodes₀ i₀ nodes i = n - i
+
+returns : tie.Need-returns Inv-loop μ-loop
+returns c =
+    let c-args = c .before .before .before .args in
+    nodes-many (c-args .numbers .now) (c-args .nodes .now) (c-args .n) (omega (arith, node-store))
+
+returns-2 : tie.Need-returns-2 Inv-loop μ-loop
+returns-2 c =
+    let c-args = c .before .before .before .before .args in
+    nodes-missing (c-args .numbers .now) (c-args .nodes .now) (c-args .n) (omega (arith, node-store)) (omega arith)
+
+returns-3 : tie.Need-returns-3 Inv-loop μ-loop
+returns-3 c =
+    let c-args = c .before .before .before .before .before .args in
+    nodes-short (c-args .numbers .now) (c-args .nodes .now) (c-args .n) (omega (arith, node-store)) (omega arith) (omega (arith, node-store))
+
+loop-holds : tie.Need-loop-holds Inv-loop μ-loop
+loop-holds c =
+    let c-args = c .before .before .before .before .before .args in
+    (omega arith, nodes-none (c-args .numbers .now) (c-args .nodes .now))
+
+mul-encode-node : tie.Need-mul-encode-node Inv-loop μ-loop
+mul-encode-node c = omega arith
+
+mul-encode-node-2 : tie.Need-mul-encode-node-2 Inv-loop μ-loop
+mul-encode-node-2 c = omega arith
+
+encode-node-requires : tie.Need-encode-node-requires Inv-loop μ-loop
+encode-node-requires c κs =
+    let c-args = c .before .before .before .before .before .before .before .before .args in
+    let c-loop = c .before .before .loop in
+    (omega arith, omega (arith, nodes-long (c-args .numbers .now) (c-args .nodes .now) _ (c-loop .i) (omega arith) (c-loop .inv .1)))
+
+add-i : tie.Need-add-i Inv-loop μ-loop
+add-i c = omega arith
+
+loop-less : tie.Need-loop-less Inv-loop μ-loop
+loop-less c = omega arith
+
+loop-again : tie.Need-loop-again Inv-loop μ-loop
+loop-again c =
+    let c-args = c .before .before .before .before .before .before .before .before .before .before .before .args in
+    let c-loop = c .before .before .before .before .before .loop in
+    let c-encode-node = c .before .before .encode-node in
+    (omega arith, nodes-on (c-args .numbers .now) (c-args .nodes .now) _ _ (c-loop .i) (omega arith) (c-loop .inv .1) (c-encode-node .ensures))
+
+mul-clear : tie.Need-mul-clear Inv-loop μ-loop
+mul-clear c = omega arith
+
+clear-requires : tie.Need-clear-requires Inv-loop μ-loop
+clear-requires c κs =
+    let c-args = c .before .before .before .before .before .before .before .before .args in
+    let c-loop = c .before .before .loop in
+    (omega arith, omega (arith, nodes-long (c-args .numbers .now) (c-args .nodes .now) _ (c-loop .i) (omega arith) (c-loop .inv .1)))
+
+same-length : tie.Need-same-length Inv-loop μ-loop
+same-length c =
+    let c-args = c .before .before .before .before .before .before .before .before .before .before .before .args in
+    let c-loop = c .before .before .before .before .before .loop in
+    let c-clear = c .before .before .clear in
+    cleared-long _ _ (14 * c-args .n) 3570 (omega arith) (omega (arith, nodes-long (c-args .numbers .now) (c-args .nodes .now) _ (c-loop .i) (omega arith) (c-loop .inv .1))) (c-clear .ensures) ∙ nodes-long (c-args .numbers .now) (c-args .nodes .now) _ (c-loop .i) (omega arith) (c-loop .inv .1)
+
+returns-4 : tie.Need-returns-4 Inv-loop μ-loop
+returns-4 c =
+    let c-args = c .before .before .before .before .before .before .before .before .before .before .before .args in
+    let c-loop = c .before .before .before .before .before .loop in
+    let c-clear = c .before .before .clear in
+    nodes-all (c-args .numbers .now) (c-args .nodes .now) _ _ (c-args .n) (c-loop .i) (omega arith) (omega (arith, node-store)) (omega arith) (omega (arith, node-store)) (c-loop .inv .1) (c-clear .ensures)
+
+pub encode-nodes-spec : {M : Type 1} → statement M
+encode-nodes-spec =
+    tie.close
+    (tie.spec
+    Inv-loop
+    μ-loop
+    returns
+    returns-2
+    returns-3
+    loop-holds
+    mul-encode-node
+    mul-encode-node-2
+    encode-node-requires
+    add-i
+    loop-less
+    loop-again
+    mul-clear
+    clear-requires
+    same-length
+    returns-4)

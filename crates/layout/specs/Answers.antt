@@ -1,0 +1,276 @@
+-- The buyer's conditions, of what the entry returns and writes: they follow from its promise, and from Conditions.antt.
+-- Assumes nothing.
+use mathlib.Core.Path.{_≡_, refl, sym, _∙_, ap}
+use mathlib.Core.Bool.{Bool, true, false}
+use mathlib.Core.List.{List, [], _∷_, _++_}
+use Prim.Native.Nat.{ℕ, zero, suc, _+_, _-_, _*_, _≤_, _<_}
+use native.Mathlib.Nat.{add-zero}
+use native.Mathlib.Omega.{arith}
+use lib.Dec.{eqb}
+use lib.ListN.{length, take, drop, replicate, take-append-drop}
+use lib.Seq.{take-at, drop-at, drop-drop, length-take-le}
+use Rattle.names.specs.Kinds
+use Rattle.names.specs.Tokens.{count}
+use Rattle.names.specs.Places.{Place, nothing, stands, below}
+use Rattle.names.specs.declared.tokens.Token.{Token}
+use Rattle.expressions.specs.Reader.{Reading, reading}
+use Rattle.operand.specs.Operands.{Operand, Maybe, some, none}
+use Rattle.operand.specs.Records.{sizeM, diagnosticRecords}
+use Rattle.operand.specs.Layout.{nodeBytes, nodesLaid, lows, diagnosticsLaid}
+use Rattle.operand.specs.Entry.{Input, placeOf, nodeStore, lineAndList, startAndStores, conditions, firstOf, refusal, readingAt, nodesAfter, diagnosticsAfter, outcome, outcomeOf}
+use Rattle.layout.specs.Promise.{nesting, nesting-some, resultOf, resultAt, EntryPromise}
+use Rattle.operand.specs.Readings.{gap, ended}
+use Rattle.operand.specs.Conditions.{Valid, valid-bounds, valid-stores, AlikeThrough}
+use Rattle.operand.specs.Conditions as C
+use Rattle.operand.specs.Lengths.{length-node-bytes, length-laid}
+use Rattle.layout.specs.declared.answer.Answer.{Answer}
+use Rattle.layout.specs.declared.answer.Found.{Found}
+use Rattle.layout.specs.declared.answer.Missed.{Missed}
+
+-- ---- what an answer gives; a refusal gives none of these
+
+abbrev pub cursorOf : Answer → ℕ
+cursorOf (Answer.Operand x) = x .cursor
+cursorOf (Answer.NoOperand x) = x .cursor
+cursorOf (Answer.Refused n) = 0
+
+-- without an operand no node is used
+abbrev pub nodesUsed : Answer → ℕ
+nodesUsed (Answer.Operand x) = x .nodes
+nodesUsed (Answer.NoOperand x) = 0
+nodesUsed (Answer.Refused n) = 0
+
+abbrev pub diagnosticsAdded : Answer → ℕ
+diagnosticsAdded (Answer.Operand x) = x .diagnostics
+diagnosticsAdded (Answer.NoOperand x) = x .diagnostics
+diagnosticsAdded (Answer.Refused n) = 0
+
+-- how far past the cursor the reading has looked
+abbrev pub gapOf : Answer → ℕ
+gapOf (Answer.Operand x) = 0
+gapOf (Answer.NoOperand x) = 1
+gapOf (Answer.Refused n) = 0
+
+-- ---- the refusals have the numbers 1 to 7
+
+first-below : (n : ℕ) (bs : List Bool) → 0 < n → firstOf n bs < n + length bs
+unfolding firstOf
+first-below n [] p = omega arith
+first-below n (true ∷ bs) p = omega arith
+first-below n (false ∷ bs) p = omega (arith, first-below (n + 1) bs (omega arith))
+
+refusal-below : (a : Input) → refusal a ≤ 7
+unfolding refusal conditions lineAndList startAndStores
+refusal-below a = omega (arith, first-below 1 (conditions a) (omega arith))
+
+-- an operand or none where no refusal applies; else the number of the first that does. "It returns its number; all lent bytes stay."
+pub data Total (a : Input) (N′ D′ : List ℕ) : Answer → Type 0 where
+  operand : (x : Found) → Valid a → Total a N′ D′ (Answer.Operand x)
+  noOperand : (x : Missed) → Valid a → Total a N′ D′ (Answer.NoOperand x)
+  refused : (n : ℕ) → n ≡ refusal a → 1 ≤ n → n ≤ 7 → N′ ≡ a .nodes → D′ ≡ a .diagnostics → Total a N′ D′ (Answer.Refused n)
+
+pub operand-valid : {a : Input} {N D : List ℕ} {x : Found} → Total a N D (Answer.Operand x) → Valid a
+operand-valid (Total.operand x v) = v
+
+pub missed-valid : {a : Input} {N D : List ℕ} {x : Missed} → Total a N D (Answer.NoOperand x) → Valid a
+missed-valid (Total.noOperand x v) = v
+
+-- "Start equal to the count gives no operand and no diagnostic.": all node records are 0, and nothing else moves
+pub record AtTheEnd (a : Input) (N′ D′ : List ℕ) (r : Answer) : Type 0 where
+  pub answer : r ≡ Answer.NoOperand (record { cursor = a .start; diagnostics = 0 })
+  pub nodes : N′ ≡ replicate nodeStore 0 ++ drop nodeStore (a .nodes)
+  pub diagnostics : D′ ≡ a .diagnostics
+
+-- ---- the answer of a reading
+
+module _ (r : Reading (Maybe Operand)) where
+  cursor-result : (v : Maybe Operand) → cursorOf (resultOf r v) ≡ r .cursor
+  unfolding resultOf
+  cursor-result (some x) = refl
+  cursor-result none = refl
+
+  used-result : (v : Maybe Operand) → nodesUsed (resultOf r v) ≡ sizeM v
+  unfolding resultOf sizeM
+  used-result (some x) = refl
+  used-result none = refl
+
+  added-result : (v : Maybe Operand) → diagnosticsAdded (resultOf r v) ≡ length (r .raised)
+  unfolding resultOf
+  added-result (some x) = refl
+  added-result none = refl
+
+  gap-result : (v : Maybe Operand) → gapOf (resultOf r v) ≡ gap v
+  unfolding resultOf gap
+  gap-result (some x) = refl
+  gap-result none = refl
+
+  none-result : (v : Maybe Operand) (x : Missed) → resultOf r v ≡ Answer.NoOperand x → v ≡ none
+  unfolding resultOf
+  none-result (some y) x h = let z : _≡_ {A = ℕ} 0 1 = cc in absurd (omega arith)
+  none-result none x h = refl
+
+-- ---- of every call that keeps the promise
+
+module _ (a : Input) (N′ D′ : List ℕ) (r : Answer) (p : EntryPromise a N′ D′ r) where
+  abbrev s : Reading (Maybe Operand)
+  s = readingAt nesting a
+
+  pub total : Total a N′ D′ r
+  unfolding resultAt resultOf
+  total = go (refusal a) refl (p .value)
+    where
+      read : Valid a → (v : Maybe Operand) → r ≡ resultOf s v → Total a N′ D′ r
+      read v (some x) e = rw e (operand _ v)
+      read v none e = rw e (noOperand _ v)
+
+      go : (k : ℕ) → refusal a ≡ k → r ≡ resultAt nesting a k → Total a N′ D′ r
+      go zero e h = read e (s .value) h
+      go (suc k) e h =
+          let stays = C.refused-stays nesting a k e in
+          rw h (refused (suc k) (sym e) (omega arith) (omega (arith, refusal-below a)) (p .nodes ∙ ap (λ x. x .nodes) stays) (p .diagnostics ∙ ap (λ x. x .diagnostics) stays))
+
+  module _ (v : Valid a) where
+    value-is : r ≡ resultOf s (s .value)
+    unfolding resultAt
+    value-is = p .value ∙ ap (resultAt nesting a) v
+
+    nodes-are : N′ ≡ nodesAfter (s .value) (a .nodes)
+    unfolding outcome outcomeOf
+    nodes-are = p .nodes ∙ ap (λ n. outcomeOf nesting a n .nodes) v
+
+    diagnostics-are : D′ ≡ diagnosticsAfter s (a .used) (a .diagnostics)
+    unfolding outcome outcomeOf
+    diagnostics-are = p .diagnostics ∙ ap (λ n. outcomeOf nesting a n .diagnostics) v
+
+    cursor-is : cursorOf r ≡ s .cursor
+    cursor-is = ap cursorOf value-is ∙ cursor-result s (s .value)
+
+    used-is : nodesUsed r ≡ sizeM (s .value)
+    used-is = ap nodesUsed value-is ∙ used-result s (s .value)
+
+    added-is : diagnosticsAdded r ≡ length (s .raised)
+    added-is = ap diagnosticsAdded value-is ∙ added-result s (s .value)
+
+    gap-is : gapOf r ≡ gap (s .value)
+    gap-is = ap gapOf value-is ∙ gap-result s (s .value)
+
+    -- ---- condition 1
+
+    -- "the cursor neither goes back nor passes the end"
+    pub cursor-bounds : (a .start ≤ cursorOf r) × (cursorOf r ≤ count (a .tokens))
+    cursor-bounds = let h = C.cursor-bounds nesting nesting-some a v in (omega (arith, cursor-is), omega (arith, cursor-is))
+
+    -- so it is a byte
+    pub cursor-small : cursorOf r < 256
+    cursor-small = omega (arith, cursor-bounds, valid-bounds a v)
+
+    -- "No operand is never silent (unless the start is the end or an Error token stood from there on)."
+    pub never-silent : (k : Token) (x : List ℕ) → placeOf a (a .start) ≡ stands k x
+        → ((j : ℕ) (t : Token) (y : List ℕ) → a .start ≤ j → placeOf a j ≡ stands t y → eqb (t .kind) Kinds.error ≡ false)
+        → (m : Missed) → r ≡ Answer.NoOperand m → 0 < m .diagnostics
+    never-silent k x there quiet m e =
+        let n = none-result s (s .value) m (sym value-is ∙ e) in
+        omega (arith, C.never-silent nesting nesting-some a k x there quiet n, added-is, ap diagnosticsAdded e)
+
+    -- "A reading adds at most twice its consumed tokens plus one."
+    pub diagnostics-bound : diagnosticsAdded r + 2 * a .start ≤ 2 * cursorOf r + 1
+    diagnostics-bound = omega (arith, C.diagnostics-bound nesting nesting-some a, added-is, cursor-is)
+
+    -- so 511 records are enough
+    pub records-enough : diagnosticsAdded r ≤ 511
+    records-enough = omega (arith, C.records-enough nesting nesting-some a v, added-is)
+
+    -- the nodes are at most the consumed tokens
+    pub nodes-bound : nodesUsed r + a .start ≤ cursorOf r
+    nodes-bound = omega (arith, C.nodes-bound nesting nesting-some a, used-is, cursor-is)
+
+    -- so 255 of fourteen bytes are enough
+    pub nodes-enough : 14 * nodesUsed r ≤ 3570
+    nodes-enough = omega (arith, C.nodes-enough nesting nesting-some a v, used-is)
+
+    -- ---- the diagnostics: the used records, the added ones, and the bytes past them
+
+    before-long : length (take (10 * a .used) (a .diagnostics)) ≡ 10 * a .used
+    before-long = length-take-le (10 * a .used) (a .diagnostics) (omega (arith, valid-stores a v))
+
+    -- earlier diagnostics stand
+    pub earlier-stand : take (10 * a .used) D′ ≡ take (10 * a .used) (a .diagnostics)
+    earlier-stand = ap (take (10 * a .used)) (p .diagnostics) ∙ C.earlier-stand nesting a v
+
+    behind : drop (10 * a .used) D′ ≡ diagnosticsLaid (s .raised) ++ drop (10 * (a .used + length (s .raised))) (a .diagnostics)
+    unfolding diagnosticsAfter
+    behind = ap (drop (10 * a .used)) diagnostics-are ∙ drop-at (take (10 * a .used) (a .diagnostics)) _ (10 * a .used) before-long
+
+    added-long : length (diagnosticsLaid (s .raised)) ≡ 10 * diagnosticsAdded r
+    added-long = length-laid (s .raised) ∙ ap (λ n. 10 * n) (sym added-is)
+
+    -- the added ones are the reading's, in their order
+    pub added-records : take (10 * diagnosticsAdded r) (drop (10 * a .used) D′) ≡ diagnosticsLaid (s .raised)
+    added-records = ap (take (10 * diagnosticsAdded r)) behind ∙ take-at _ _ (10 * diagnosticsAdded r) added-long
+
+    -- "Bytes past the added records stay."
+    pub later-stand : drop (10 * (a .used + diagnosticsAdded r)) D′ ≡ drop (10 * (a .used + diagnosticsAdded r)) (a .diagnostics)
+    later-stand =
+        let e : 10 * (a .used + diagnosticsAdded r) ≡ 10 * a .used + 10 * diagnosticsAdded r = omega arith in
+        ap (λ n. drop n D′) e
+        ∙ sym (drop-drop (10 * diagnosticsAdded r) (10 * a .used) D′)
+        ∙ ap (drop (10 * diagnosticsAdded r)) behind
+        ∙ drop-at (diagnosticsLaid (s .raised)) _ (10 * diagnosticsAdded r) added-long
+        ∙ ap (λ n. drop (10 * (a .used + n)) (a .diagnostics)) (sym added-is)
+
+    -- ---- the nodes: the used records, zeros, and the bytes past the 255th
+
+    used-long : length (nodesLaid (s .value)) ≡ 14 * nodesUsed r
+    used-long = length-node-bytes _ (sizeM (s .value)) ∙ ap (λ n. 14 * n) (sym used-is)
+
+    -- the used records are the reading's
+    pub used-records : take (14 * nodesUsed r) N′ ≡ nodesLaid (s .value)
+    unfolding nodesAfter
+    used-records = ap (take (14 * nodesUsed r)) nodes-are ∙ take-at _ _ (14 * nodesUsed r) used-long
+
+    -- "Unused node records of the 255 are zero; bytes past 3,570 stay."
+    pub unused-zero : drop (14 * nodesUsed r) N′ ≡ replicate (nodeStore - 14 * nodesUsed r) 0 ++ drop nodeStore (a .nodes)
+    unfolding nodesAfter
+    unused-zero =
+        ap (drop (14 * nodesUsed r)) nodes-are
+        ∙ drop-at (nodesLaid (s .value)) _ (14 * nodesUsed r) used-long
+        ∙ ap (λ n. replicate (nodeStore - 14 * n) 0 ++ drop nodeStore (a .nodes)) (sym used-is)
+
+    -- ---- the end
+
+    pub at-the-end : a .start ≡ count (a .tokens) → AtTheEnd a N′ D′ r
+    unfolding resultOf nodesAfter diagnosticsAfter sizeM nodeBytes lows diagnosticRecords
+    at-the-end e = go (placeOf a (a .start)) refl
+      where
+        none-read : s ≡ reading (a .start) 0 [] none → AtTheEnd a N′ D′ r
+        none-read q = record {
+          answer = value-is ∙ ap (λ (t : Reading (Maybe Operand)). resultOf t (t .value)) q;
+          nodes =
+              let z : nodeStore - 14 * 0 ≡ nodeStore = omega arith in
+              nodes-are ∙ ap (λ (t : Reading (Maybe Operand)). nodesAfter (t .value) (a .nodes)) q ∙ ap (λ n. replicate n 0 ++ drop nodeStore (a .nodes)) z;
+          diagnostics = diagnostics-are ∙ ap (λ (t : Reading (Maybe Operand)). diagnosticsAfter t (a .used) (a .diagnostics)) q ∙ rw add-zero (take-append-drop (10 * a .used) (a .diagnostics));
+        }
+
+        go : (w : Place) → placeOf a (a .start) ≡ w → AtTheEnd a N′ D′ r
+        go nothing q = none-read (ended nesting (a .mark) (placeOf a) (a .start) q)
+        go (stands k x) q = absurd (omega (arith, below (a .line) (a .tokens) (a .start) k x q))
+
+-- ---- condition 3
+
+-- "Answers are the same if both have an operand, with the same record, or both have none; the cursor is the same; as many nodes are used, with the same
+-- records; and as many diagnostics are added, the same records in the same order." The first line is all but the records in the stores; the mask is the same too
+pub record SameOutcome (a b : Input) (N′ D′ N″ D″ : List ℕ) (r q : Answer) : Type 0 where
+  pub answer : r ≡ q
+  pub nodes : take (14 * nodesUsed r) N′ ≡ take (14 * nodesUsed q) N″
+  pub diagnostics : take (10 * diagnosticsAdded r) (drop (10 * a .used) D′) ≡ take (10 * diagnosticsAdded q) (drop (10 * b .used) D″)
+
+-- "Two valid inputs alike from the start through the cursor (one place further where there is no operand) have the same answer."
+pub local : (a b : Input) (N′ D′ N″ D″ : List ℕ) (r q : Answer) → EntryPromise a N′ D′ r → EntryPromise b N″ D″ q → Valid a → Valid b
+    → AlikeThrough a b (cursorOf r + gapOf r) → SameOutcome a b N′ D′ N″ D″ r q
+local a b N′ D′ N″ D″ r q p h va vb alike =
+    let e = C.same-reading nesting nesting-some a b (record { start = alike .start; mark = alike .mark; places = λ j x y. alike .places j x (omega (arith, cursor-is a N′ D′ r p va, gap-is a N′ D′ r p va)) }) in
+    record {
+      answer = value-is a N′ D′ r p va ∙ ap (λ (t : Reading (Maybe Operand)). resultOf t (t .value)) e ∙ sym (value-is b N″ D″ q h vb);
+      nodes = used-records a N′ D′ r p va ∙ ap (λ (t : Reading (Maybe Operand)). nodesLaid (t .value)) e ∙ sym (used-records b N″ D″ q h vb);
+      diagnostics = added-records a N′ D′ r p va ∙ ap (λ (t : Reading (Maybe Operand)). diagnosticsLaid (t .raised)) e ∙ sym (added-records b N″ D″ q h vb);
+    }

@@ -1,0 +1,60 @@
+-- What the entry promises: its answer and every byte of both stores are the definition's, at document 01's nesting limit.
+-- Assumes nothing.
+use mathlib.Core.Path.{_≡_, refl}
+use mathlib.Core.List.{List}
+use Prim.Native.Nat.{ℕ, zero, suc, _≤_}
+use native.Mathlib.Omega.{arith}
+use lib.ListN.{length}
+use Rattle.expressions.specs.Reader.{Reading}
+use Rattle.operand.specs.Operands.{Operand, Maybe, some, none}
+use Rattle.operand.specs.Records.{sizeM}
+use Rattle.operand.specs.Entry.{Input, readingAt, refusal, answerOf, outcome}
+use Rattle.operand.specs.Entry as E
+use Rattle.operand.specs.Forms.{recordOf}
+use Rattle.operand.specs.Layout.{bytesOf}
+use Rattle.layout.specs.declared.answer.Answer.{Answer}
+
+-- "at most 64 terms are open". Shut, so that nothing computes it
+unfoldable pub nesting : ℕ
+nesting = 64
+
+pub nesting-is : nesting ≡ 64
+unfolding nesting
+nesting-is = refl
+
+pub nesting-some : 1 ≤ nesting
+unfolding nesting
+nesting-some = omega arith
+
+-- ---- the answer
+
+-- the definition's answer for the code's: the record as its twenty bytes, and the mask
+unfoldable pub given : Answer → E.Answer
+given (Answer.Operand x) = E.operand (bytesOf (x .operand)) (x .cursor) (x .nodes) (x .diagnostics) (x .operand .mask)
+given (Answer.NoOperand x) = E.noOperand (x .cursor) (x .diagnostics)
+given (Answer.Refused n) = E.refused n
+
+-- the code's answer for a reading
+unfoldable pub resultOf : Reading (Maybe Operand) → Maybe Operand → Answer
+resultOf r (some x) =
+    Answer.Operand (record { operand = recordOf x; cursor = r .cursor; nodes = sizeM (some x); diagnostics = length (r .raised) })
+resultOf r none = Answer.NoOperand (record { cursor = r .cursor; diagnostics = length (r .raised) })
+
+-- and for an input that is refused by this number, or by 0 for none
+unfoldable pub resultAt : ℕ → Input → ℕ → Answer
+resultAt limit a zero = let r = readingAt limit a in resultOf r (r .value)
+resultAt limit a (suc k) = Answer.Refused (suc k)
+
+pub given-result : (r : Reading (Maybe Operand)) (v : Maybe Operand) → given (resultOf r v) ≡ answerOf r v
+unfolding given resultOf answerOf
+given-result r (some x) = refl
+given-result r none = refl
+
+-- ---- the promise
+
+-- every byte. The fourth: the twenty bytes alone would leave open whether FF is an absent part
+pub record EntryPromise (a : Input) (N′ D′ : List ℕ) (r : Answer) : Type 0 where
+  pub answer : given r ≡ outcome nesting a .answer
+  pub nodes : N′ ≡ outcome nesting a .nodes
+  pub diagnostics : D′ ≡ outcome nesting a .diagnostics
+  pub value : r ≡ resultAt nesting a (refusal a)

@@ -1,0 +1,93 @@
+// The refusals of a call, but for those of its tokens: what is lent is looked at in the order of their numbers, and nothing is written.
+ghost use mathlib.Core.Path.{_≡_};
+ghost use Prim.Native.Nat.{_+_, _/_};
+ghost use lib.Dec.{ltb};
+ghost use Rattle.names.specs.Choice.{either};
+ghost use Rattle.operand.specs.Entry.{freeRecords, foreign, lineAndList, startAndStores, firstOf};
+
+// The bytes of the longest line, and the tokens of the longest list.
+const LINE: usize = 255;
+
+const TOKENS: usize = 255;
+// The bytes of a node store.
+const NODES: usize = 3570;
+// The diagnostic records that must be free.
+const FREE: usize = 511;
+
+// Whether a byte is not printable, or one was found before it.
+fn seen(found: bool, byte: u8) -> bool
+    ensures { λ r. ⌜ r ≡ either found (either (ltb byte 32) (ltb 126 byte)) ⌝ }
+{
+    if byte < 32 {
+        return true;
+    }
+    if 126 < byte {
+        return true;
+    }
+    found
+}
+
+// Whether a byte of the line is not printable. All are looked at: without a way out the loop is faster.
+fn foreign(line: &[u8]) -> bool
+    ensures { λ r. ⌜ r ≡ foreign (now (line .entry)) ⌝ }
+{
+    let mut i = 0;
+    let mut found = false;
+    while i < line.len() {
+        found = seen(found, line[i]);
+        i += 1;
+    }
+    found
+}
+
+// The number 1 to 3 of the refusal of the line or the list, 0 for none.
+pub fn refuse_line_and_list(line: &[u8], tokens: &[u8]) -> u8
+    ensures { λ r. ⌜ r ≡ firstOf 1 (lineAndList (now (line .entry)) (now (tokens .entry))) ⌝ }
+{
+    if LINE < line.len() {
+        return 1;
+    }
+    if foreign(line) {
+        return 2;
+    }
+    if tokens.len() % 4 != 0 {
+        return 3;
+    }
+    if TOKENS < tokens.len() / 4 {
+        return 3;
+    }
+    0
+}
+
+// Whether too few records are free in a diagnostic list of so many bytes. `used + FREE` may not fit, so nothing is added.
+fn crowded(bytes: usize, used: usize) -> bool
+    ensures { λ r. ⌜ r ≡ ltb (bytes / 10) (used + freeRecords) ⌝ }
+{
+    let records = bytes / 10;
+    if records < FREE {
+        return true;
+    }
+    records - FREE < used
+}
+
+// The number 5 to 7 of the refusal of the start or a store, 0 for none: by the tokens' number and the stores' bytes.
+pub fn refuse_start_and_stores(
+    tokens: usize,
+    start: usize,
+    nodes: usize,
+    diagnostics: usize,
+    used: usize,
+) -> u8
+    ensures { λ r. ⌜ r ≡ firstOf 5 (startAndStores tokens start nodes diagnostics used) ⌝ }
+{
+    if tokens < start {
+        return 5;
+    }
+    if nodes < NODES {
+        return 6;
+    }
+    if crowded(diagnostics, used) {
+        return 7;
+    }
+    0
+}

@@ -1,0 +1,93 @@
+-- The law that an offset fits: for a valid input, no offset that a reading leaves lies past the line. So one that is written as its low byte loses nothing.
+-- Assumes nothing.
+pub mod Operands
+pub mod Readers
+use mathlib.Core.Path.{_≡_, refl, sym}
+use mathlib.Core.Bool.{Bool, true, false}
+use mathlib.Core.List.{List, [], _∷_}
+use Prim.Native.Nat.{ℕ, zero, suc, _+_, _*_, _%_, _≤_, _<_}
+use native.Mathlib.Omega.{arith}
+use borrow.Author.Tests.{leb-true, leb-false}
+use lib.Dec.{leb}
+use lib.ListN.{length, getD}
+use Rattle.names.specs.Choice.{pick, both}
+use Rattle.names.specs.Tokens.{count, tokenFrom, tokenAt, detailDefined}
+use Rattle.names.specs.Places.{Place, stands, placed, place}
+use Rattle.names.specs.declared.tokens.Token.{Token}
+use Rattle.names.specs.declared.tokens.Peeked.the-variants.{Is, End}
+use Rattle.records.specs.Spans.{spanOf}
+use Rattle.records.specs.declared.spans.Span.{Span}
+use Rattle.expressions.specs.Reader.{Reading}
+use Rattle.expressions.specs.Laws.{Every}
+use Rattle.expressions.specs.Costs.{true-false}
+use Rattle.expressions.specs.Offsets.{SpanIn, DiagnosticIn, TokensIn, Fits, answers, sees}
+use Rattle.operand.specs.Operands.{Operand, Maybe}
+use Rattle.operand.specs.Operand.{parseOperand, readingOf}
+use Rattle.operand.specs.Entry.{Input, placeOf, goodToken, goodTokens, readingAt}
+use Rattle.operand.specs.Conditions.{Valid, valid-tokens}
+pub use Operands.{RegisterIn, IndexRegisterIn, BaseIn, IndexIn, RegistersIn, DisplacementIn, ItemIn, ItemsIn, OperandIn, MaybeIn}
+use Readers.{operand-from-fits}
+
+-- ---- over whatever places
+
+-- every offset of the operand, and of each diagnostic
+pub record ReadingIn (m : ℕ) (r : Reading (Maybe Operand)) : Type 0 where
+  pub value : MaybeIn (OperandIn m) (r .value)
+  pub raised : Every (DiagnosticIn m) (r .raised)
+
+operand-fits : (m limit mark : ℕ) → Fits m (MaybeIn (OperandIn m)) (parseOperand limit mark)
+unfolding parseOperand
+operand-fits m limit mark = sees (λ k x h. operand-from-fits _ (h .0)) (answers tt)
+
+pub reading-in : (m limit mark : ℕ) (at : ℕ → Place) (i : ℕ) → TokensIn m at → ReadingIn m (readingOf limit mark at i)
+unfolding readingOf
+reading-in m limit mark at i w = let h = operand-fits m limit mark .all at w i 0 (omega arith) in record { value = h .0; raised = h .2 }
+
+-- ---- good tokens lie within the line
+
+both-true : (b c : Bool) → both b c ≡ true → (b ≡ true) × (c ≡ true)
+both-true true c h = (refl, h)
+both-true false c h = absurd (true-false (sym h))
+
+good-in : (L : List ℕ) (p k d s e : ℕ) → goodToken L p k d s e ≡ true → (s ≤ length L) × (e ≤ length L)
+unfolding goodToken
+good-in L p k d s e h =
+    let g = both-true (leb s e) _ (both-true (detailDefined k d) _ h .1) in
+    let f = both-true (leb e (length L)) _ (g .1) in
+    omega (arith, leb-true s e (g .0), leb-true e (length L) (f .0))
+
+all-good-in : (L : List ℕ) (p : ℕ) (T : List ℕ) → goodTokens L p T ≡ true → (j : ℕ) → j < count T → (getD T (4 * j + 2) 0 ≤ length L) × (getD T (4 * j + 3) 0 ≤ length L)
+unfolding goodTokens
+all-good-in L p [] h j b = absurd (omega arith)
+all-good-in L p (k ∷ []) h j b = absurd (omega arith)
+all-good-in L p (k ∷ d ∷ []) h j b = absurd (omega arith)
+all-good-in L p (k ∷ d ∷ s ∷ []) h j b = absurd (omega arith)
+all-good-in L p (k ∷ d ∷ s ∷ e ∷ ts) h zero b = good-in L p k d s e (both-true (goodToken L p k d s e) _ h .0)
+all-good-in L p (k ∷ d ∷ s ∷ e ∷ ts) h (suc j) b =
+    let two : 4 * suc j + 2 ≡ suc (suc (suc (suc (4 * j + 2)))) = omega arith in
+    let three : 4 * suc j + 3 ≡ suc (suc (suc (suc (4 * j + 3)))) = omega arith in
+    rw (two, three) (all-good-in L e ts (both-true (goodToken L p k d s e) _ h .1) j (omega arith))
+
+pub tokens-in : (m : ℕ) (L T : List ℕ) → length L ≤ m → goodTokens L 0 T ≡ true → TokensIn m (place L T)
+unfolding place placed tokenAt
+tokens-in m L T long good = record { tokens = λ j k x h. go j k x (leb (count T) j) refl h }
+  where
+    go : (j : ℕ) (k : Token) (x : List ℕ) (b : Bool) → leb (count T) j ≡ b → placed L (pick b End (Is (tokenFrom T j))) ≡ stands k x → SpanIn m (spanOf k)
+    go j k x true q h = let z : _≡_ {A = ℕ} 0 1 = cc in absurd (omega arith)
+    go j k x false q h =
+        let e : tokenFrom T j ≡ k = cc in
+        rw (← e) (omega (arith, all-good-in L 0 T good j (leb-false (count T) j q)))
+
+-- ---- the law
+
+-- m: the line's length, or any number from there on
+pub offsets-in : (limit : ℕ) (a : Input) → Valid a → (m : ℕ) → length (a .line) ≤ m → ReadingIn m (readingAt limit a)
+offsets-in limit a valid m long = reading-in m limit (a .mark) (placeOf a) (a .start) (tokens-in m (a .line) (a .tokens) long (valid-tokens a valid .1))
+
+-- so that each is a byte
+pub offsets-bytes : (limit : ℕ) (a : Input) → Valid a → ReadingIn 255 (readingAt limit a)
+offsets-bytes limit a valid = offsets-in limit a valid 255 (valid-tokens a valid .0)
+
+-- and its low byte
+pub span-low : (s : Span) → SpanIn 255 s → (s .start % 256 ≡ s .start) × (s .end % 256 ≡ s .end)
+span-low s h = omega arith

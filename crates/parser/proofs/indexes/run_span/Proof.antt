@@ -1,0 +1,22 @@
+-- `parser::indexes::run_span` meets its contract.
+-- Assumes nothing.
+use borrow.Author.Tests.{lt-ltb, le-ltb}
+use borrow.Author.Needs.{needs}
+use Rattle.parser.proofs.indexes.run_span.Statement.{statement}
+use Rattle.parser.proofs.indexes.run_span.Tie as tie
+
+add-t3 : tie.Need-add-t3
+add-t3 c = search needs
+
+returns : tie.Need-returns
+returns c =
+    let c-if1 = c .before .if1 in
+    rw (lt-ltb _ _ (c-if1 .taken))
+
+returns-2 : tie.Need-returns-2
+returns-2 c =
+    let c-if1 = c .if1 in
+    rw (le-ltb _ _ (c-if1 .left))
+
+pub run-span-spec : {M : Type 1} → statement M
+run-span-spec = tie.close (tie.spec add-t3 returns returns-2)

@@ -1,0 +1,57 @@
+// Expressions of an operand, for which there is always room.
+use expressions::Setting;
+use records::Counters;
+use records::Span;
+use terms::Chain;
+use terms::ChainAnswer;
+use terms::ExpressionAnswer;
+use terms::Parsed;
+use terms::Step;
+use terms::expression;
+use terms::expression_from;
+ghost use Rattle.records.specs.Rooms.{NodeRoom};
+ghost use Rattle.terms.specs.Promises.{ExpressionFits, FromFits};
+
+pub(crate) fn expression_at(
+    line: &[u8],
+    tokens: &[u16],
+    nodes: &mut [u16],
+    diagnostics: &mut [u16],
+    c: Counters,
+    s: Setting,
+) -> Step
+    requires { ⌜ NodeRoom (now tokens) (now nodes) c 0 0 1 ⌝ }
+    ensures { λ r. ⌜ ExpressionFits (now (line .entry)) (now (tokens .entry)) (now (nodes .entry)) (now (diagnostics .entry)) (now (nodes .exit)) (now (diagnostics .exit)) c (s .limit) r ⌝ }
+{
+    let r = expression(line, tokens, nodes, diagnostics, c, s);
+    match r {
+        ExpressionAnswer::Is(x) => x,
+        ExpressionAnswer::Unfit => Step {
+            parsed: Parsed::Absent,
+            counters: c,
+        },
+    }
+}
+
+// The expression that goes on from a group, whose tree is the last that was read.
+pub(crate) fn expression_behind(
+    line: &[u8],
+    tokens: &[u16],
+    nodes: &mut [u16],
+    diagnostics: &mut [u16],
+    c: Counters,
+    group: Span,
+    s: Setting,
+) -> Chain
+    requires { ⌜ NodeRoom (now tokens) (now nodes) c 1 0 1 ⌝ }
+    ensures { λ r. ⌜ FromFits (now (line .entry)) (now (tokens .entry)) (now (nodes .entry)) (now (diagnostics .entry)) (now (nodes .exit)) (now (diagnostics .exit)) c group (s .limit) r ⌝ }
+{
+    let r = expression_from(line, tokens, nodes, diagnostics, c, group, s);
+    match r {
+        ChainAnswer::Is(x) => x,
+        ChainAnswer::Unfit => Chain {
+            span: group,
+            counters: c,
+        },
+    }
+}
