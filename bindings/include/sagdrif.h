@@ -18,6 +18,7 @@ extern "C" {
 #define SAGDRIF_DIAGNOSTIC 10          /* a diagnostic record */
 #define SAGDRIF_DIAGNOSTICS_FREE 511   /* records that must be free behind the used ones */
 #define SAGDRIF_ANSWER_BYTES 27        /* the least answer store */
+#define SAGDRIF_STACK_BYTES 65536      /* stack that a call is given on x86-64: more than any line tried takes (bindings/c/stack.c) */
 
 /* What is returned: 0, and the answer is written; or the number of a refusal, and no byte is written. */
 enum sagdrif_number {
