@@ -23,7 +23,7 @@ const BAD_TOKEN: u8 = 4;
 const BAD_START: u8 = 5;
 
 // Reads the operand that begins at the token `start`. A refusal writes nothing. The numbers of the reading stand in stores of the
-// call's own, in three sizes, since to clear them takes longer than to read a short list.
+// call's own, in four sizes, since to clear them takes longer than to read a short list.
 pub fn parse_operand(
     line: &[u8],
     tokens: &[u8],
@@ -40,6 +40,9 @@ pub fn parse_operand(
         return Answer::Refused(n);
     }
     let count = tokens.len() / 4;
+    if count <= 8 {
+        return read_8(line, tokens, start, mark, nodes, diagnostics, used);
+    }
     if count <= 16 {
         return read_16(line, tokens, start, mark, nodes, diagnostics, used);
     }
@@ -49,8 +52,38 @@ pub fn parse_operand(
     read_255(line, tokens, start, mark, nodes, diagnostics, used)
 }
 
-// The operand of a list of at most 16 tokens. Of numbers a token has four, a node and a diagnostic ten; there may be a node for each
+// The operand of a list of at most 8 tokens. Of numbers a token has four, a node and a diagnostic ten; there may be a node for each
 // token, and a diagnostic more.
+fn read_8(
+    line: &[u8],
+    tokens: &[u8],
+    start: usize,
+    mark: usize,
+    nodes: &mut [u8],
+    diagnostics: &mut [u8],
+    used: usize,
+) -> Answer
+    requires { ⌜ ListAsks (now line) (now tokens) 8 ⌝ }
+    ensures { λ r. ⌜ EntryPromise (call (now (line .entry)) (now (tokens .entry)) start mark (now (nodes .entry)) (now (diagnostics .entry)) used) (now (nodes .exit)) (now (diagnostics .exit)) r ⌝ }
+{
+    let mut list: [u16; 32] = [0; 32];
+    let mut records: [u16; 80] = [0; 80];
+    let mut reports: [u16; 90] = [0; 90];
+    read_operand(
+        line,
+        tokens,
+        start,
+        mark,
+        nodes,
+        diagnostics,
+        used,
+        &mut list,
+        &mut records,
+        &mut reports,
+    )
+}
+
+// The same of at most 16.
 fn read_16(
     line: &[u8],
     tokens: &[u8],

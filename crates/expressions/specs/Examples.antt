@@ -81,7 +81,7 @@ examples =
     ∷ []
 
 pub read-so : readAll examples ≡ true
-unfolding Names·Tokens.tokenAt Names·Tokens.detailDefined Names·Places.textOf Names·Places.placed Names·Places.place Names·Letters.lower Names·Letters.lowered Names·Letters.same Names·Letters.spelled Names·Registers.pair Names·Registers.register Names·Registers.registerOf Names·Registers.programCounter Names·Registers.numbered Names·Registers.specialOf Names·Registers.suppressing Names·Registers.suppressed Names·Registers.suppressedOf Names·Registers.oneOf Names·Registers.reserved Names·Sizes.runOf Names·Sizes.letterSize Names·Sizes.sizeOf Names·Numbers.radixOf Names·Numbers.width Names·Numbers.figure Names·Numbers.scan Names·Numbers.digitsOf Names·Numbers.inBase Names·Numbers.numberOf Expressions·Trees.spanE Expressions·Trees.withSpan Expressions·Trees.size Expressions·Reader.met Expressions·Reader.run Expressions·Reader.reach Expressions·Expressions.known Expressions·Expressions.suffixRun Expressions·Expressions.takeSizeSuffix Expressions·Expressions.precedence Expressions·Expressions.binaryOperator Expressions·Expressions.operator Expressions·Expressions.operated Expressions·Expressions.parseExpressionFrom Expressions·Expressions.climbed Expressions·Expressions.parseExpressionOf Expressions·Expressions.isUnary Expressions·Expressions.unaryOperator Expressions·Expressions.negated Expressions·Expressions.plussed Expressions·Expressions.valued Expressions·Expressions.named Expressions·Expressions.grouped Expressions·Expressions.numberTerm Expressions·Expressions.leafTerm Expressions·Expressions.parsePrefixTerm Expressions·Expressions.tooDeep Expressions·Expressions.parsePrefix Expressions·Expressions.fuel Expressions·Expressions.parseExpression Expressions·Expressions.expressionFrom shown ownIs treeIs readAs readAll ofKinds examples
+unfolding Names·Tokens.tokenAt Names·Tokens.detailDefined Names·Places.textOf Names·Places.placed Names·Places.place Names·Letters.lower Names·Letters.lowered Names·Letters.same Names·Letters.spelled Names·Registers.pair Names·Registers.register Names·Registers.registerOf Names·Registers.programCounter Names·Registers.numbered Names·Registers.specialOf Names·Registers.suppressing Names·Registers.suppressed Names·Registers.suppressedOf Names·Registers.oneOf Names·Registers.reserved Names·Sizes.runOf Names·Sizes.letterSize Names·Sizes.sizeOf Names·Numbers.radixOf Names·Numbers.width Names·Numbers.figure Names·Numbers.scan Names·Numbers.digitsOf Names·Numbers.inBase Names·Numbers.baseOf Names·Numbers.numberOf Expressions·Trees.spanE Expressions·Trees.withSpan Expressions·Trees.size Expressions·Reader.met Expressions·Reader.run Expressions·Reader.reach Expressions·Expressions.known Expressions·Expressions.suffixRun Expressions·Expressions.takeSizeSuffix Expressions·Expressions.precedence Expressions·Expressions.binaryOperator Expressions·Expressions.operator Expressions·Expressions.operated Expressions·Expressions.parseExpressionFrom Expressions·Expressions.climbed Expressions·Expressions.parseExpressionOf Expressions·Expressions.isUnary Expressions·Expressions.unaryOperator Expressions·Expressions.negated Expressions·Expressions.plussed Expressions·Expressions.valued Expressions·Expressions.named Expressions·Expressions.grouped Expressions·Expressions.numberTerm Expressions·Expressions.leafTerm Expressions·Expressions.parsePrefixTerm Expressions·Expressions.tooDeep Expressions·Expressions.parsePrefix Expressions·Expressions.fuel Expressions·Expressions.parseExpression Expressions·Expressions.expressionFrom shown ownIs treeIs readAs readAll ofKinds examples
 read-so = refl
 
 -- a group widens a name's node, and not the name's own span
@@ -92,5 +92,5 @@ group-widens reported = false
 group-widens absent = false
 
 pub name-kept : group-widens (run (parseExpression 64) (place (bytes "(n)") (ofKinds 0 (Kinds.leftParen ∷ Kinds.identifier ∷ Kinds.rightParen ∷ []))) 0 0 .value) ≡ true
-unfolding group-widens Names·Tokens.tokenAt Names·Tokens.detailDefined Names·Places.textOf Names·Places.placed Names·Places.place Names·Letters.lower Names·Letters.lowered Names·Letters.same Names·Letters.spelled Names·Registers.pair Names·Registers.register Names·Registers.registerOf Names·Registers.programCounter Names·Registers.numbered Names·Registers.specialOf Names·Registers.suppressing Names·Registers.suppressed Names·Registers.suppressedOf Names·Registers.oneOf Names·Registers.reserved Names·Sizes.runOf Names·Sizes.letterSize Names·Sizes.sizeOf Names·Numbers.radixOf Names·Numbers.width Names·Numbers.figure Names·Numbers.scan Names·Numbers.digitsOf Names·Numbers.inBase Names·Numbers.numberOf Expressions·Trees.spanE Expressions·Trees.withSpan Expressions·Trees.size Expressions·Reader.met Expressions·Reader.run Expressions·Reader.reach Expressions·Expressions.known Expressions·Expressions.suffixRun Expressions·Expressions.takeSizeSuffix Expressions·Expressions.precedence Expressions·Expressions.binaryOperator Expressions·Expressions.operator Expressions·Expressions.operated Expressions·Expressions.parseExpressionFrom Expressions·Expressions.climbed Expressions·Expressions.parseExpressionOf Expressions·Expressions.isUnary Expressions·Expressions.unaryOperator Expressions·Expressions.negated Expressions·Expressions.plussed Expressions·Expressions.valued Expressions·Expressions.named Expressions·Expressions.grouped Expressions·Expressions.numberTerm Expressions·Expressions.leafTerm Expressions·Expressions.parsePrefixTerm Expressions·Expressions.tooDeep Expressions·Expressions.parsePrefix Expressions·Expressions.fuel Expressions·Expressions.parseExpression Expressions·Expressions.expressionFrom shown ownIs treeIs readAs readAll ofKinds examples
+unfolding group-widens Names·Tokens.tokenAt Names·Tokens.detailDefined Names·Places.textOf Names·Places.placed Names·Places.place Names·Letters.lower Names·Letters.lowered Names·Letters.same Names·Letters.spelled Names·Registers.pair Names·Registers.register Names·Registers.registerOf Names·Registers.programCounter Names·Registers.numbered Names·Registers.specialOf Names·Registers.suppressing Names·Registers.suppressed Names·Registers.suppressedOf Names·Registers.oneOf Names·Registers.reserved Names·Sizes.runOf Names·Sizes.letterSize Names·Sizes.sizeOf Names·Numbers.radixOf Names·Numbers.width Names·Numbers.figure Names·Numbers.scan Names·Numbers.digitsOf Names·Numbers.inBase Names·Numbers.baseOf Names·Numbers.numberOf Expressions·Trees.spanE Expressions·Trees.withSpan Expressions·Trees.size Expressions·Reader.met Expressions·Reader.run Expressions·Reader.reach Expressions·Expressions.known Expressions·Expressions.suffixRun Expressions·Expressions.takeSizeSuffix Expressions·Expressions.precedence Expressions·Expressions.binaryOperator Expressions·Expressions.operator Expressions·Expressions.operated Expressions·Expressions.parseExpressionFrom Expressions·Expressions.climbed Expressions·Expressions.parseExpressionOf Expressions·Expressions.isUnary Expressions·Expressions.unaryOperator Expressions·Expressions.negated Expressions·Expressions.plussed Expressions·Expressions.valued Expressions·Expressions.named Expressions·Expressions.grouped Expressions·Expressions.numberTerm Expressions·Expressions.leafTerm Expressions·Expressions.parsePrefixTerm Expressions·Expressions.tooDeep Expressions·Expressions.parsePrefix Expressions·Expressions.fuel Expressions·Expressions.parseExpression Expressions·Expressions.expressionFrom shown ownIs treeIs readAs readAll ofKinds examples
 name-kept = refl

@@ -43,13 +43,14 @@ digitsOf base (c ∷ cs) = scan (radixOf base) 0 (c ∷ cs)
 unfoldable pub inBase : NumberBase → List ℕ → Number
 inBase base text = digitsOf base (drop (width base) text)
 
--- a number token, by its detail: the base's number in the order of `NumberBase`
+-- the base of a detail below 4, in the order of `NumberBase`
+unfoldable pub baseOf : ℕ → NumberBase
+baseOf detail =
+    pick (eqb detail 0) Decimal (pick (eqb detail 1) Hexadecimal (pick (eqb detail 2) Binary Octal))
+
+-- a number token, by its detail: there are four bases
 unfoldable pub numberOf : ℕ → List ℕ → Number
-numberOf detail text =
-    pick (eqb detail 0) (inBase Decimal text)
-    (pick (eqb detail 1) (inBase Hexadecimal text)
-    (pick (eqb detail 2) (inBase Binary text)
-    (pick (eqb detail 3) (inBase Octal text) Invalid)))
+numberOf detail text = pick (ltb detail 4) (inBase (baseOf detail) text) Invalid
 
 -- what one more digit asks of a value
 pub record NextAsks (value radix digit : ℕ) : Type 0 where

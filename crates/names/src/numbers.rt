@@ -4,7 +4,11 @@ use crate::letters::wide;
 use crate::tokens::behind_first;
 ghost use mathlib.Core.Path.{_≡_};
 ghost use Prim.Native.Nat.{_+_, _*_, _^_, min};
-ghost use Rattle.names.specs.Numbers.{radixOf, figure, NextAsks, digitsOf, numberOf};
+ghost use lib.ListN.{drop};
+ghost use Rattle.names.specs.Numbers.{radixOf, width, figure, NextAsks, digitsOf, baseOf, numberOf};
+
+// How many bases there are.
+const BASES: u16 = 4;
 
 // The base of a number, in the order of the Rust's `NumberBase`.
 enum NumberBase {
@@ -42,6 +46,30 @@ fn figure(byte: u8) -> u8
 }
 
 impl NumberBase {
+    // The base of a number token of this detail.
+    fn of_detail(detail: u16) -> NumberBase
+        ensures { λ r. ⌜ r ≡ baseOf detail ⌝ }
+    {
+        match detail {
+            0 => NumberBase::Decimal,
+            1 => NumberBase::Hexadecimal,
+            2 => NumberBase::Binary,
+            _ => NumberBase::Octal,
+        }
+    }
+
+    // A number's text without its prefix.
+    fn digits(self, text: &[u8]) -> &[u8]
+        ensures { λ r. ⌜ now r ≡ drop (width self) (now (text .entry)) ⌝ }
+    {
+        match self {
+            NumberBase::Decimal => text,
+            NumberBase::Hexadecimal => behind_first(text),
+            NumberBase::Binary => behind_first(text),
+            NumberBase::Octal => behind_first(text),
+        }
+    }
+
     fn radix(self) -> u64
         ensures { λ r. ⌜ r ≡ radixOf self ⌝ }
     {
@@ -96,11 +124,9 @@ fn parse_digits(base: NumberBase, digits: &[u8]) -> Number
 pub fn parse_number(detail: u16, text: &[u8]) -> Number
     ensures { λ r. ⌜ r ≡ numberOf detail (now (text .entry)) ⌝ }
 {
-    match detail {
-        0 => parse_digits(NumberBase::Decimal, text),
-        1 => parse_digits(NumberBase::Hexadecimal, behind_first(text)),
-        2 => parse_digits(NumberBase::Binary, behind_first(text)),
-        3 => parse_digits(NumberBase::Octal, behind_first(text)),
-        _ => Number::Invalid,
+    if BASES <= detail {
+        return Number::Invalid;
     }
+    let base = NumberBase::of_detail(detail);
+    parse_digits(base, base.digits(text))
 }

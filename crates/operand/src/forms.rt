@@ -48,17 +48,18 @@ pub enum SizedDisplacement {
     Not,
 }
 
-// The fields of document 01's record, and the mask of a register list.
+// The fields of document 01's record, and the mask of a register list. The large ones stand first, since a record is copied in pieces
+// that then are whole fields.
 pub struct OperandRecord {
-    pub form: u8,
-    pub span: Span,
-    pub displacement: SizedDisplacement,
     pub base: BaseRegister,
     pub index: Index,
-    pub indirection: u8,
+    pub displacement: SizedDisplacement,
     pub outer: SizedDisplacement,
-    pub special: u8,
+    pub span: Span,
     pub mask: u16,
+    pub form: u8,
+    pub indirection: u8,
+    pub special: u8,
 }
 
 // ---- what the functions answer, each with the counters behind it

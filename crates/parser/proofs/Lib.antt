@@ -7,6 +7,7 @@ pub mod Turns
 pub mod Rooms
 pub mod Suffixes
 pub mod Tails
+pub mod Opened
 pub mod Fitting
 pub mod Trees
 pub mod Inners

@@ -92,10 +92,9 @@ run-stays from k x at i l = go (leb 2 (length x))
     go false = known-stays k (sizeOf x) at i l
 
 -- a size that stands at the cursor is stepped over
-pub size-passed : (from : ℕ) {Q : Suffix → Counters → Type 0} {L T D D₁ : List ℕ} {c : Counters} {v : SuffixRead} {c₁ : Counters} → SizeAt T (c .at) → Told suffixRead Q (takeSizeSuffix from) L T D D₁ c v c₁ → c₁ .at ≡ c .at + 1
+pub size-passed : (from : ℕ) {Q : Suffix → Counters → Type 0} {L T D D₁ : List ℕ} {c : Counters} {v : SuffixRead} {c₁ : Counters} → {k : Token} → SizeAt T (c .at) k → Told suffixRead Q (takeSizeSuffix from) L T D D₁ c v c₁ → c₁ .at ≡ c .at + 1
 unfolding run takeSizeSuffix
-size-passed from {L = L} {T = T} {c = c} h t =
-    let k = h .token in
+size-passed from {L = L} {T = T} {c = c} {k = k} h t =
     let x = textOf L (k .start) (k .end) in
     t .at
     ∙ ap (λ (r : Reading Suffix). r .cursor) (met-yes (is Kinds.sizeSuffix) _ _ (place L T (c .at)) k x (there L T (c .at) k (h .stands)) (eq-eqb _ Kinds.sizeSuffix (h .kind)))

@@ -5,10 +5,14 @@ use mathlib.Core.Bool.{Bool, true, false}
 use mathlib.Core.List.{List}
 use Prim.Native.Nat.{ℕ, _+_, _*_, _<_, _≤_}
 use native.Mathlib.Omega.{arith}
-use borrow.Author.Tests.{le-leb, lt-leb, eqb-true}
+use borrow.Author.Tests.{le-leb, lt-leb, eq-eqb, eqb-true}
 use lib.Dec.{eqb, leb}
 use lib.ListN.{length}
+use Rattle.names.specs.Kinds
 use Rattle.names.specs.Places.{textOf}
+use Rattle.names.specs.Tokens.{tokenAt}
+use Rattle.names.specs.declared.tokens.Peeked.the-variants as peeked
+use Rattle.records.specs.Counting.{stepped}
 use Rattle.names.specs.Sizes.{runOf, sizeOf}
 use Rattle.names.specs.Numbers.{numberOf}
 use Rattle.names.specs.declared.numbers.Number.{Number}
@@ -16,18 +20,21 @@ use Rattle.names.specs.declared.sizes.SizeSuffix.{SizeSuffix}
 use Rattle.names.specs.declared.tokens.Token.{Token}
 use Rattle.records.specs.Spans.{span, spanOf}
 use Rattle.records.specs.Diagnostics.{diagnostic, runStart, numberTooLarge}
-use Rattle.expressions.specs.Expressions.{suffixed, known, suffixRun, valued}
+use Rattle.expressions.specs.Expressions.{Suffix, suffixed, bare, known, suffixRun, takeSizeSuffix, valued}
+use Rattle.expressions.specs.declared.reading.Setting.{Setting}
 use Rattle.expressions.specs.Reader.{raise, answer}
 use Rattle.records.specs.declared.spans.Span.{Span}
 use Rattle.records.specs.declared.diagnostics.Diagnostic.{Diagnostic}
 use Rattle.records.specs.declared.counters.Counters.{Counters}
 use Rattle.operand.specs.Forms.{suffixRead}
-use Rattle.operand.specs.Operand.{scaleOf}
+use Rattle.operand.specs.Operand.{scaleOf, indexScale, indexSize}
+use Rattle.operand.specs.declared.forms.Register.{Register}
 use Rattle.names.specs.Choice.{either}
 use Rattle.parser.specs.Steps.{Raised, Told, Same}
+use Rattle.parser.specs.Tests.{sizedIndex}
 use Rattle.operand.specs.declared.forms.SuffixRead.{SuffixRead}
 use Rattle.operand.specs.declared.forms.SuffixStep.{SuffixStep}
-use Rattle.parser.proofs.Paths.{answered, raised, raised-as, raised-same, chosen, unchosen}
+use Rattle.parser.proofs.Paths.{answered, raised, raised-as, raised-same, chosen, unchosen, hit-same}
 
 -- ---- a size suffix
 
@@ -88,3 +95,15 @@ module _ (t : Token) (x L T D : List ℕ) (c : Counters) where
       → Told (λ z. z) (Same (c .nodes)) (valued t (numberOf (t .detail) x)) L T D D′ c 0 m
   unfolding valued
   value-large e w h = rw e (raised (raised-as w h) (answered refl refl (raised-same h)))
+
+-- behind the token of a suffix
+pub suffix-taken : (from : ℕ) {L T D D′ : List ℕ} {c c₁ : Counters} {v : SuffixRead} {r : Counters} {k : Token} → tokenAt T (c .at) ≡ peeked.Is k → k .kind ≡ Kinds.sizeSuffix → c₁ ≡ stepped c k
+    → Told suffixRead (Same (c₁ .nodes)) (suffixRun from k (runOf (textOf L (k .start) (k .end)))) L T D D′ c₁ v r → Told suffixRead (Same (c .nodes)) (takeSizeSuffix from) L T D D′ c v r
+unfolding takeSizeSuffix
+suffix-taken from h e step g = hit-same h (eq-eqb _ Kinds.sizeSuffix e) step g
+
+-- an index with its suffix, as the code has it
+pub index-sized : (s : Setting) (shape : ℕ) (q : Register) (b : Bool) (z : Suffix) → indexScale s shape (sizedIndex q b (suffixRead z)) ≡ indexSize s shape q b z
+unfolding indexSize sizedIndex suffixRead
+index-sized s shape q b (suffixed n t) = refl
+index-sized s shape q b bare = refl

@@ -43,8 +43,7 @@ pub record FailTold (p : Reader (Maybe Operand)) (T D D′ : List ℕ) (c : Coun
   pub told : (L : List ℕ) (y : Displacement) → Told operandRead (Kept (c .nodes) y) p L T D D′ c (r .operand) (r .counters)
 
 -- a size stands at the place i
-pub record SizeAt (T : List ℕ) (i : ℕ) : Type 0 where
-  pub token : Token
+pub record SizeAt (T : List ℕ) (i : ℕ) (token : Token) : Type 0 where
   pub stands : tokenAt T i ≡ peeked.Is token
   pub kind : token .kind ≡ Kinds.sizeSuffix
 

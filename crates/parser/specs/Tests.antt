@@ -11,13 +11,15 @@ use Rattle.names.specs.Registers.{registerOf, suppressedOf}
 use Rattle.names.specs.declared.tokens.Token.{Token}
 use Rattle.names.specs.declared.registers.Reg.{Reg}
 use Rattle.names.specs.declared.registers.Suppressed.{Suppressed}
-use Rattle.records.specs.Spans.{spanOf}
+use Rattle.records.specs.Spans.{span, spanOf}
 use Rattle.expressions.specs.Laws.{holds}
 use Rattle.expressions.specs.Reader.{any}
 use Rattle.expressions.specs.declared.reading.Setting.{Setting}
 use Rattle.operand.specs.Operand.{aRegister, anAddressRegister, aProgramCounter, unmarked, isSuppressed, closes, sizeOrScale}
 use Rattle.operand.specs.declared.forms.Register.{Register}
 use Rattle.operand.specs.declared.forms.BaseRegister.{BaseRegister}
+use Rattle.operand.specs.declared.forms.IndexRegister.{IndexRegister}
+use Rattle.operand.specs.declared.forms.SuffixRead.{SuffixRead}
 
 -- the register that a token is
 unfoldable pub regAt : Token → List ℕ → Reg
@@ -80,3 +82,9 @@ isBase BaseRegister.ProgramCounter = true
 isBase (BaseRegister.SuppressedAddress n) = true
 isBase BaseRegister.SuppressedProgramCounter = true
 isBase BaseRegister.Omitted = false
+
+-- an index with the size of its suffix, if it has one
+unfoldable pub sizedIndex : Register → Bool → SuffixRead → IndexRegister
+sizedIndex r suppressed SuffixRead.Not = record { register = r; size = 0; scale = 0; suppressed = suppressed; span = r .span }
+sizedIndex r suppressed (SuffixRead.Is x) =
+    record { register = r; size = x .size; scale = 0; suppressed = suppressed; span = span (r .span .start) (x .span .end) }

@@ -2,7 +2,9 @@
 use crate::indexes::expect_close;
 use crate::indexes::parse_index_register;
 use crate::places::address_register_at;
+use crate::places::is_base;
 use crate::places::program_counter_at;
+use crate::places::register_of;
 use crate::reports::malformed;
 use crate::reports::not_an_address_register;
 use crate::reports::unclosed;
@@ -26,15 +28,17 @@ use operand::Register;
 use operand::SizedDisplacement;
 use records::Counters;
 use records::Span;
-use records::span_of;
 ghost use mathlib.Core.Path.{_≡_};
+ghost use mathlib.Core.Bool.{true};
 ghost use mathlib.Core.List.{List};
 ghost use Prim.Native.Nat.{ℕ, _≤_, _<_};
+ghost use Rattle.names.specs.Places.{textOf};
 ghost use Rattle.records.specs.Rooms.{Room};
 ghost use Rattle.operand.specs.Operands.{Displacement};
-ghost use Rattle.operand.specs.Operand.{baseShape, closedBase, afterBase, closedCounter, afterCounter, parseBaseAndIndex, closeIndex, baseAndIndex};
+ghost use Rattle.operand.specs.Operand.{baseShape, closedBase, closedCounter, parseBaseAndIndex, closeIndex, baseAndIndex};
 ghost use Rattle.operand.specs.Forms.{sizedOf};
 ghost use Rattle.parser.specs.Steps.{BaseTold, IndexedTold};
+ghost use Rattle.parser.specs.Bases.{isUnsuppressed, unsuppressedBase, openShape, indexShape, indexForm, closed, behindBase};
 
 // The shape of an operand whose base is wrong, by whether it has a displacement.
 fn base_shape(d: SizedDisplacement) -> u16
@@ -142,43 +146,6 @@ fn closed_base(
     }
 }
 
-fn after_base(
-    line: &[u8],
-    tokens: &[u16],
-    diagnostics: &mut [u16],
-    c: Counters,
-    s: Setting,
-    paren: Token,
-    d: SizedDisplacement,
-    register: Register,
-) -> OperandStep
-    requires { ⌜ Room (now tokens) c 0 1 ⌝ }
-    ensures { λ r. ⌜ BaseTold (λ y. afterBase s paren y register) (now (line .entry)) (now (tokens .entry)) (now (diagnostics .entry)) (now (diagnostics .exit)) c d r ⌝ }
-{
-    let at = c.at as usize;
-    let p = names::token_at(tokens, at);
-    let Peeked::Is(t) = p else {
-        return no_operand(unclosed(diagnostics, c, s, paren, base_shape(d), 3));
-    };
-    let kind = t.kind;
-    match kind {
-        kinds::RIGHT_PAREN => closed_base(tokens, step_over(c, t), s, d, register, t),
-        kinds::COMMA => base_and_index(
-            line,
-            tokens,
-            diagnostics,
-            step_over(c, t),
-            s,
-            paren,
-            6,
-            9,
-            d,
-            BaseRegister::Address(register),
-        ),
-        _ => no_operand(unclosed(diagnostics, c, s, paren, base_shape(d), 3)),
-    }
-}
-
 // Behind the parenthesis that closes the program counter alone.
 fn closed_counter(
     diagnostics: &mut [u16],
@@ -203,7 +170,56 @@ fn closed_counter(
     }
 }
 
-fn after_counter(
+// Behind the parenthesis that closes the base.
+fn closed(
+    tokens: &[u16],
+    diagnostics: &mut [u16],
+    c: Counters,
+    s: Setting,
+    d: SizedDisplacement,
+    base: BaseRegister,
+    close: Token,
+) -> OperandStep
+    requires { ⌜ (c .at ≤ 1023) × (c .diagnostics < 65535) ⌝ }
+    ensures { λ r. ⌜ ((L : List ℕ) → BaseTold (λ y. closed s base y close) L (now (tokens .entry)) (now (diagnostics .entry)) (now (diagnostics .exit)) c d r) ⌝ }
+{
+    if let BaseRegister::Address(register) = base {
+        return closed_base(tokens, c, s, d, register, close);
+    }
+    closed_counter(diagnostics, c, s, d, close)
+}
+
+// The shape of an operand whose parenthesis never closes behind its base.
+fn open_shape(base: BaseRegister, d: SizedDisplacement) -> u16
+    ensures { λ r. ⌜ ((y : Displacement) → sizedOf 0 y ≡ d → r ≡ openShape base y) ⌝ }
+{
+    if let BaseRegister::Address(_) = base {
+        return base_shape(d);
+    }
+    7
+}
+
+// The shape and the form of an operand that has an index behind its base.
+fn index_shape(base: BaseRegister) -> u16
+    ensures { λ r. ⌜ r ≡ indexShape base ⌝ }
+{
+    if let BaseRegister::Address(_) = base {
+        return 6;
+    }
+    8
+}
+
+fn index_form(base: BaseRegister) -> u8
+    ensures { λ r. ⌜ r ≡ indexForm base ⌝ }
+{
+    if let BaseRegister::Address(_) = base {
+        return 9;
+    }
+    11
+}
+
+// Behind an address register or the program counter. Both go on in one call, which the compiler then puts in place.
+fn after_base(
     line: &[u8],
     tokens: &[u16],
     diagnostics: &mut [u16],
@@ -211,18 +227,19 @@ fn after_counter(
     s: Setting,
     paren: Token,
     d: SizedDisplacement,
+    base: BaseRegister,
 ) -> OperandStep
-    requires { ⌜ Room (now tokens) c 0 1 ⌝ }
-    ensures { λ r. ⌜ BaseTold (λ y. afterCounter s paren y) (now (line .entry)) (now (tokens .entry)) (now (diagnostics .entry)) (now (diagnostics .exit)) c d r ⌝ }
+    requires { ⌜ Room (now tokens) c 0 1 × (isUnsuppressed base ≡ true) ⌝ }
+    ensures { λ r. ⌜ BaseTold (λ y. behindBase s paren base y) (now (line .entry)) (now (tokens .entry)) (now (diagnostics .entry)) (now (diagnostics .exit)) c d r ⌝ }
 {
     let at = c.at as usize;
     let p = names::token_at(tokens, at);
     let Peeked::Is(t) = p else {
-        return no_operand(unclosed(diagnostics, c, s, paren, 7, 3));
+        return no_operand(unclosed(diagnostics, c, s, paren, open_shape(base, d), 3));
     };
     let kind = t.kind;
     match kind {
-        kinds::RIGHT_PAREN => closed_counter(diagnostics, step_over(c, t), s, d, t),
+        kinds::RIGHT_PAREN => closed(tokens, diagnostics, step_over(c, t), s, d, base, t),
         kinds::COMMA => base_and_index(
             line,
             tokens,
@@ -230,13 +247,27 @@ fn after_counter(
             step_over(c, t),
             s,
             paren,
-            8,
-            11,
+            index_shape(base),
+            index_form(base),
             d,
-            BaseRegister::ProgramCounter,
+            base,
         ),
-        _ => no_operand(unclosed(diagnostics, c, s, paren, 7, 3)),
+        _ => no_operand(unclosed(diagnostics, c, s, paren, open_shape(base, d), 3)),
     }
+}
+
+// The base that a token is where none may be suppressed: an address register or the program counter.
+fn unsuppressed_base(line: &[u8], token: Token) -> BaseRegister
+    ensures { λ r. ⌜ r ≡ unsuppressedBase token (textOf (now (line .entry)) (token .start) (token .end)) ⌝ }
+{
+    let r = address_register_at(line, token);
+    if let Reg::Is(index) = r {
+        return BaseRegister::Address(register_of(index, token));
+    }
+    if program_counter_at(line, token) {
+        return BaseRegister::ProgramCounter;
+    }
+    BaseRegister::Omitted
 }
 
 pub(crate) fn parse_base_and_index(
@@ -257,16 +288,9 @@ pub(crate) fn parse_base_and_index(
         return no_operand(unclosed(diagnostics, c, s, paren, base_shape(d), 5));
     };
     let e = step_over(c, t);
-    let r = address_register_at(line, t);
-    if let Reg::Is(index) = r {
-        let register = Register {
-            index: index,
-            span: span_of(t),
-        };
-        return after_base(line, tokens, diagnostics, e, s, paren, d, register);
-    }
-    if program_counter_at(line, t) {
-        return after_counter(line, tokens, diagnostics, e, s, paren, d);
+    let base = unsuppressed_base(line, t);
+    if is_base(base) {
+        return after_base(line, tokens, diagnostics, e, s, paren, d, base);
     }
     no_operand(not_an_address_register(diagnostics, e, s, base_shape(d), t))
 }

@@ -3,6 +3,7 @@ use crate::indexes::expect_close;
 use crate::indexes::parse_index_register;
 use crate::places::base_at;
 use crate::places::is_an_index_at;
+use crate::places::is_base;
 use crate::reports::stepped_over;
 use crate::steps::an_operand;
 use crate::steps::indexed;
@@ -28,7 +29,6 @@ ghost use Rattle.records.specs.Rooms.{Room};
 ghost use Rattle.operand.specs.Operand.{afterBaseRegister, noBase, parseBaseAndIndexRegisters, parseFullIndex, withIndex, commaAndIndex};
 ghost use Rattle.operand.specs.Forms.{registersRead};
 ghost use Rattle.parser.specs.Steps.{Told, Same, TailTold};
-ghost use Rattle.parser.specs.Tests.{isBase};
 ghost use Rattle.operand.specs.declared.forms.RegistersRead.{RegistersRead};
 
 fn registers(base: BaseRegister, index: Index, c: Counters) -> RegistersStep
@@ -145,18 +145,6 @@ fn no_base(
         );
     }
     no_registers(stepped_over(tokens, diagnostics, c, s, shape, 11))
-}
-
-fn is_base(base: BaseRegister) -> bool
-    ensures { λ r. ⌜ r ≡ isBase base ⌝ }
-{
-    match base {
-        BaseRegister::Address(_) => true,
-        BaseRegister::ProgramCounter => true,
-        BaseRegister::SuppressedAddress(_) => true,
-        BaseRegister::SuppressedProgramCounter => true,
-        BaseRegister::Omitted => false,
-    }
 }
 
 pub(crate) fn parse_base_and_index_registers(

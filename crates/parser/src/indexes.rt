@@ -39,12 +39,13 @@ ghost use Rattle.expressions.specs.Expressions.{suffixRun, takeSizeSuffix};
 ghost use Rattle.operand.specs.Operand.{expectClose, scaleOf, scaled, scaleValue, indexScale, indexRegister, parseIndexRegister};
 ghost use Rattle.operand.specs.Forms.{suffixRead, closeRead, indexRead};
 ghost use Rattle.parser.specs.Steps.{Told, Same};
+ghost use Rattle.parser.specs.Tests.{sizedIndex};
 ghost use Rattle.operand.specs.declared.forms.Close.{Close};
 ghost use Rattle.operand.specs.declared.forms.IndexRead.{IndexRead};
 ghost use Rattle.operand.specs.declared.forms.SuffixRead.{SuffixRead};
 
 // Behind the token of a size suffix. A run of two letters or more is a dot inside a name, which began at `from`.
-fn suffix_run(
+pub(crate) fn suffix_run(
     line: &[u8],
     diagnostics: &mut [u16],
     c: Counters,
@@ -311,6 +312,17 @@ fn unscaled(register: Register, size: u8, suppressed: bool, end: u16) -> IndexRe
     }
 }
 
+// An index with the size of its suffix, if it has one.
+fn sized_index(register: Register, suppressed: bool, suffix: SuffixRead) -> IndexRegister
+    ensures { λ r. ⌜ r ≡ sizedIndex register suppressed suffix ⌝ }
+{
+    let own = register.span;
+    match suffix {
+        SuffixRead::Not => unscaled(register, 0, suppressed, own.end),
+        SuffixRead::Is(x) => unscaled(register, x.size, suppressed, x.span.end),
+    }
+}
+
 // Behind the register of an index.
 fn index_register(
     line: &[u8],
@@ -330,16 +342,8 @@ fn index_register(
     let z = take_size_suffix(line, tokens, diagnostics, c, start);
     let e = z.counters;
     let suffix = z.suffix;
-    match suffix {
-        SuffixRead::Not => {
-            let x = unscaled(register, 0, suppressed, own.end);
-            index_scale(line, tokens, diagnostics, e, s, shape, x)
-        }
-        SuffixRead::Is(size) => {
-            let x = unscaled(register, size.size, suppressed, size.span.end);
-            index_scale(line, tokens, diagnostics, e, s, shape, x)
-        }
-    }
+    let x = sized_index(register, suppressed, suffix);
+    index_scale(line, tokens, diagnostics, e, s, shape, x)
 }
 
 pub(crate) fn parse_index_register(

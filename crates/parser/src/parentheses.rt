@@ -4,7 +4,7 @@ use crate::bases::parse_base_and_index;
 use crate::expressed::expression_at;
 use crate::expressed::expression_behind;
 use crate::full::parse_full_index;
-use crate::indexes::take_size_suffix;
+use crate::indexes::suffix_run;
 use crate::indirect::parse_memory_indirect;
 use crate::places::starts_a_base;
 use crate::places::starts_a_full_index;
@@ -122,7 +122,7 @@ fn after_comma(
     parse_base_and_index(line, tokens, diagnostics, c, s, paren, d)
 }
 
-// A size behind the expression, where a comma must follow.
+// A size behind the expression, which has been seen, where a comma must follow.
 fn sized_base(
     line: &[u8],
     tokens: &[u16],
@@ -131,8 +131,9 @@ fn sized_base(
     s: Setting,
     paren: Token,
     value: Span,
+    suffix: Token,
 ) -> OperandStep
-    requires { ⌜ Room (now tokens) c 1 1 × SizeAt (now tokens) (c .at) ⌝ }
+    requires { ⌜ Room (now tokens) c 1 1 × SizeAt (now tokens) (c .at) suffix ⌝ }
     ensures { λ r. ⌜ TreeTold (λ e. sizeAndBase s paren e) (now (line .entry)) (now (tokens .entry)) (now (diagnostics .entry)) (now (diagnostics .exit)) c value r ⌝ }
 {
     let at = c.at as usize;
@@ -143,10 +144,10 @@ fn sized_base(
     if t.kind != kinds::COMMA {
         return unexpected(tokens, diagnostics, c, paren);
     }
-    let x = take_size_suffix(line, tokens, diagnostics, c, value.start);
+    let x = suffix_run(line, diagnostics, step_over(c, suffix), value.start, suffix);
     let e = x.counters;
-    let suffix = x.suffix;
-    match suffix {
+    let size = x.suffix;
+    match size {
         SuffixRead::Not => {
             let d = last_tree(e, 0);
             parse_full_index(line, tokens, diagnostics, step_over(e, t), s, paren, d)
@@ -186,7 +187,7 @@ fn after_expression(
             let e = step_over(c, t);
             grouped_operand(line, tokens, nodes, diagnostics, e, s, paren)
         }
-        kinds::SIZE_SUFFIX => sized_base(line, tokens, diagnostics, c, s, paren, value),
+        kinds::SIZE_SUFFIX => sized_base(line, tokens, diagnostics, c, s, paren, value, t),
         _ => unexpected(tokens, diagnostics, c, paren),
     }
 }

@@ -21,7 +21,7 @@ ghost use Rattle.names.specs.declared.registers.Suppressed.{Suppressed};
 ghost use Rattle.expressions.specs.Laws.{holds};
 ghost use Rattle.expressions.specs.Reader.{any};
 ghost use Rattle.operand.specs.Operand.{aRegister, anAddressRegister, aProgramCounter, anIndex, aBaseOrAnIndex, closes, sizeOrScale};
-ghost use Rattle.parser.specs.Tests.{addressOf, regAt, suppressedAt, suppressedReg, fullIndexStarts, baseStarts, addressBase, suppressedBase, baseAt};
+ghost use Rattle.parser.specs.Tests.{addressOf, regAt, suppressedAt, suppressedReg, fullIndexStarts, baseStarts, addressBase, suppressedBase, baseAt, isBase};
 ghost use Rattle.operand.specs.declared.forms.BaseRegister.{BaseRegister};
 
 pub(crate) fn register_at(line: &[u8], token: Token) -> Reg
@@ -287,4 +287,16 @@ fn suppressed_address(index: u8) -> BaseRegister
         return BaseRegister::Omitted;
     }
     BaseRegister::SuppressedAddress(index - 8)
+}
+
+pub(crate) fn is_base(base: BaseRegister) -> bool
+    ensures { λ r. ⌜ r ≡ isBase base ⌝ }
+{
+    match base {
+        BaseRegister::Address(_) => true,
+        BaseRegister::ProgramCounter => true,
+        BaseRegister::SuppressedAddress(_) => true,
+        BaseRegister::SuppressedProgramCounter => true,
+        BaseRegister::Omitted => false,
+    }
 }

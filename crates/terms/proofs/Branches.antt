@@ -129,18 +129,6 @@ module _ (room : ℕ) (at : ℕ → Place) (i l : ℕ) where
       unfolding run parsePrefixTerm met
       prefix-leaf n a b = rw step (rw (h, met, n, ne-eqb (k .kind) Kinds.plus a, ne-eqb (k .kind) Kinds.leftParen b))
 
-pub unary-minus : (k : Token) (x : List ℕ) → k .kind ≡ Kinds.minus → isUnary k x ≡ true
-unfolding isUnary
-unary-minus k x e = rw e
-
-pub unary-tilde : (k : Token) (x : List ℕ) → k .kind ≡ Kinds.tilde → isUnary k x ≡ true
-unfolding isUnary
-unary-tilde k x e = rw e
-
-pub unary-not : (k : Token) (x : List ℕ) → (k .kind ≡ Kinds.minus → ⊥) → (k .kind ≡ Kinds.tilde → ⊥) → isUnary k x ≡ false
-unfolding isUnary
-unary-not k x a b = rw (ne-eqb (k .kind) Kinds.minus a, ne-eqb (k .kind) Kinds.tilde b)
-
 -- ---- behind a first reader p, by what it answers
 
 module _ (p : Reader Term) (at : ℕ → Place) (i l : ℕ) (k : Token) (s : Reading Term) (es : s ≡ run p at i l) where

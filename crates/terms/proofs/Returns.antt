@@ -1,7 +1,7 @@
 -- What the returns of the terms and of the expression show: each cites its branch equation.
 -- Assumes nothing.
 use mathlib.Core.Path.{_≡_, refl, sym, _∙_, ap, ap₂, subst}
-use mathlib.Core.Bool.{true}
+use mathlib.Core.Bool.{true, false}
 use mathlib.Core.List.{List, [], _∷_, _++_, append-assoc, append-nil}
 use Prim.Native.Nat.{ℕ, _+_, _-_, _*_, _<_, _≤_}
 use native.Mathlib.Omega.{arith}
@@ -152,27 +152,21 @@ module _ (L T N D : List ℕ) (c : Counters) (room : ℕ) (on : c .at ≤ count 
         behind : {p : Reader Term} → BehindTold p L T N D N′ D′ q r → Spared N N′ c (r .counters)
         behind h j b = h .past j (omega (arith, b, ap (λ z. z .at) step, ap (λ z. z .nodes) step))
 
-        unary-tells : isUnary k text ≡ true → BehindTold (unaryTerm (room - 1) k) L T N D N′ D′ q r → PrefixTold L T N D N′ D′ c room r
-        unary-tells u h = prefix-is _ (branch.prefix-unary room (place L T) (c .at) (c .end) more k text there u) N′ D′ r (behind h) ((rw step at h) .told)
+        pub prefix-unary : isUnary k text ≡ true → BehindTold (unaryTerm (room - 1) k) L T N D N′ D′ q r → PrefixTold L T N D N′ D′ c room r
+        prefix-unary u h = prefix-is _ (branch.prefix-unary room (place L T) (c .at) (c .end) more k text there u) N′ D′ r (behind h) ((rw step at h) .told)
 
-        pub prefix-minus : k .kind ≡ Kinds.minus → BehindTold (unaryTerm (room - 1) k) L T N D N′ D′ q r → PrefixTold L T N D N′ D′ c room r
-        prefix-minus e h = unary-tells (branch.unary-minus k text e) h
+        pub prefix-plus : isUnary k text ≡ false → k .kind ≡ Kinds.plus → BehindTold (plusTerm (room - 1) k) L T N D N′ D′ q r → PrefixTold L T N D N′ D′ c room r
+        prefix-plus u e h =
+            prefix-is _ (branch.prefix-plus room (place L T) (c .at) (c .end) more k text there u e) N′ D′ r (behind h) ((rw step at h) .told)
 
-        pub prefix-tilde : k .kind ≡ Kinds.tilde → BehindTold (unaryTerm (room - 1) k) L T N D N′ D′ q r → PrefixTold L T N D N′ D′ c room r
-        prefix-tilde e h = unary-tells (branch.unary-tilde k text e) h
+        pub prefix-group : isUnary k text ≡ false → k .kind ≡ Kinds.leftParen → BehindTold (groupTerm (room - 1) k) L T N D N′ D′ q r → PrefixTold L T N D N′ D′ c room r
+        prefix-group u e h =
+            prefix-is _ (branch.prefix-group room (place L T) (c .at) (c .end) more k text there u e) N′ D′ r (behind h) ((rw step at h) .told)
 
-        pub prefix-plus : k .kind ≡ Kinds.plus → BehindTold (plusTerm (room - 1) k) L T N D N′ D′ q r → PrefixTold L T N D N′ D′ c room r
-        prefix-plus e h =
-            prefix-is _ (branch.prefix-plus room (place L T) (c .at) (c .end) more k text there (branch.unary-not k text (λ f. omega arith) (λ f. omega arith)) e) N′ D′ r (behind h) ((rw step at h) .told)
-
-        pub prefix-group : k .kind ≡ Kinds.leftParen → BehindTold (groupTerm (room - 1) k) L T N D N′ D′ q r → PrefixTold L T N D N′ D′ c room r
-        prefix-group e h =
-            prefix-is _ (branch.prefix-group room (place L T) (c .at) (c .end) more k text there (branch.unary-not k text (λ f. omega arith) (λ f. omega arith)) e) N′ D′ r (behind h) ((rw step at h) .told)
-
-      pub prefix-leaf : {N′ D′ : List ℕ} {r : Step} → (k .kind ≡ Kinds.minus → ⊥) → (k .kind ≡ Kinds.tilde → ⊥) → (k .kind ≡ Kinds.plus → ⊥) → (k .kind ≡ Kinds.leftParen → ⊥)
+      pub prefix-leaf : {N′ D′ : List ℕ} {r : Step} → isUnary k text ≡ false → (k .kind ≡ Kinds.plus → ⊥) → (k .kind ≡ Kinds.leftParen → ⊥)
           → TokenTold leafTerm k text N D N′ D′ c r → PrefixTold L T N D N′ D′ c room r
-      prefix-leaf a b e f h =
-          prefix-is _ (branch.prefix-leaf room (place L T) (c .at) (c .end) more k text there (branch.unary-not k text a b) e f) _ _ _ (h .past) (h .told (place L T) there)
+      prefix-leaf u e f h =
+          prefix-is _ (branch.prefix-leaf room (place L T) (c .at) (c .end) more k text there u e f) _ _ _ (h .past) (h .told (place L T) there)
 
 -- ---- behind a minus or a tilde: the term there answers r
 

@@ -1,94 +1,64 @@
-// Levels and numbers of operators, by the kind of their token.
+// Levels and numbers of operators, by the kind of their token. The kinds stand in the order of the levels, with the tilde between the
+// third and the fourth.
+use names::Token;
 use names::kinds;
 ghost use mathlib.Core.Path.{_≡_};
-ghost use Rattle.expressions.specs.Expressions.{precedence, binaryOperator, unaryOperator};
+ghost use mathlib.Core.List.{List};
+ghost use Prim.Native.Nat.{ℕ};
+ghost use Rattle.expressions.specs.Expressions.{precedence, binaryOperator, isUnary, unaryOperator};
 
-// The level of each kind of token as a binary operator, 0 for a kind that is none.
-const LEVELS: [u8; 30] = [
-    0,
-    0,
-    0,
-    0,
-    0,
-    0,
-    0,
-    0,
-    0,
-    0,
-    0,
-    0,
-    0,
-    0,
-    1, // +
-    1, // -
-    2, // *
-    2, // /
-    2, // \
-    3, // &
-    3, // !
-    3, // |
-    3, // ^
-    0,
-    4, // <<
-    4, // >>
-    0,
-    0,
-    0,
-    0,
-];
-
-// The number of each kind as a binary operator, 9 for a kind that is none.
-const OPERATORS: [u16; 30] = [
-    9,
-    9,
-    9,
-    9,
-    9,
-    9,
-    9,
-    9,
-    9,
-    9,
-    9,
-    9,
-    9,
-    9,
-    0,
-    1,
-    2,
-    3,
-    4,
-    5,
-    6,
-    6,
-    7,
-    9,
-    8,
-    9,
-    9,
-    9,
-    9,
-    9,
-];
-
+// The level of a kind of token as a binary operator, 0 for a kind that is none.
 pub(crate) fn precedence(kind: u16) -> u8
     ensures { λ r. ⌜ r ≡ precedence kind ⌝ }
 {
-    if 30 <= kind {
+    if kind < kinds::PLUS {
         return 0;
     }
-    let i = kind as usize;
-    LEVELS[i]
+    if kind < kinds::STAR {
+        return 1;
+    }
+    if kind < kinds::AMPERSAND {
+        return 2;
+    }
+    if kind < kinds::TILDE {
+        return 3;
+    }
+    if kind == kinds::TILDE {
+        return 0;
+    }
+    if kind <= kinds::SHIFT_RIGHT {
+        return 4;
+    }
+    0
 }
 
+// The number of a kind as a binary operator, 9 for a kind that is none.
 pub(crate) fn binary_operator(kind: u16) -> u16
     ensures { λ r. ⌜ r ≡ binaryOperator kind ⌝ }
 {
-    if 30 <= kind {
+    if kind < kinds::PLUS {
         return 9;
     }
-    let i = kind as usize;
-    OPERATORS[i]
+    if kind < kinds::PIPE {
+        return kind - kinds::PLUS;
+    }
+    // Either sign of or is the same operator.
+    if kind < kinds::TILDE {
+        return kind - kinds::MINUS;
+    }
+    if kind == kinds::SHIFT_LEFT {
+        return 8;
+    }
+    9
+}
+
+pub(crate) fn is_unary(token: Token) -> bool
+    ensures { λ r. ⌜ ((x : List ℕ) → r ≡ isUnary token x) ⌝ }
+{
+    if token.kind == kinds::MINUS {
+        return true;
+    }
+    token.kind == kinds::TILDE
 }
 
 // A unary operator's number.

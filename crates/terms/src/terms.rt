@@ -3,6 +3,7 @@ use crate::leaf::ABSENT;
 use crate::leaf::parse_leaf;
 use crate::leaf::put_operator;
 use crate::levels::binary_operator;
+use crate::levels::is_unary;
 use crate::levels::precedence;
 use crate::levels::unary_operator;
 use crate::reports::expected_after;
@@ -101,9 +102,10 @@ fn parse_prefix(
             let kind = t.kind;
             let next = step_over(c, t);
             let less = room - 1;
+            if is_unary(t) {
+                return parse_unary(line, tokens, nodes, diagnostics, next, t, less);
+            }
             match kind {
-                kinds::MINUS => parse_unary(line, tokens, nodes, diagnostics, next, t, less),
-                kinds::TILDE => parse_unary(line, tokens, nodes, diagnostics, next, t, less),
                 kinds::PLUS => parse_plus(line, tokens, nodes, diagnostics, next, t, less),
                 kinds::LEFT_PAREN => parse_group(line, tokens, nodes, diagnostics, next, t, less),
                 _ => parse_leaf(line, nodes, diagnostics, c, t),

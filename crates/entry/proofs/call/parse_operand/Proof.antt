@@ -18,8 +18,8 @@ returns c =
     let c-if1 = c .if1 in
     let a : Input = call (c-args .line .now) (c-args .tokens .now) (c-args .start) (c-args .mark) (c-args .nodes .now) (c-args .diagnostics .now) (c-args .used) in line-refused a (c-refuse-line-and-list .ensures) (λ e. omega (arith, c-if1 .taken))
 
-read-16-requires : tie.Need-read-16-requires
-read-16-requires c κs = search needs
+read-8-requires : tie.Need-read-8-requires
+read-8-requires c κs = search needs
 
 same-length : tie.Need-same-length
 same-length c = search needs
@@ -30,8 +30,8 @@ same-length-2 c = search needs
 returns-2 : tie.Need-returns-2
 returns-2 c = search needs
 
-read-64-requires : tie.Need-read-64-requires
-read-64-requires c κs = search needs
+read-16-requires : tie.Need-read-16-requires
+read-16-requires c κs = search needs
 
 same-length-3 : tie.Need-same-length-3
 same-length-3 c = search needs
@@ -42,12 +42,8 @@ same-length-4 c = search needs
 returns-3 : tie.Need-returns-3
 returns-3 c = search needs
 
-read-255-requires : tie.Need-read-255-requires
-read-255-requires c κs =
-    let c-refuse-line-and-list = c .before .before .before .before .before .refuse-line-and-list in
-    let c-if1 = c .before .before .before .before .if1 in
-    let c-args = c .before .before .before .before .before .before .before .before .before .before .args in
-    record { passed = sym (c-refuse-line-and-list .ensures) ∙ omega (arith, c-if1 .left); few = whole-list (c-args .line .now) (c-args .tokens .now) (sym (c-refuse-line-and-list .ensures) ∙ omega (arith, c-if1 .left)) .1 }
+read-64-requires : tie.Need-read-64-requires
+read-64-requires c κs = search needs
 
 same-length-5 : tie.Need-same-length-5
 same-length-5 c = search needs
@@ -58,21 +54,41 @@ same-length-6 c = search needs
 returns-4 : tie.Need-returns-4
 returns-4 c = search needs
 
+read-255-requires : tie.Need-read-255-requires
+read-255-requires c κs =
+    let c-refuse-line-and-list = c .before .before .before .before .before .before .refuse-line-and-list in
+    let c-if1 = c .before .before .before .before .before .if1 in
+    let c-args = c .before .before .before .before .before .before .before .before .before .before .before .args in
+    record { passed = sym (c-refuse-line-and-list .ensures) ∙ omega (arith, c-if1 .left); few = whole-list (c-args .line .now) (c-args .tokens .now) (sym (c-refuse-line-and-list .ensures) ∙ omega (arith, c-if1 .left)) .1 }
+
+same-length-7 : tie.Need-same-length-7
+same-length-7 c = search needs
+
+same-length-8 : tie.Need-same-length-8
+same-length-8 c = search needs
+
+returns-5 : tie.Need-returns-5
+returns-5 c = search needs
+
 pub parse-operand-spec : {M : Type 1} → statement M
 parse-operand-spec =
     tie.close
     (tie.spec
     refuse-line-and-list-requires
     returns
-    read-16-requires
+    read-8-requires
     same-length
     same-length-2
     returns-2
-    read-64-requires
+    read-16-requires
     same-length-3
     same-length-4
     returns-3
-    read-255-requires
+    read-64-requires
     same-length-5
     same-length-6
-    returns-4)
+    returns-4
+    read-255-requires
+    same-length-7
+    same-length-8
+    returns-5)

@@ -4,12 +4,14 @@ use mathlib.Core.Path.{refl, sym, _∙_, ap}
 use native.Mathlib.Omega.{arith}
 use borrow.Author.Tests.{eq-eqb, ne-eqb}
 use Rattle.names.specs.Kinds
-use Rattle.operand.specs.Operand.{afterBase}
+use Rattle.operand.specs.Operand.{baseAndIndex}
 use Rattle.operand.specs.Forms.{operandRead}
 use Rattle.names.specs.Places.{live}
-use Rattle.parser.proofs.Paths.{hit, miss, done, failed-unclosed}
+use Rattle.parser.specs.Bases.{indexedBy, behindBase}
+use Rattle.parser.proofs.Paths.{renamed, hit, miss, done, failed-unclosed}
 use Rattle.parser.proofs.Rooms.{room-step}
-use Rattle.parser.proofs.Tails.{kept-from, unclosed-shape, index-plain, no-operand-held}
+use Rattle.parser.proofs.Tails.{kept-from, unclosed-shape, no-operand-held}
+use Rattle.parser.proofs.Opened.{plain-with}
 use borrow.Author.Needs.{needs}
 use Rattle.parser.proofs.bases.after_base.Statement.{statement}
 use Rattle.parser.proofs.bases.after_base.Tie as tie
@@ -26,13 +28,13 @@ enum-known-p c = search needs
 enum-told : tie.Need-enum-told
 enum-told c = search needs
 
-base-shape-requires : tie.Need-base-shape-requires
-base-shape-requires c κs = search needs
+open-shape-requires : tie.Need-open-shape-requires
+open-shape-requires c κs = search needs
 
 unclosed-requires : tie.Need-unclosed-requires
 unclosed-requires c κs =
     let c-pre = c .before .before .before .before .before .before .before .before .before .pre in
-    omega (arith, c-pre)
+    omega (arith, c-pre .0)
 
 no-operand-requires : tie.Need-no-operand-requires
 no-operand-requires c κs = search needs
@@ -41,92 +43,105 @@ same-length : tie.Need-same-length
 same-length c = search needs
 
 returns : tie.Need-returns
-unfolding afterBase operandRead
+unfolding behindBase operandRead
 returns c =
     let c-token-at = c .before .before .before .before .before .before .before .before .token-at in
     let c-enum-told = c .before .before .before .before .before .before .enum-told in
-    let c-base-shape = c .before .before .before .before .base-shape in
+    let c-open-shape = c .before .before .before .before .open-shape in
     let c-unclosed = c .before .before .before .unclosed in
     let c-no-operand = c .no-operand in
-    record { told = λ y e z. done (sym (c-token-at .ensures) ∙ c-enum-told .given .1) (done (sym (c-token-at .ensures) ∙ c-enum-told .given .1) (failed-unclosed _ _ _ 3 (unclosed-shape 3 _ _ (c-base-shape .ensures y e) (c-unclosed .ensures)) (c-no-operand .ensures .0) (c-no-operand .ensures .1) (no-operand-held y (c-unclosed .ensures)))) }
+    record { told = λ y e z. done (sym (c-token-at .ensures) ∙ c-enum-told .given .1) (done (sym (c-token-at .ensures) ∙ c-enum-told .given .1) (failed-unclosed _ _ _ 3 (unclosed-shape 3 _ _ (c-open-shape .ensures y e) (c-unclosed .ensures)) (c-no-operand .ensures .0) (c-no-operand .ensures .1) (no-operand-held y (c-unclosed .ensures)))) }
 
 step-over-requires : tie.Need-step-over-requires
 step-over-requires c κs =
-    let c-pre = c .before .before .before .before .before .before .before .before .before .pre in
-    let c-token-at = c .before .before .before .before .token-at in
-    let c-p = c .before .before .p in
-    omega (arith, c-pre, live _ _ _ (sym (c-token-at .ensures) ∙ c-p .given .1))
-
-closed-base-requires : tie.Need-closed-base-requires
-closed-base-requires c κs =
     let c-pre = c .before .before .before .before .before .before .before .before .before .before .pre in
     let c-token-at = c .before .before .before .before .before .token-at in
     let c-p = c .before .before .before .p in
+    omega (arith, c-pre .0, live _ _ _ (sym (c-token-at .ensures) ∙ c-p .given .1))
+
+closed-requires : tie.Need-closed-requires
+closed-requires c κs =
+    let c-pre = c .before .before .before .before .before .before .before .before .before .before .before .pre in
+    let c-token-at = c .before .before .before .before .before .before .token-at in
+    let c-p = c .before .before .before .before .p in
     let c-step-over = c .step-over in
-    omega (arith, c-pre, live _ _ _ (sym (c-token-at .ensures) ∙ c-p .given .1), ap (λ z. z .at) (c-step-over .ensures))
+    (omega (arith, c-pre .0, live _ _ _ (sym (c-token-at .ensures) ∙ c-p .given .1), ap (λ z. z .at) (c-step-over .ensures)), omega (arith, c-pre .0, live _ _ _ (sym (c-token-at .ensures) ∙ c-p .given .1), ap (λ z. z .diagnostics) (c-step-over .ensures)))
 
 step-over-requires-2 : tie.Need-step-over-requires-2
 step-over-requires-2 c κs =
     let c-pre = c .before .before .before .before .before .before .before .before .before .before .pre in
     let c-token-at = c .before .before .before .before .before .token-at in
     let c-p = c .before .before .before .p in
-    omega (arith, c-pre, live _ _ _ (sym (c-token-at .ensures) ∙ c-p .given .1))
+    omega (arith, c-pre .0, live _ _ _ (sym (c-token-at .ensures) ∙ c-p .given .1))
+
+index-shape-requires : tie.Need-index-shape-requires
+index-shape-requires c κs = search needs
+
+index-form-requires : tie.Need-index-form-requires
+index-form-requires c κs = search needs
 
 base-and-index-requires : tie.Need-base-and-index-requires
 base-and-index-requires c κs =
-    let c-pre = c .before .before .before .before .before .before .before .before .before .before .before .pre in
-    let c-token-at = c .before .before .before .before .before .before .token-at in
-    let c-p = c .before .before .before .before .p in
-    let c-step-over2 = c .step-over2 in
-    room-step (c-pre) (sym (c-token-at .ensures) ∙ c-p .given .1) (c-step-over2 .ensures)
+    let c-pre = c .before .before .before .before .before .before .before .before .before .before .before .before .before .pre in
+    let c-token-at = c .before .before .before .before .before .before .before .before .token-at in
+    let c-p = c .before .before .before .before .before .before .p in
+    let c-step-over2 = c .before .before .step-over2 in
+    room-step (c-pre .0) (sym (c-token-at .ensures) ∙ c-p .given .1) (c-step-over2 .ensures)
 
-base-shape-requires-2 : tie.Need-base-shape-requires-2
-base-shape-requires-2 c κs = search needs
+open-shape-requires-2 : tie.Need-open-shape-requires-2
+open-shape-requires-2 c κs = search needs
 
 unclosed-requires-2 : tie.Need-unclosed-requires-2
 unclosed-requires-2 c κs =
     let c-pre = c .before .before .before .before .before .before .before .before .before .before .before .pre in
-    omega (arith, c-pre)
+    omega (arith, c-pre .0)
 
 no-operand-requires-2 : tie.Need-no-operand-requires-2
 no-operand-requires-2 c κs = search needs
 
-returns-2 : tie.Need-returns-2
-unfolding afterBase operandRead
-returns-2 c =
-    let c-token-at = c .before .before .before .before .before .before .token-at in
-    let c-p = c .before .before .before .before .p in
-    let c-match2 = c .before .before .match2 in
-    let c-step-over = c .before .step-over in
-    let c-closed-base = c .closed-base in
-    record { told = λ y e z. hit (sym (c-token-at .ensures) ∙ c-p .given .1) (eq-eqb _ Kinds.rightParen (c-match2 .keys1)) (c-step-over .ensures) (kept-from y (ap (λ w. w .nodes) (c-step-over .ensures)) (c-closed-base .ensures _ _ .told y e z)) }
-
 same-length-2 : tie.Need-same-length-2
 same-length-2 c = search needs
 
-returns-3 : tie.Need-returns-3
-unfolding afterBase operandRead
-returns-3 c =
+returns-2 : tie.Need-returns-2
+unfolding behindBase operandRead
+returns-2 c =
     let c-token-at = c .before .before .before .before .before .before .before .before .before .token-at in
     let c-p = c .before .before .before .before .before .before .before .p in
     let c-match2 = c .before .before .before .before .before .match2 in
-    let c-step-over2 = c .before .before .before .step-over2 in
-    let c-base-and-index = c .before .before .base-and-index in
-    record { told = λ y e z. miss (sym (c-token-at .ensures) ∙ c-p .given .1) (rw (c-match2 .keys2)) (hit (sym (c-token-at .ensures) ∙ c-p .given .1) (eq-eqb _ Kinds.comma (c-match2 .keys2)) (c-step-over2 .ensures) (kept-from y (ap (λ w. w .nodes) (c-step-over2 .ensures)) (c-base-and-index .ensures .told y e _ (index-plain _ y e)))) }
+    let c-step-over = c .before .before .before .step-over in
+    let c-closed = c .before .before .closed in
+    record { told = λ y e z. hit (sym (c-token-at .ensures) ∙ c-p .given .1) (eq-eqb _ Kinds.rightParen (c-match2 .keys1)) (c-step-over .ensures) (kept-from y (ap (λ w. w .nodes) (c-step-over .ensures)) (c-closed .ensures _ .told y e z)) }
 
 same-length-3 : tie.Need-same-length-3
 same-length-3 c = search needs
 
+returns-3 : tie.Need-returns-3
+unfolding behindBase operandRead
+returns-3 c =
+    let c-token-at = c .before .before .before .before .before .before .before .before .before .before .before .token-at in
+    let c-p = c .before .before .before .before .before .before .before .before .before .p in
+    let c-match2 = c .before .before .before .before .before .before .before .match2 in
+    let c-step-over2 = c .before .before .before .before .before .step-over2 in
+    let c-args = c .before .before .before .before .before .before .before .before .before .before .before .before .before .before .before .before .args in
+    let c-index-shape = c .before .before .before .before .index-shape in
+    let c-base-and-index = c .before .before .base-and-index in
+    let c-index-form = c .before .before .before .index-form in
+    let c-pre = c .before .before .before .before .before .before .before .before .before .before .before .before .before .before .before .before .pre in
+    record { told = λ y e z. miss (sym (c-token-at .ensures) ∙ c-p .given .1) (rw (c-match2 .keys2)) (hit (sym (c-token-at .ensures) ∙ c-p .given .1) (eq-eqb _ Kinds.comma (c-match2 .keys2)) (c-step-over2 .ensures) (kept-from y (ap (λ w. w .nodes) (c-step-over2 .ensures)) (renamed (ap (λ n. baseAndIndex (c-args .s) (c-args .paren) n (c-args .base) y (indexedBy (c-args .base) y)) (c-index-shape .ensures)) (c-base-and-index .ensures .told y e (indexedBy (c-args .base) y) (plain-with (c-args .base) y (c-index-form .ensures) (c-pre .1) e))))) }
+
+same-length-4 : tie.Need-same-length-4
+same-length-4 c = search needs
+
 returns-4 : tie.Need-returns-4
-unfolding afterBase operandRead
+unfolding behindBase operandRead
 returns-4 c =
     let c-token-at = c .before .before .before .before .before .before .before .before .before .before .token-at in
     let c-p = c .before .before .before .before .before .before .before .before .p in
     let c-match2 = c .before .before .before .before .before .before .match2 in
-    let c-base-shape2 = c .before .before .before .before .base-shape2 in
+    let c-open-shape2 = c .before .before .before .before .open-shape2 in
     let c-unclosed2 = c .before .before .before .unclosed2 in
     let c-no-operand2 = c .no-operand2 in
-    record { told = λ y e z. miss (sym (c-token-at .ensures) ∙ c-p .given .1) (ne-eqb _ Kinds.rightParen (c-match2 .rest .0 .1)) (miss (sym (c-token-at .ensures) ∙ c-p .given .1) (ne-eqb _ Kinds.comma (c-match2 .rest .1)) (failed-unclosed _ _ _ 3 (unclosed-shape 3 _ _ (c-base-shape2 .ensures y e) (c-unclosed2 .ensures)) (c-no-operand2 .ensures .0) (c-no-operand2 .ensures .1) (no-operand-held y (c-unclosed2 .ensures)))) }
+    record { told = λ y e z. miss (sym (c-token-at .ensures) ∙ c-p .given .1) (ne-eqb _ Kinds.rightParen (c-match2 .rest .0 .1)) (miss (sym (c-token-at .ensures) ∙ c-p .given .1) (ne-eqb _ Kinds.comma (c-match2 .rest .1)) (failed-unclosed _ _ _ 3 (unclosed-shape 3 _ _ (c-open-shape2 .ensures y e) (c-unclosed2 .ensures)) (c-no-operand2 .ensures .0) (c-no-operand2 .ensures .1) (no-operand-held y (c-unclosed2 .ensures)))) }
 
 pub after-base-spec : {M : Type 1} → statement M
 after-base-spec =
@@ -136,20 +151,23 @@ after-base-spec =
     token-at-requires
     enum-known-p
     enum-told
-    base-shape-requires
+    open-shape-requires
     unclosed-requires
     no-operand-requires
     same-length
     returns
     step-over-requires
-    closed-base-requires
+    closed-requires
     step-over-requires-2
+    index-shape-requires
+    index-form-requires
     base-and-index-requires
-    base-shape-requires-2
+    open-shape-requires-2
     unclosed-requires-2
     no-operand-requires-2
-    returns-2
     same-length-2
-    returns-3
+    returns-2
     same-length-3
+    returns-3
+    same-length-4
     returns-4)

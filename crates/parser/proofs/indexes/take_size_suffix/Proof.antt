@@ -2,12 +2,13 @@
 -- Assumes nothing.
 use mathlib.Core.Path.{refl, sym, _∙_, ap}
 use native.Mathlib.Omega.{arith}
-use borrow.Author.Tests.{eq-eqb, ne-eqb}
+use borrow.Author.Tests.{ne-eqb}
 use Rattle.names.specs.Kinds
 use Rattle.expressions.specs.Expressions.{takeSizeSuffix}
 use Rattle.operand.specs.Forms.{suffixRead}
 use Rattle.names.specs.Places.{live}
-use Rattle.parser.proofs.Paths.{answered, hit-same, miss, done}
+use Rattle.parser.proofs.Paths.{answered, miss, done}
+use Rattle.parser.proofs.Suffixes.{suffix-taken}
 use borrow.Author.Needs.{needs}
 use Rattle.parser.proofs.indexes.take_size_suffix.Statement.{statement}
 use Rattle.parser.proofs.indexes.take_size_suffix.Tie as tie
@@ -66,14 +67,13 @@ same-length : tie.Need-same-length
 same-length c = search needs
 
 returns-3 : tie.Need-returns-3
-unfolding takeSizeSuffix suffixRead
 returns-3 c =
     let c-token-at = c .before .before .before .before .before .before .before .before .before .before .token-at in
     let c-p = c .before .before .before .before .before .before .before .before .p in
     let c-if1 = c .before .before .before .before .before .if1 in
     let c-step-over = c .before .before .before .step-over in
     let c-suffix-run = c .before .before .suffix-run in
-    hit-same (sym (c-token-at .ensures) ∙ c-p .given .1) (eq-eqb _ Kinds.sizeSuffix (c-if1 .left)) (c-step-over .ensures) (c-suffix-run .ensures _)
+    suffix-taken _ (sym (c-token-at .ensures) ∙ c-p .given .1) (c-if1 .left) (c-step-over .ensures) (c-suffix-run .ensures _)
 
 pub take-size-suffix-spec : {M : Type 1} → statement M
 take-size-suffix-spec =

@@ -86,7 +86,7 @@ sized-base-requires c κs =
     let c-token-at = c .before .before .before .before .before .token-at in
     let c-p = c .before .before .before .p in
     let c-match2 = c .before .match2 in
-    (c-pre .room, record { token = _; stands = sym (c-token-at .ensures) ∙ c-p .given .1; kind = c-match2 .keys3 })
+    (c-pre .room, record { stands = sym (c-token-at .ensures) ∙ c-p .given .1; kind = c-match2 .keys3 })
 
 unexpected-requires-2 : tie.Need-unexpected-requires-2
 unexpected-requires-2 c κs =

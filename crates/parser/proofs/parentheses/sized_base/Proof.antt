@@ -9,6 +9,7 @@ use Rattle.operand.specs.Operand.{sizedBase, over}
 use Rattle.names.specs.Places.{live}
 use Rattle.parser.proofs.Paths.{hit, seen, other, beyond}
 use Rattle.parser.proofs.Rooms.{suffix-room, room-step}
+use Rattle.parser.proofs.Suffixes.{suffix-taken}
 use Rattle.parser.proofs.Holdings.{tree-is, kept-sized}
 use Rattle.parser.proofs.Operations.{behind-bare, behind-size, size-passed, token-from}
 use borrow.Author.Needs.{needs}
@@ -63,62 +64,80 @@ returns-2 c =
     let c-unexpected2 = c .before .before .unexpected2 in
     record { told = λ e n v. other refl (sym (c-token-at .ensures) ∙ c-p .given .1) (ne-eqb _ Kinds.comma (c-if1 .taken)) (c-unexpected2 .ensures .told _ (displaced e 0)) }
 
-take-size-suffix-requires : tie.Need-take-size-suffix-requires
-take-size-suffix-requires c κs =
+step-over-requires : tie.Need-step-over-requires
+step-over-requires c κs =
     let c-pre = c .before .before .before .before .before .before .before .before .before .before .before .pre in
-    omega (arith, c-pre .0)
+    omega (arith, c-pre .0, live _ _ _ (c-pre .1 .stands))
+
+suffix-run-requires : tie.Need-suffix-run-requires
+suffix-run-requires c κs =
+    let c-pre = c .before .before .before .before .before .before .before .before .before .before .before .before .pre in
+    let c-step-over = c .step-over in
+    omega (arith, c-pre .0, live _ _ _ (c-pre .1 .stands), ap (λ z. z .diagnostics) (c-step-over .ensures))
 
 enum-told-2 : tie.Need-enum-told-2
 enum-told-2 c = search needs
 
 last-tree-requires : tie.Need-last-tree-requires
 last-tree-requires c κs =
-    let c-pre = c .before .before .before .before .before .before .before .before .before .before .before .before .before .before .before .before .before .pre in
-    let c-take-size-suffix = c .before .before .before .before .before .take-size-suffix in
-    omega (arith, c-pre .0, (c-take-size-suffix .ensures) .held)
-
-step-over-requires : tie.Need-step-over-requires
-step-over-requires c κs =
-    let c-pre = c .before .before .before .before .before .before .before .before .before .before .before .before .before .before .before .before .before .before .before .pre in
-    let c-take-size-suffix = c .before .before .before .before .before .before .before .take-size-suffix in
-    let c-token-at = c .before .before .before .before .before .before .before .before .before .before .before .before .before .before .token-at in
-    let c-p = c .before .before .before .before .before .before .before .before .before .before .before .before .p in
-    omega (arith, c-pre .0, live _ _ _ (token-from _ (size-passed _ (c-pre .1) (c-take-size-suffix .ensures)) (sym (c-token-at .ensures) ∙ c-p .given .1)))
-
-parse-full-index-requires : tie.Need-parse-full-index-requires
-parse-full-index-requires c κs =
-    let c-pre = c .before .before .before .before .before .before .before .before .before .before .before .before .before .before .before .before .before .before .before .before .pre in
-    let c-take-size-suffix = c .before .before .before .before .before .before .before .before .take-size-suffix in
-    let c-token-at = c .before .before .before .before .before .before .before .before .before .before .before .before .before .before .before .token-at in
-    let c-p = c .before .before .before .before .before .before .before .before .before .before .before .before .before .p in
-    let c-step-over = c .step-over in
-    room-step (suffix-room _ (c-pre .0) (c-take-size-suffix .ensures)) (token-from _ (size-passed _ (c-pre .1) (c-take-size-suffix .ensures)) (sym (c-token-at .ensures) ∙ c-p .given .1)) (c-step-over .ensures)
-
-enum-known-suffix : tie.Need-enum-known-suffix
-enum-known-suffix c = search needs
-
-last-tree-requires-2 : tie.Need-last-tree-requires-2
-last-tree-requires-2 c κs =
     let c-pre = c .before .before .before .before .before .before .before .before .before .before .before .before .before .before .before .before .before .before .pre in
-    let c-take-size-suffix = c .before .before .before .before .before .before .take-size-suffix in
-    omega (arith, c-pre .0, (c-take-size-suffix .ensures) .held)
+    let c-args = c .before .before .before .before .before .before .before .before .before .before .before .before .before .before .before .before .before .before .args in
+    let c-step-over = c .before .before .before .before .before .before .step-over in
+    let c-suffix-run = c .before .before .before .before .before .suffix-run in
+    omega (arith, c-pre .0, (suffix-taken _ {c = c-args .c} (c-pre .1 .stands) (c-pre .1 .kind) (c-step-over .ensures) (c-suffix-run .ensures _)) .held)
 
 step-over-requires-2 : tie.Need-step-over-requires-2
 step-over-requires-2 c κs =
     let c-pre = c .before .before .before .before .before .before .before .before .before .before .before .before .before .before .before .before .before .before .before .before .pre in
-    let c-take-size-suffix = c .before .before .before .before .before .before .before .before .take-size-suffix in
+    let c-args = c .before .before .before .before .before .before .before .before .before .before .before .before .before .before .before .before .before .before .before .before .args in
+    let c-step-over = c .before .before .before .before .before .before .before .before .step-over in
+    let c-suffix-run = c .before .before .before .before .before .before .before .suffix-run in
     let c-token-at = c .before .before .before .before .before .before .before .before .before .before .before .before .before .before .before .token-at in
     let c-p = c .before .before .before .before .before .before .before .before .before .before .before .before .before .p in
-    omega (arith, c-pre .0, live _ _ _ (token-from _ (size-passed _ (c-pre .1) (c-take-size-suffix .ensures)) (sym (c-token-at .ensures) ∙ c-p .given .1)))
+    omega (arith, c-pre .0, live _ _ _ (token-from _ (size-passed _ (c-pre .1) (suffix-taken _ {c = c-args .c} (c-pre .1 .stands) (c-pre .1 .kind) (c-step-over .ensures) (c-suffix-run .ensures _))) (sym (c-token-at .ensures) ∙ c-p .given .1)))
 
-parse-full-index-requires-2 : tie.Need-parse-full-index-requires-2
-parse-full-index-requires-2 c κs =
+parse-full-index-requires : tie.Need-parse-full-index-requires
+parse-full-index-requires c κs =
     let c-pre = c .before .before .before .before .before .before .before .before .before .before .before .before .before .before .before .before .before .before .before .before .before .pre in
-    let c-take-size-suffix = c .before .before .before .before .before .before .before .before .before .take-size-suffix in
+    let c-args = c .before .before .before .before .before .before .before .before .before .before .before .before .before .before .before .before .before .before .before .before .before .args in
+    let c-step-over = c .before .before .before .before .before .before .before .before .before .step-over in
+    let c-suffix-run = c .before .before .before .before .before .before .before .before .suffix-run in
     let c-token-at = c .before .before .before .before .before .before .before .before .before .before .before .before .before .before .before .before .token-at in
     let c-p = c .before .before .before .before .before .before .before .before .before .before .before .before .before .before .p in
     let c-step-over2 = c .step-over2 in
-    room-step (suffix-room _ (c-pre .0) (c-take-size-suffix .ensures)) (token-from _ (size-passed _ (c-pre .1) (c-take-size-suffix .ensures)) (sym (c-token-at .ensures) ∙ c-p .given .1)) (c-step-over2 .ensures)
+    room-step (suffix-room _ (c-pre .0) (suffix-taken _ {c = c-args .c} (c-pre .1 .stands) (c-pre .1 .kind) (c-step-over .ensures) (c-suffix-run .ensures _))) (token-from _ (size-passed _ (c-pre .1) (suffix-taken _ {c = c-args .c} (c-pre .1 .stands) (c-pre .1 .kind) (c-step-over .ensures) (c-suffix-run .ensures _))) (sym (c-token-at .ensures) ∙ c-p .given .1)) (c-step-over2 .ensures)
+
+enum-known-size : tie.Need-enum-known-size
+enum-known-size c = search needs
+
+last-tree-requires-2 : tie.Need-last-tree-requires-2
+last-tree-requires-2 c κs =
+    let c-pre = c .before .before .before .before .before .before .before .before .before .before .before .before .before .before .before .before .before .before .before .pre in
+    let c-args = c .before .before .before .before .before .before .before .before .before .before .before .before .before .before .before .before .before .before .before .args in
+    let c-step-over = c .before .before .before .before .before .before .before .step-over in
+    let c-suffix-run = c .before .before .before .before .before .before .suffix-run in
+    omega (arith, c-pre .0, (suffix-taken _ {c = c-args .c} (c-pre .1 .stands) (c-pre .1 .kind) (c-step-over .ensures) (c-suffix-run .ensures _)) .held)
+
+step-over-requires-3 : tie.Need-step-over-requires-3
+step-over-requires-3 c κs =
+    let c-pre = c .before .before .before .before .before .before .before .before .before .before .before .before .before .before .before .before .before .before .before .before .before .pre in
+    let c-args = c .before .before .before .before .before .before .before .before .before .before .before .before .before .before .before .before .before .before .before .before .before .args in
+    let c-step-over = c .before .before .before .before .before .before .before .before .before .step-over in
+    let c-suffix-run = c .before .before .before .before .before .before .before .before .suffix-run in
+    let c-token-at = c .before .before .before .before .before .before .before .before .before .before .before .before .before .before .before .before .token-at in
+    let c-p = c .before .before .before .before .before .before .before .before .before .before .before .before .before .before .p in
+    omega (arith, c-pre .0, live _ _ _ (token-from _ (size-passed _ (c-pre .1) (suffix-taken _ {c = c-args .c} (c-pre .1 .stands) (c-pre .1 .kind) (c-step-over .ensures) (c-suffix-run .ensures _))) (sym (c-token-at .ensures) ∙ c-p .given .1)))
+
+parse-full-index-requires-2 : tie.Need-parse-full-index-requires-2
+parse-full-index-requires-2 c κs =
+    let c-pre = c .before .before .before .before .before .before .before .before .before .before .before .before .before .before .before .before .before .before .before .before .before .before .pre in
+    let c-args = c .before .before .before .before .before .before .before .before .before .before .before .before .before .before .before .before .before .before .before .before .before .before .args in
+    let c-step-over = c .before .before .before .before .before .before .before .before .before .before .step-over in
+    let c-suffix-run = c .before .before .before .before .before .before .before .before .before .suffix-run in
+    let c-token-at = c .before .before .before .before .before .before .before .before .before .before .before .before .before .before .before .before .before .token-at in
+    let c-p = c .before .before .before .before .before .before .before .before .before .before .before .before .before .before .before .p in
+    let c-step-over3 = c .step-over3 in
+    room-step (suffix-room _ (c-pre .0) (suffix-taken _ {c = c-args .c} (c-pre .1 .stands) (c-pre .1 .kind) (c-step-over .ensures) (c-suffix-run .ensures _))) (token-from _ (size-passed _ (c-pre .1) (suffix-taken _ {c = c-args .c} (c-pre .1 .stands) (c-pre .1 .kind) (c-step-over .ensures) (c-suffix-run .ensures _))) (sym (c-token-at .ensures) ∙ c-p .given .1)) (c-step-over3 .ensures)
 
 same-length-3 : tie.Need-same-length-3
 same-length-3 c = search needs
@@ -126,17 +145,18 @@ same-length-3 c = search needs
 returns-3 : tie.Need-returns-3
 unfolding sizedBase over
 returns-3 c =
-    let c-token-at = c .before .before .before .before .before .before .before .before .before .before .before .before .before .before .before .before .before .before .token-at in
-    let c-p = c .before .before .before .before .before .before .before .before .before .before .before .before .before .before .before .before .p in
-    let c-if1 = c .before .before .before .before .before .before .before .before .before .before .before .before .before .if1 in
-    let c-args = c .before .before .before .before .before .before .before .before .before .before .before .before .before .before .before .before .before .before .before .before .before .before .before .args in
-    let c-take-size-suffix = c .before .before .before .before .before .before .before .before .before .before .before .take-size-suffix in
+    let c-token-at = c .before .before .before .before .before .before .before .before .before .before .before .before .before .before .before .before .before .before .before .token-at in
+    let c-p = c .before .before .before .before .before .before .before .before .before .before .before .before .before .before .before .before .before .p in
+    let c-if1 = c .before .before .before .before .before .before .before .before .before .before .before .before .before .before .if1 in
+    let c-args = c .before .before .before .before .before .before .before .before .before .before .before .before .before .before .before .before .before .before .before .before .before .before .before .before .args in
+    let c-pre = c .before .before .before .before .before .before .before .before .before .before .before .before .before .before .before .before .before .before .before .before .before .before .before .before .pre in
+    let c-step-over = c .before .before .before .before .before .before .before .before .before .before .before .before .step-over in
+    let c-suffix-run = c .before .before .before .before .before .before .before .before .before .before .before .suffix-run in
     let c-enum-told2 = c .before .before .before .before .before .before .enum-told2 in
-    let c-pre = c .before .before .before .before .before .before .before .before .before .before .before .before .before .before .before .before .before .before .before .before .before .before .before .pre in
-    let c-step-over = c .before .before .before .step-over in
+    let c-step-over2 = c .before .before .before .step-over2 in
     let c-parse-full-index = c .before .before .parse-full-index in
     let c-last-tree = c .before .before .before .before .before .last-tree in
-    record { told = λ e n v. seen refl (sym (c-token-at .ensures) ∙ c-p .given .1) (eq-eqb _ Kinds.comma (c-if1 .left)) (behind-bare (c-args .value) (c-take-size-suffix .ensures) e v (c-enum-told2 .given .1) (hit (token-from _ (size-passed _ (c-pre .1) (c-take-size-suffix .ensures)) (sym (c-token-at .ensures) ∙ c-p .given .1)) refl (c-step-over .ensures) (kept-sized e 0 (ap (λ z. z .nodes) (c-step-over .ensures) ∙ (c-take-size-suffix .ensures) .held) (c-parse-full-index .ensures .told (displaced e 0) (tree-is e ((c-take-size-suffix .ensures) .held ∙ n) (c-last-tree .ensures)))))) }
+    record { told = λ e n v. seen refl (sym (c-token-at .ensures) ∙ c-p .given .1) (eq-eqb _ Kinds.comma (c-if1 .left)) (behind-bare (c-args .value) (suffix-taken _ {c = c-args .c} (c-pre .1 .stands) (c-pre .1 .kind) (c-step-over .ensures) (c-suffix-run .ensures _)) e v (c-enum-told2 .given .1) (hit (token-from _ (size-passed _ (c-pre .1) (suffix-taken _ {c = c-args .c} (c-pre .1 .stands) (c-pre .1 .kind) (c-step-over .ensures) (c-suffix-run .ensures _))) (sym (c-token-at .ensures) ∙ c-p .given .1)) refl (c-step-over2 .ensures) (kept-sized e 0 (ap (λ z. z .nodes) (c-step-over2 .ensures) ∙ (suffix-taken _ {c = c-args .c} (c-pre .1 .stands) (c-pre .1 .kind) (c-step-over .ensures) (c-suffix-run .ensures _)) .held) (c-parse-full-index .ensures .told (displaced e 0) (tree-is e ((suffix-taken _ {c = c-args .c} (c-pre .1 .stands) (c-pre .1 .kind) (c-step-over .ensures) (c-suffix-run .ensures _)) .held ∙ n) (c-last-tree .ensures)))))) }
 
 same-length-4 : tie.Need-same-length-4
 same-length-4 c = search needs
@@ -144,17 +164,18 @@ same-length-4 c = search needs
 returns-4 : tie.Need-returns-4
 unfolding sizedBase over
 returns-4 c =
-    let c-token-at = c .before .before .before .before .before .before .before .before .before .before .before .before .before .before .before .before .before .before .before .token-at in
-    let c-p = c .before .before .before .before .before .before .before .before .before .before .before .before .before .before .before .before .before .p in
-    let c-if1 = c .before .before .before .before .before .before .before .before .before .before .before .before .before .before .if1 in
-    let c-args = c .before .before .before .before .before .before .before .before .before .before .before .before .before .before .before .before .before .before .before .before .before .before .before .before .args in
-    let c-take-size-suffix = c .before .before .before .before .before .before .before .before .before .before .before .before .take-size-suffix in
-    let c-suffix = c .before .before .before .before .before .before .before .suffix in
-    let c-pre = c .before .before .before .before .before .before .before .before .before .before .before .before .before .before .before .before .before .before .before .before .before .before .before .before .pre in
-    let c-step-over2 = c .before .before .before .step-over2 in
+    let c-token-at = c .before .before .before .before .before .before .before .before .before .before .before .before .before .before .before .before .before .before .before .before .token-at in
+    let c-p = c .before .before .before .before .before .before .before .before .before .before .before .before .before .before .before .before .before .before .p in
+    let c-if1 = c .before .before .before .before .before .before .before .before .before .before .before .before .before .before .before .if1 in
+    let c-args = c .before .before .before .before .before .before .before .before .before .before .before .before .before .before .before .before .before .before .before .before .before .before .before .before .before .args in
+    let c-pre = c .before .before .before .before .before .before .before .before .before .before .before .before .before .before .before .before .before .before .before .before .before .before .before .before .before .pre in
+    let c-step-over = c .before .before .before .before .before .before .before .before .before .before .before .before .before .step-over in
+    let c-suffix-run = c .before .before .before .before .before .before .before .before .before .before .before .before .suffix-run in
+    let c-size = c .before .before .before .before .before .before .before .size in
+    let c-step-over3 = c .before .before .before .step-over3 in
     let c-parse-full-index2 = c .before .before .parse-full-index2 in
     let c-last-tree2 = c .before .before .before .before .before .last-tree2 in
-    record { told = λ e n v. seen refl (sym (c-token-at .ensures) ∙ c-p .given .1) (eq-eqb _ Kinds.comma (c-if1 .left)) (behind-size (c-args .value) (c-take-size-suffix .ensures) e v (c-suffix .given .1) (hit (token-from _ (size-passed _ (c-pre .1) (c-take-size-suffix .ensures)) (sym (c-token-at .ensures) ∙ c-p .given .1)) refl (c-step-over2 .ensures) (kept-sized e _ (ap (λ z. z .nodes) (c-step-over2 .ensures) ∙ (c-take-size-suffix .ensures) .held) (c-parse-full-index2 .ensures .told (displaced e _) (tree-is e ((c-take-size-suffix .ensures) .held ∙ n) (c-last-tree2 .ensures)))))) }
+    record { told = λ e n v. seen refl (sym (c-token-at .ensures) ∙ c-p .given .1) (eq-eqb _ Kinds.comma (c-if1 .left)) (behind-size (c-args .value) (suffix-taken _ {c = c-args .c} (c-pre .1 .stands) (c-pre .1 .kind) (c-step-over .ensures) (c-suffix-run .ensures _)) e v (c-size .given .1) (hit (token-from _ (size-passed _ (c-pre .1) (suffix-taken _ {c = c-args .c} (c-pre .1 .stands) (c-pre .1 .kind) (c-step-over .ensures) (c-suffix-run .ensures _))) (sym (c-token-at .ensures) ∙ c-p .given .1)) refl (c-step-over3 .ensures) (kept-sized e _ (ap (λ z. z .nodes) (c-step-over3 .ensures) ∙ (suffix-taken _ {c = c-args .c} (c-pre .1 .stands) (c-pre .1 .kind) (c-step-over .ensures) (c-suffix-run .ensures _)) .held) (c-parse-full-index2 .ensures .told (displaced e _) (tree-is e ((suffix-taken _ {c = c-args .c} (c-pre .1 .stands) (c-pre .1 .kind) (c-step-over .ensures) (c-suffix-run .ensures _)) .held ∙ n) (c-last-tree2 .ensures)))))) }
 
 pub sized-base-spec : {M : Type 1} → statement M
 sized-base-spec =
@@ -171,14 +192,15 @@ sized-base-spec =
     unexpected-requires-2
     same-length-2
     returns-2
-    take-size-suffix-requires
+    step-over-requires
+    suffix-run-requires
     enum-told-2
     last-tree-requires
-    step-over-requires
-    parse-full-index-requires
-    enum-known-suffix
-    last-tree-requires-2
     step-over-requires-2
+    parse-full-index-requires
+    enum-known-size
+    last-tree-requires-2
+    step-over-requires-3
     parse-full-index-requires-2
     same-length-3
     returns-3

@@ -1,7 +1,6 @@
--- `terms::levels::binary_operator` meets its contract, by the rule of the table.
+-- `terms::levels::binary_operator` meets its contract.
 -- Assumes nothing.
-use mathlib.Core.Path.{sym}
-use Rattle.terms.proofs.Tables.{operator-at, operator-past}
+use Rattle.terms.proofs.Operators.{operator-none, operator-first, operator-later, operator-shift, operator-past}
 use borrow.Author.Needs.{needs}
 use Rattle.terms.proofs.levels.binary_operator.Statement.{statement}
 use Rattle.terms.proofs.levels.binary_operator.Tie as tie
@@ -9,18 +8,34 @@ use Rattle.terms.proofs.levels.binary_operator.Tie as tie
 returns : tie.Need-returns
 returns c =
     let c-if1 = c .if1 in
-    sym (operator-past _ (c-if1 .taken))
-
-mul-result : tie.Need-mul-result
-mul-result c = search needs
-
-array-read-result : tie.Need-array-read-result
-array-read-result c = search needs
+    operator-none _ (c-if1 .taken)
 
 returns-2 : tie.Need-returns-2
 returns-2 c =
-    let c-if1 = c .if1 in
-    operator-at _ (c-if1 .left)
+    let c-if1 = c .before .if1 in
+    let c-if2 = c .if2 in
+    operator-first _ (c-if1 .left) (c-if2 .taken)
+
+sub-result : tie.Need-sub-result
+sub-result c = search needs
+
+returns-3 : tie.Need-returns-3
+returns-3 c =
+    let c-if2 = c .before .if2 in
+    let c-if3 = c .if3 in
+    operator-later _ (c-if2 .left) (c-if3 .taken)
+
+returns-4 : tie.Need-returns-4
+returns-4 c =
+    let c-if4 = c .if4 in
+    operator-shift _ (c-if4 .taken)
+
+returns-5 : tie.Need-returns-5
+returns-5 c =
+    let c-if3 = c .before .if3 in
+    let c-if4 = c .if4 in
+    operator-past _ (c-if3 .left) (c-if4 .left)
 
 pub binary-operator-spec : {M : Type 1} → statement M
-binary-operator-spec = tie.close (tie.spec returns mul-result array-read-result returns-2)
+binary-operator-spec =
+    tie.close (tie.spec returns returns-2 sub-result returns-3 returns-4 returns-5)

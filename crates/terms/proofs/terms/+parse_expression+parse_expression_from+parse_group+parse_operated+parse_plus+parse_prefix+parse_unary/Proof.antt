@@ -8,9 +8,9 @@ use mathlib.Core.Path.{sym, _∙_, ap}
 use mathlib.Core.Logic.{inl, inr}
 use Prim.Native.Nat.{ℕ, _+_, _-_, _*_, _<_}
 use Rattle.names.specs.Tokens.{count}
-use Rattle.terms.proofs.Tables.{precedence-small}
+use Rattle.terms.proofs.Operators.{precedence-small}
 use Rattle.names.specs.Places.{live}
-use Rattle.terms.proofs.Returns.{read-some, absent-quiet, prefix-full, prefix-end, prefix-minus, prefix-tilde, prefix-plus, prefix-group, prefix-leaf, unary-reads, unary-reports, unary-absents, plus-reads, plus-reports, plus-absents, expression-reads, expression-reports, expression-absents}
+use Rattle.terms.proofs.Returns.{read-some, absent-quiet, prefix-full, prefix-end, prefix-unary, prefix-plus, prefix-group, prefix-leaf, unary-reads, unary-reports, unary-absents, plus-reads, plus-reports, plus-absents, expression-reads, expression-reports, expression-absents}
 use Rattle.terms.proofs.Closings.{group-reports, group-absents, group-tells}
 use Rattle.terms.proofs.Climbs.{climb-ends, climb-lows, operated-reports, operated-absents, operated-reads}
 use Rattle.terms.proofs.Turns.{Climbing, started, is-longer, again, ends}
@@ -42,6 +42,7 @@ use Rattle.records.proofs.span_of.Reads as span-of-reads
 use Rattle.terms.proofs.leaf.parse_leaf.Reads as parse-leaf-reads
 use Rattle.terms.proofs.leaf.put_operator.Reads as put-operator-reads
 use Rattle.terms.proofs.levels.binary_operator.Reads as binary-operator-reads
+use Rattle.terms.proofs.levels.is_unary.Reads as is-unary-reads
 use Rattle.terms.proofs.levels.precedence.Reads as precedence-reads
 use Rattle.terms.proofs.levels.unary_operator.Reads as unary-operator-reads
 use Rattle.terms.proofs.reports.expected_after.Reads as expected-after-reads
@@ -175,7 +176,7 @@ abbrev parse-group-claims : ℕ → parse-group-lts.Claims
 parse-group-claims t = (parse-expression-below t, parse-expression.Post, close-group-reads.Asked, close-group-reads.Learnt, expected-after-reads.Asked, expected-after-reads.Learnt, report-reads.Asked, report-reads.Learnt)
 
 abbrev parse-prefix-claims : ℕ → parse-prefix-lts.Claims
-parse-prefix-claims t = (too-deep-reads.Asked, too-deep-reads.Learnt, token-at-reads.Asked, token-at-reads.Learnt, step-over-reads.Asked, step-over-reads.Learnt, parse-unary-below t, parse-unary.Post, parse-plus-below t, parse-plus.Post, parse-group-below t, parse-group.Post, parse-leaf-reads.Asked, parse-leaf-reads.Learnt)
+parse-prefix-claims t = (too-deep-reads.Asked, too-deep-reads.Learnt, token-at-reads.Asked, token-at-reads.Learnt, step-over-reads.Asked, step-over-reads.Learnt, is-unary-reads.Asked, is-unary-reads.Learnt, parse-unary-below t, parse-unary.Post, parse-plus-below t, parse-plus.Post, parse-group-below t, parse-group.Post, parse-leaf-reads.Asked, parse-leaf-reads.Learnt)
 
 abbrev parse-plus-claims : ℕ → parse-plus-lts.Claims
 parse-plus-claims t = (parse-prefix-below t, parse-prefix.Post, span-of-reads.Asked, span-of-reads.Learnt, plain-reads.Asked, plain-reads.Learnt, report-reads.Asked, report-reads.Learnt)
@@ -735,52 +736,16 @@ parse-prefix-step-over-requires t c κs =
 parse-prefix-sub-less : (t : ℕ) → parse-prefix-lts.Need-sub-less (parse-prefix-claims t) (parse-prefix-at t) parse-prefix.Post
 parse-prefix-sub-less t c = search needs
 
+parse-prefix-is-unary-requires : (t : ℕ) → parse-prefix-lts.Need-is-unary-requires (parse-prefix-claims t) (parse-prefix-at t) parse-prefix.Post
+parse-prefix-is-unary-requires t c κs = search needs
+
 parse-prefix-parse-unary-requires : (t : ℕ) → parse-prefix-lts.Need-parse-unary-requires (parse-prefix-claims t) (parse-prefix-at t) parse-prefix.Post
 parse-prefix-parse-unary-requires t c κs =
-    let c-step-over = c .before .before .before .step-over in
-    let c-token-at = c .before .before .before .before .before .before .before .token-at in
-    let c-p = c .before .before .before .before .before .p in
-    let c-pre = c .before .before .before .before .before .before .before .before .before .before .before .before .before .before .pre in
+    let c-step-over = c .before .before .before .before .step-over in
+    let c-token-at = c .before .before .before .before .before .before .before .before .token-at in
+    let c-p = c .before .before .before .before .before .before .p in
+    let c-pre = c .before .before .before .before .before .before .before .before .before .before .before .before .before .before .before .pre in
     let h = c-step-over .ensures in rw h (omega (arith, live _ _ _ (sym (c-token-at .ensures) ∙ c-p .given .1), c-pre))
-
-parse-prefix-parse-unary-requires-2 : (t : ℕ) → parse-prefix-lts.Need-parse-unary-requires-2 (parse-prefix-claims t) (parse-prefix-at t) parse-prefix.Post
-parse-prefix-parse-unary-requires-2 t c κs =
-    let c-step-over = c .before .before .before .step-over in
-    let c-token-at = c .before .before .before .before .before .before .before .token-at in
-    let c-p = c .before .before .before .before .before .p in
-    let c-pre = c .before .before .before .before .before .before .before .before .before .before .before .before .before .before .pre in
-    let h = c-step-over .ensures in rw h (omega (arith, live _ _ _ (sym (c-token-at .ensures) ∙ c-p .given .1), c-pre))
-
-parse-prefix-parse-plus-requires : (t : ℕ) → parse-prefix-lts.Need-parse-plus-requires (parse-prefix-claims t) (parse-prefix-at t) parse-prefix.Post
-parse-prefix-parse-plus-requires t c κs =
-    let c-step-over = c .before .before .before .step-over in
-    let c-token-at = c .before .before .before .before .before .before .before .token-at in
-    let c-p = c .before .before .before .before .before .p in
-    let c-pre = c .before .before .before .before .before .before .before .before .before .before .before .before .before .before .pre in
-    let h = c-step-over .ensures in rw h (omega (arith, live _ _ _ (sym (c-token-at .ensures) ∙ c-p .given .1), c-pre))
-
-parse-prefix-parse-group-requires : (t : ℕ) → parse-prefix-lts.Need-parse-group-requires (parse-prefix-claims t) (parse-prefix-at t) parse-prefix.Post
-parse-prefix-parse-group-requires t c κs =
-    let c-step-over = c .before .before .before .step-over in
-    let c-token-at = c .before .before .before .before .before .before .before .token-at in
-    let c-p = c .before .before .before .before .before .p in
-    let c-pre = c .before .before .before .before .before .before .before .before .before .before .before .before .before .before .pre in
-    let h = c-step-over .ensures in rw h (omega (arith, live _ _ _ (sym (c-token-at .ensures) ∙ c-p .given .1), c-pre))
-
-parse-prefix-parse-leaf-requires : (t : ℕ) → parse-prefix-lts.Need-parse-leaf-requires (parse-prefix-claims t) (parse-prefix-at t) parse-prefix.Post
-parse-prefix-parse-leaf-requires t c κs =
-    let c-token-at = c .before .before .before .before .before .before .before .token-at in
-    let c-p = c .before .before .before .before .before .p in
-    let c-pre = c .before .before .before .before .before .before .before .before .before .before .before .before .before .before .pre in
-    omega (arith, live _ _ _ (sym (c-token-at .ensures) ∙ c-p .given .1), c-pre)
-
-parse-prefix-returns-2 : (t : ℕ) → parse-prefix-lts.Need-returns-2 (parse-prefix-claims t) (parse-prefix-at t) parse-prefix.Post
-parse-prefix-returns-2 t c =
-    let c-pre = c .before .before .before .before .before .before .before .before .before .pre in
-    let c-if1 = c .before .before .before .before .if1 in
-    let c-token-at = c .before .before .token-at in
-    let c-enum-told = c .enum-told in
-    prefix-end _ _ _ _ _ _ (c-pre .1 .room .within) (c-if1 .left) (sym (c-token-at .ensures) ∙ c-enum-told .given .1)
 
 parse-prefix-same-length-2 : (t : ℕ) → parse-prefix-lts.Need-same-length-2 (parse-prefix-claims t) (parse-prefix-at t) parse-prefix.Post
 parse-prefix-same-length-2 t c = search needs
@@ -788,16 +753,48 @@ parse-prefix-same-length-2 t c = search needs
 parse-prefix-same-length-3 : (t : ℕ) → parse-prefix-lts.Need-same-length-3 (parse-prefix-claims t) (parse-prefix-at t) parse-prefix.Post
 parse-prefix-same-length-3 t c = search needs
 
+parse-prefix-returns-2 : (t : ℕ) → parse-prefix-lts.Need-returns-2 (parse-prefix-claims t) (parse-prefix-at t) parse-prefix.Post
+parse-prefix-returns-2 t c =
+    let c-pre = c .before .before .before .before .before .before .before .before .before .before .before .before .before .before .before .before .before .before .before .before .pre in
+    let c-if1 = c .before .before .before .before .before .before .before .before .before .before .before .before .before .before .before .if1 in
+    let c-token-at = c .before .before .before .before .before .before .before .before .before .before .before .before .before .token-at in
+    let c-p = c .before .before .before .before .before .before .before .before .before .before .before .p in
+    let c-step-over = c .before .before .before .before .before .before .before .before .before .step-over in
+    let c-is-unary = c .before .before .before .before .before .before .before .before .is-unary in
+    let c-if2 = c .before .before .before .before .before .before .before .if2 in
+    let c-parse-unary = c .before .before .before .before .parse-unary in
+    prefix-unary _ _ _ _ _ _ (c-pre .1 .room .within) (c-if1 .left) (sym (c-token-at .ensures) ∙ c-p .given .1) (c-step-over .ensures) (sym (c-is-unary .ensures _) ∙ c-if2 .taken) (c-parse-unary .ensures)
+
+parse-prefix-parse-plus-requires : (t : ℕ) → parse-prefix-lts.Need-parse-plus-requires (parse-prefix-claims t) (parse-prefix-at t) parse-prefix.Post
+parse-prefix-parse-plus-requires t c κs =
+    let c-step-over = c .before .before .before .before .before .step-over in
+    let c-token-at = c .before .before .before .before .before .before .before .before .before .token-at in
+    let c-p = c .before .before .before .before .before .before .before .p in
+    let c-pre = c .before .before .before .before .before .before .before .before .before .before .before .before .before .before .before .before .pre in
+    let h = c-step-over .ensures in rw h (omega (arith, live _ _ _ (sym (c-token-at .ensures) ∙ c-p .given .1), c-pre))
+
+parse-prefix-parse-group-requires : (t : ℕ) → parse-prefix-lts.Need-parse-group-requires (parse-prefix-claims t) (parse-prefix-at t) parse-prefix.Post
+parse-prefix-parse-group-requires t c κs =
+    let c-step-over = c .before .before .before .before .before .step-over in
+    let c-token-at = c .before .before .before .before .before .before .before .before .before .token-at in
+    let c-p = c .before .before .before .before .before .before .before .p in
+    let c-pre = c .before .before .before .before .before .before .before .before .before .before .before .before .before .before .before .before .pre in
+    let h = c-step-over .ensures in rw h (omega (arith, live _ _ _ (sym (c-token-at .ensures) ∙ c-p .given .1), c-pre))
+
+parse-prefix-parse-leaf-requires : (t : ℕ) → parse-prefix-lts.Need-parse-leaf-requires (parse-prefix-claims t) (parse-prefix-at t) parse-prefix.Post
+parse-prefix-parse-leaf-requires t c κs =
+    let c-token-at = c .before .before .before .before .before .before .before .before .before .token-at in
+    let c-p = c .before .before .before .before .before .before .before .p in
+    let c-pre = c .before .before .before .before .before .before .before .before .before .before .before .before .before .before .before .before .pre in
+    omega (arith, live _ _ _ (sym (c-token-at .ensures) ∙ c-p .given .1), c-pre)
+
 parse-prefix-returns-3 : (t : ℕ) → parse-prefix-lts.Need-returns-3 (parse-prefix-claims t) (parse-prefix-at t) parse-prefix.Post
 parse-prefix-returns-3 t c =
-    let c-pre = c .before .before .before .before .before .before .before .before .before .before .before .before .before .before .before .before .before .before .before .pre in
-    let c-if1 = c .before .before .before .before .before .before .before .before .before .before .before .before .before .before .if1 in
-    let c-token-at = c .before .before .before .before .before .before .before .before .before .before .before .before .token-at in
-    let c-p = c .before .before .before .before .before .before .before .before .before .before .p in
-    let c-step-over = c .before .before .before .before .before .before .before .before .step-over in
-    let c-match2 = c .before .before .before .before .before .before .before .match2 in
-    let c-parse-unary = c .before .before .before .before .parse-unary in
-    prefix-minus _ _ _ _ _ _ (c-pre .1 .room .within) (c-if1 .left) (sym (c-token-at .ensures) ∙ c-p .given .1) (c-step-over .ensures) (c-match2 .keys1) (c-parse-unary .ensures)
+    let c-pre = c .before .before .before .before .before .before .before .before .before .pre in
+    let c-if1 = c .before .before .before .before .if1 in
+    let c-token-at = c .before .before .token-at in
+    let c-enum-told = c .enum-told in
+    prefix-end _ _ _ _ _ _ (c-pre .1 .room .within) (c-if1 .left) (sym (c-token-at .ensures) ∙ c-enum-told .given .1)
 
 parse-prefix-same-length-4 : (t : ℕ) → parse-prefix-lts.Need-same-length-4 (parse-prefix-claims t) (parse-prefix-at t) parse-prefix.Post
 parse-prefix-same-length-4 t c = search needs
@@ -807,14 +804,16 @@ parse-prefix-same-length-5 t c = search needs
 
 parse-prefix-returns-4 : (t : ℕ) → parse-prefix-lts.Need-returns-4 (parse-prefix-claims t) (parse-prefix-at t) parse-prefix.Post
 parse-prefix-returns-4 t c =
-    let c-pre = c .before .before .before .before .before .before .before .before .before .before .before .before .before .before .before .before .before .before .before .pre in
-    let c-if1 = c .before .before .before .before .before .before .before .before .before .before .before .before .before .before .if1 in
-    let c-token-at = c .before .before .before .before .before .before .before .before .before .before .before .before .token-at in
-    let c-p = c .before .before .before .before .before .before .before .before .before .before .p in
-    let c-step-over = c .before .before .before .before .before .before .before .before .step-over in
+    let c-pre = c .before .before .before .before .before .before .before .before .before .before .before .before .before .before .before .before .before .before .before .before .before .pre in
+    let c-if1 = c .before .before .before .before .before .before .before .before .before .before .before .before .before .before .before .before .if1 in
+    let c-token-at = c .before .before .before .before .before .before .before .before .before .before .before .before .before .before .token-at in
+    let c-p = c .before .before .before .before .before .before .before .before .before .before .before .before .p in
+    let c-step-over = c .before .before .before .before .before .before .before .before .before .before .step-over in
+    let c-is-unary = c .before .before .before .before .before .before .before .before .before .is-unary in
+    let c-if2 = c .before .before .before .before .before .before .before .before .if2 in
     let c-match2 = c .before .before .before .before .before .before .before .match2 in
-    let c-parse-unary2 = c .before .before .before .before .parse-unary2 in
-    prefix-tilde _ _ _ _ _ _ (c-pre .1 .room .within) (c-if1 .left) (sym (c-token-at .ensures) ∙ c-p .given .1) (c-step-over .ensures) (c-match2 .keys2) (c-parse-unary2 .ensures)
+    let c-parse-plus = c .before .before .before .before .parse-plus in
+    prefix-plus _ _ _ _ _ _ (c-pre .1 .room .within) (c-if1 .left) (sym (c-token-at .ensures) ∙ c-p .given .1) (c-step-over .ensures) (sym (c-is-unary .ensures _) ∙ c-if2 .left) (c-match2 .keys1) (c-parse-plus .ensures)
 
 parse-prefix-same-length-6 : (t : ℕ) → parse-prefix-lts.Need-same-length-6 (parse-prefix-claims t) (parse-prefix-at t) parse-prefix.Post
 parse-prefix-same-length-6 t c = search needs
@@ -824,14 +823,16 @@ parse-prefix-same-length-7 t c = search needs
 
 parse-prefix-returns-5 : (t : ℕ) → parse-prefix-lts.Need-returns-5 (parse-prefix-claims t) (parse-prefix-at t) parse-prefix.Post
 parse-prefix-returns-5 t c =
-    let c-pre = c .before .before .before .before .before .before .before .before .before .before .before .before .before .before .before .before .before .before .before .pre in
-    let c-if1 = c .before .before .before .before .before .before .before .before .before .before .before .before .before .before .if1 in
-    let c-token-at = c .before .before .before .before .before .before .before .before .before .before .before .before .token-at in
-    let c-p = c .before .before .before .before .before .before .before .before .before .before .p in
-    let c-step-over = c .before .before .before .before .before .before .before .before .step-over in
+    let c-pre = c .before .before .before .before .before .before .before .before .before .before .before .before .before .before .before .before .before .before .before .before .before .pre in
+    let c-if1 = c .before .before .before .before .before .before .before .before .before .before .before .before .before .before .before .before .if1 in
+    let c-token-at = c .before .before .before .before .before .before .before .before .before .before .before .before .before .before .token-at in
+    let c-p = c .before .before .before .before .before .before .before .before .before .before .before .before .p in
+    let c-step-over = c .before .before .before .before .before .before .before .before .before .before .step-over in
+    let c-is-unary = c .before .before .before .before .before .before .before .before .before .is-unary in
+    let c-if2 = c .before .before .before .before .before .before .before .before .if2 in
     let c-match2 = c .before .before .before .before .before .before .before .match2 in
-    let c-parse-plus = c .before .before .before .before .parse-plus in
-    prefix-plus _ _ _ _ _ _ (c-pre .1 .room .within) (c-if1 .left) (sym (c-token-at .ensures) ∙ c-p .given .1) (c-step-over .ensures) (c-match2 .keys3) (c-parse-plus .ensures)
+    let c-parse-group = c .before .before .before .before .parse-group in
+    prefix-group _ _ _ _ _ _ (c-pre .1 .room .within) (c-if1 .left) (sym (c-token-at .ensures) ∙ c-p .given .1) (c-step-over .ensures) (sym (c-is-unary .ensures _) ∙ c-if2 .left) (c-match2 .keys2) (c-parse-group .ensures)
 
 parse-prefix-same-length-8 : (t : ℕ) → parse-prefix-lts.Need-same-length-8 (parse-prefix-claims t) (parse-prefix-at t) parse-prefix.Post
 parse-prefix-same-length-8 t c = search needs
@@ -841,30 +842,15 @@ parse-prefix-same-length-9 t c = search needs
 
 parse-prefix-returns-6 : (t : ℕ) → parse-prefix-lts.Need-returns-6 (parse-prefix-claims t) (parse-prefix-at t) parse-prefix.Post
 parse-prefix-returns-6 t c =
-    let c-pre = c .before .before .before .before .before .before .before .before .before .before .before .before .before .before .before .before .before .before .before .pre in
-    let c-if1 = c .before .before .before .before .before .before .before .before .before .before .before .before .before .before .if1 in
-    let c-token-at = c .before .before .before .before .before .before .before .before .before .before .before .before .token-at in
-    let c-p = c .before .before .before .before .before .before .before .before .before .before .p in
-    let c-step-over = c .before .before .before .before .before .before .before .before .step-over in
-    let c-match2 = c .before .before .before .before .before .before .before .match2 in
-    let c-parse-group = c .before .before .before .before .parse-group in
-    prefix-group _ _ _ _ _ _ (c-pre .1 .room .within) (c-if1 .left) (sym (c-token-at .ensures) ∙ c-p .given .1) (c-step-over .ensures) (c-match2 .keys4) (c-parse-group .ensures)
-
-parse-prefix-same-length-10 : (t : ℕ) → parse-prefix-lts.Need-same-length-10 (parse-prefix-claims t) (parse-prefix-at t) parse-prefix.Post
-parse-prefix-same-length-10 t c = search needs
-
-parse-prefix-same-length-11 : (t : ℕ) → parse-prefix-lts.Need-same-length-11 (parse-prefix-claims t) (parse-prefix-at t) parse-prefix.Post
-parse-prefix-same-length-11 t c = search needs
-
-parse-prefix-returns-7 : (t : ℕ) → parse-prefix-lts.Need-returns-7 (parse-prefix-claims t) (parse-prefix-at t) parse-prefix.Post
-parse-prefix-returns-7 t c =
-    let c-pre = c .before .before .before .before .before .before .before .before .before .before .before .before .before .before .before .before .before .before .before .pre in
-    let c-if1 = c .before .before .before .before .before .before .before .before .before .before .before .before .before .before .if1 in
-    let c-token-at = c .before .before .before .before .before .before .before .before .before .before .before .before .token-at in
-    let c-p = c .before .before .before .before .before .before .before .before .before .before .p in
+    let c-pre = c .before .before .before .before .before .before .before .before .before .before .before .before .before .before .before .before .before .before .before .before .before .pre in
+    let c-if1 = c .before .before .before .before .before .before .before .before .before .before .before .before .before .before .before .before .if1 in
+    let c-token-at = c .before .before .before .before .before .before .before .before .before .before .before .before .before .before .token-at in
+    let c-p = c .before .before .before .before .before .before .before .before .before .before .before .before .p in
+    let c-is-unary = c .before .before .before .before .before .before .before .before .before .is-unary in
+    let c-if2 = c .before .before .before .before .before .before .before .before .if2 in
     let c-match2 = c .before .before .before .before .before .before .before .match2 in
     let c-parse-leaf = c .before .before .before .before .parse-leaf in
-    prefix-leaf _ _ _ _ _ _ (c-pre .1 .room .within) (c-if1 .left) (sym (c-token-at .ensures) ∙ c-p .given .1) (c-match2 .rest .0 .0 .0 .1) (c-match2 .rest .0 .0 .1) (c-match2 .rest .0 .1) (c-match2 .rest .1) (c-parse-leaf .ensures)
+    prefix-leaf _ _ _ _ _ _ (c-pre .1 .room .within) (c-if1 .left) (sym (c-token-at .ensures) ∙ c-p .given .1) (sym (c-is-unary .ensures _) ∙ c-if2 .left) (c-match2 .rest .0 .1) (c-match2 .rest .1) (c-parse-leaf .ensures)
 
 parse-unary-parse-prefix-requires : (t : ℕ) → parse-unary-lts.Need-parse-prefix-requires (parse-unary-claims t) (parse-unary-at t) parse-unary.Post
 parse-unary-parse-prefix-requires t c κs = search needs
@@ -1072,14 +1058,14 @@ pub +parse-expression+parse-expression-from+parse-group+parse-operated+parse-plu
     (parse-prefix-enum-known-p t)
     (parse-prefix-step-over-requires t)
     (parse-prefix-sub-less t)
+    (parse-prefix-is-unary-requires t)
     (parse-prefix-parse-unary-requires t)
-    (parse-prefix-parse-unary-requires-2 t)
+    (parse-prefix-same-length-2 t)
+    (parse-prefix-same-length-3 t)
+    (parse-prefix-returns-2 t)
     (parse-prefix-parse-plus-requires t)
     (parse-prefix-parse-group-requires t)
     (parse-prefix-parse-leaf-requires t)
-    (parse-prefix-returns-2 t)
-    (parse-prefix-same-length-2 t)
-    (parse-prefix-same-length-3 t)
     (parse-prefix-returns-3 t)
     (parse-prefix-same-length-4 t)
     (parse-prefix-same-length-5 t)
@@ -1089,10 +1075,7 @@ pub +parse-expression+parse-expression-from+parse-group+parse-operated+parse-plu
     (parse-prefix-returns-5 t)
     (parse-prefix-same-length-8 t)
     (parse-prefix-same-length-9 t)
-    (parse-prefix-returns-6 t)
-    (parse-prefix-same-length-10 t)
-    (parse-prefix-same-length-11 t)
-    (parse-prefix-returns-7 t))
+    (parse-prefix-returns-6 t))
     λ t. parse-unary-lts.spec (parse-unary-claims t) (parse-unary-at t)
     parse-unary.Post
     (parse-unary-parse-prefix-requires t)

@@ -1,9 +1,9 @@
--- `parser::full::is_base` meets its contract.
+-- `parser::places::is_base` meets its contract.
 -- Assumes nothing.
 use Rattle.parser.specs.Tests.{isBase}
 use borrow.Author.Needs.{needs}
-use Rattle.parser.proofs.full.is_base.Statement.{statement}
-use Rattle.parser.proofs.full.is_base.Tie as tie
+use Rattle.parser.proofs.places.is_base.Statement.{statement}
+use Rattle.parser.proofs.places.is_base.Tie as tie
 
 enum-told : tie.Need-enum-told
 enum-told c = search needs
