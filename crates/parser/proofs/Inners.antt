@@ -29,7 +29,7 @@ use Rattle.records.specs.Rooms.{Room, NodeRoom}
 use Rattle.parser.specs.Steps.{Told, Same, HeldBy, Stored}
 use Rattle.operand.specs.Costs.{Left}
 use Rattle.operand.specs.Costs as cost
-use Rattle.parser.specs.Brackets.{StoredD, StoredPart, SizedTold, DisplacementTold, innerOf, innerRead, innerD, InnerTold, outerOf, outerRead, outerD, OuterTold, StoredBoth, ClosedTold}
+use Rattle.parser.specs.Brackets.{indirectRecord, StoredD, StoredPart, SizedTold, DisplacementTold, innerOf, innerRead, innerD, InnerTold, outerOf, outerRead, outerD, OuterTold, StoredBoth, ClosedTold}
 use Rattle.operand.specs.declared.forms.Registers.{Registers}
 use Rattle.operand.specs.declared.forms.Index.{Index}
 use Rattle.operand.specs.declared.forms.IndexRegister.{IndexRegister}
@@ -235,11 +235,11 @@ outer-of s x {n} {L} {T} {N} {D} {N′} {D′} {c} {r} e h = subst (λ (z : Inne
 -- the parenthesis closes at e
 pub operand-closed : (s : Setting) (e : ℕ) {L T N D : List ℕ} {c c₁ : Counters} {n : InnerPart} {u : OuterPart} {v : OperandRead} {r : Counters} (x : Inner) (y : Outer) → innerOf 0 x ≡ n
     → outerOf (sizeD (x .displacement)) y ≡ u → StoredBoth N (x .displacement) (y .displacement) c → c₁ .nodes ≡ c .nodes
-    → v ≡ OperandRead.Is (record { form = 12; span = span (s .start) e; displacement = n .displacement; base = n .registers .base; index = u .index; indirection = u .indirection; outer = u .displacement; special = 0; mask = 0 })
+    → v ≡ OperandRead.Is (indirectRecord (s .start) e n u)
     → r ≡ c₁ → Told operandRead (Stored N) (memoryIndirect s x y (some e)) L T D D c₁ v r
 unfolding memoryIndirect operandRead recordOf HeldBy nodesO sizeO innerOf outerOf
 operand-closed s e {N = N} {n = n} {u = u} x y a b st h w q =
-    answered (w ∙ ap₂ (λ (i : InnerPart) (j : OuterPart). OperandRead.Is (record { form = 12; span = span (s .start) e; displacement = i .displacement; base = i .registers .base; index = j .index; indirection = j .indirection; outer = j .displacement; special = 0; mask = 0 })) (sym a) (sym b)) q
+    answered (w ∙ ap₂ (λ (i : InnerPart) (j : OuterPart). OperandRead.Is (indirectRecord (s .start) e i j)) (sym a) (sym b)) q
     (sym (ap (λ m. take (10 * m) N) h ∙ st .bytes), sym (h ∙ st .total))
 
 -- both displacements

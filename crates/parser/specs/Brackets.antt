@@ -6,6 +6,7 @@ use Prim.Native.Nat.{ℕ, _+_, _*_}
 use lib.ListN.{take}
 use Rattle.names.specs.declared.tokens.Token.{Token}
 use Rattle.expressions.specs.declared.reading.Setting.{Setting}
+use Rattle.records.specs.Spans.{span}
 use Rattle.records.specs.declared.counters.Counters.{Counters}
 use Rattle.expressions.specs.Expressions.{takeSizeSuffix}
 use Rattle.expressions.specs.Reader.{Reader, _>>=_}
@@ -17,6 +18,7 @@ use Rattle.operand.specs.Forms.{sizedOf, displacementRead, operandRead}
 use Rattle.parser.specs.Steps.{Told, Stored}
 use Rattle.operand.specs.declared.forms.SizedDisplacement.{SizedDisplacement}
 use Rattle.operand.specs.declared.forms.DisplacementStep.{DisplacementStep}
+use Rattle.operand.specs.declared.forms.OperandRecord.{OperandRecord}
 use Rattle.operand.specs.declared.forms.OperandStep.{OperandStep}
 use Rattle.parser.specs.declared.inner.InnerPart.{InnerPart}
 use Rattle.parser.specs.declared.inner.InnerRead.{InnerRead}
@@ -89,6 +91,11 @@ pub record OuterTold (p : Reader (Maybe Outer)) (L T N D N′ D′ : List ℕ) (
 pub record StoredBoth (N : List ℕ) (d e : Displacement) (c : Counters) : Type 0 where
   pub bytes : take (10 * c .nodes) N ≡ nodesD 0 d ++ nodesD (sizeD d) e
   pub total : c .nodes ≡ sizeD d + sizeD e
+
+-- the operand between two offsets, of what stands within the brackets and behind them
+abbrev pub indirectRecord : ℕ → ℕ → InnerPart → OuterPart → OperandRecord
+indirectRecord start end n u =
+    record { form = 12; span = span start end; displacement = n .displacement; base = n .registers .base; index = u .index; indirection = u .indirection; outer = u .displacement; special = 0; mask = 0 }
 
 pub record ClosedTold (s : Setting) (k : Token) (T D D′ : List ℕ) (c : Counters) (n : InnerPart) (u : OuterPart) (r : OperandStep) : Type 0 where
   pub told : (L N : List ℕ) (x : Inner) (y : Outer) → innerOf 0 x ≡ n → outerOf (sizeD (x .displacement)) y ≡ u → StoredBoth N (x .displacement) (y .displacement) c

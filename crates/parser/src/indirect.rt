@@ -24,7 +24,32 @@ ghost use mathlib.Core.Path.{_≡_};
 ghost use Rattle.records.specs.Rooms.{Room, NodeRoom};
 ghost use Rattle.operand.specs.Operand.{parseMemoryIndirect};
 ghost use Rattle.parser.specs.Steps.{OperandTold};
-ghost use Rattle.parser.specs.Brackets.{ClosedTold, BehindTold};
+ghost use Rattle.parser.specs.Brackets.{indirectRecord, ClosedTold, BehindTold};
+
+// The operand between two offsets, of what stands within the brackets and behind them.
+fn memory_indirect(start: u16, end: u16, n: InnerPart, u: OuterPart) -> OperandRecord
+    ensures { λ r. ⌜ r ≡ indirectRecord start end n u ⌝ }
+{
+    let displacement = n.displacement;
+    let registers = n.registers;
+    let base = registers.base;
+    let index = u.index;
+    let outer = u.displacement;
+    OperandRecord {
+        form: 12,
+        span: Span {
+            start: start,
+            end: end,
+        },
+        displacement: displacement,
+        base: base,
+        index: index,
+        indirection: u.indirection,
+        outer: outer,
+        special: 0,
+        mask: 0,
+    }
+}
 
 // Behind all that stands between the parentheses.
 fn close_indirect(
@@ -44,28 +69,7 @@ fn close_indirect(
     let close = e.close;
     match close {
         Close::Not => no_operand(f),
-        Close::Is(end) => {
-            let displacement = n.displacement;
-            let registers = n.registers;
-            let base = registers.base;
-            let index = u.index;
-            let outer = u.displacement;
-            let x = OperandRecord {
-                form: 12,
-                span: Span {
-                    start: s.start,
-                    end: end,
-                },
-                displacement: displacement,
-                base: base,
-                index: index,
-                indirection: u.indirection,
-                outer: outer,
-                special: 0,
-                mask: 0,
-            };
-            an_operand(x, f)
-        }
+        Close::Is(end) => an_operand(memory_indirect(s.start, end, n, u), f),
     }
 }
 

@@ -288,15 +288,13 @@ pub(crate) fn parse_register_list(
     let mut r = first;
     let end = loop {
         let i = list_item(line, tokens, diagnostics, e, r);
-        let f = i.counters;
         let read = i.item;
         let ItemRead::Is(item) = read else {
-            return no_operand(f);
+            return no_operand(i.counters);
         };
         mask = mask | range_bits(item.from.index, item.to.index);
-        e = put_item(nodes, f, item);
-        let p = slash_at(tokens, e.at as usize);
-        let Peeked::Is(t) = p else {
+        e = put_item(nodes, i.counters, item);
+        let Peeked::Is(t) = slash_at(tokens, e.at as usize) else {
             break ListEnd {
                 counters: e,
                 mask: mask,

@@ -1,8 +1,9 @@
 -- `parser::indirect::close_indirect` meets its contract.
 -- Assumes nothing.
-use mathlib.Core.Path.{sym, _∙_}
+use mathlib.Core.Path.{sym, _∙_, ap}
 use Rattle.operand.specs.Operand.{memoryIndirect}
 use Rattle.operand.specs.Forms.{operandRead}
+use Rattle.operand.specs.declared.forms.OperandRead.{OperandRead}
 use Rattle.parser.specs.Steps.{HeldBy}
 use Rattle.parser.proofs.Paths.{answered, bound}
 use Rattle.parser.proofs.Rooms.{close-is, close-not}
@@ -22,6 +23,9 @@ no-operand-requires c κs = search needs
 
 enum-known-close : tie.Need-enum-known-close
 enum-known-close c = search needs
+
+memory-indirect-requires : tie.Need-memory-indirect-requires
+memory-indirect-requires c κs = search needs
 
 an-operand-requires : tie.Need-an-operand-requires
 an-operand-requires c κs = search needs
@@ -45,7 +49,8 @@ returns-2 c =
     let c-expect-close = c .before .before .before .before .before .before .before .before .expect-close in
     let c-close = c .before .before .before .close in
     let c-an-operand = c .an-operand in
-    record { told = λ L N x y a b st. bound (c-expect-close .ensures L) (close-is _ (sym (c-expect-close .ensures L .what) ∙ c-close .given .1)) (operand-closed _ _ x y a b st (c-expect-close .ensures L .held) (c-an-operand .ensures .0) (c-an-operand .ensures .1)) }
+    let c-memory-indirect = c .before .memory-indirect in
+    record { told = λ L N x y a b st. bound (c-expect-close .ensures L) (close-is _ (sym (c-expect-close .ensures L .what) ∙ c-close .given .1)) (operand-closed _ _ x y a b st (c-expect-close .ensures L .held) (c-an-operand .ensures .0 ∙ ap OperandRead.Is (c-memory-indirect .ensures)) (c-an-operand .ensures .1)) }
 
 pub close-indirect-spec : {M : Type 1} → statement M
 close-indirect-spec =
@@ -55,6 +60,7 @@ close-indirect-spec =
     enum-told
     no-operand-requires
     enum-known-close
+    memory-indirect-requires
     an-operand-requires
     same-length
     returns
