@@ -1,7 +1,7 @@
 -- The tests of the refusals, each at what the code looks at: a byte of the line, a sign's text, a token, the free records.
 -- Assumes nothing.
 use mathlib.Core.Path.{_≡_, refl, sym, _∙_, ap}
-use mathlib.Core.Bool.{Bool, true, false}
+use mathlib.Core.Bool.{Bool, true, false, _||_}
 use mathlib.Core.List.{List, [], _∷_, map}
 use Prim.Native.Nat.{ℕ, zero, suc, _+_, _≤_, _<_}
 use Prim.Native.String.{String}
@@ -34,9 +34,10 @@ pub either-assoc : (a b c : Bool) → either (either a b) c ≡ either a (either
 either-assoc true b c = refl
 either-assoc false b c = refl
 
-pub either-true : (b : Bool) → either b true ≡ true
-either-true true = refl
-either-true false = refl
+-- the code's or
+pub or-either : (a b : Bool) → (a || b) ≡ either a b
+or-either true b = refl
+or-either false b = refl
 
 -- ---- a sign's text
 

@@ -14,27 +14,24 @@ const NODES: usize = 3570;
 // The diagnostic records that must be free.
 const FREE: usize = 511;
 
-// Whether a byte is not printable, or one was found before it.
-fn seen(found: bool, byte: u8) -> bool
-    ensures { λ r. ⌜ r ≡ either found (either (ltb byte 32) (ltb 126 byte)) ⌝ }
+// Whether a byte is not printable.
+fn is_foreign(byte: u8) -> bool
+    ensures { λ r. ⌜ r ≡ either (ltb byte 32) (ltb 126 byte) ⌝ }
 {
     if byte < 32 {
         return true;
     }
-    if 126 < byte {
-        return true;
-    }
-    found
+    126 < byte
 }
 
-// Whether a byte of the line is not printable. All are looked at: without a way out the loop is faster.
+// Whether a byte of the line is not printable. All are looked at, and nothing branches, so that several are looked at in one step.
 fn foreign(line: &[u8]) -> bool
     ensures { λ r. ⌜ r ≡ foreign (now (line .entry)) ⌝ }
 {
     let mut i = 0;
     let mut found = false;
     while i < line.len() {
-        found = seen(found, line[i]);
+        found = found | is_foreign(line[i]);
         i += 1;
     }
     found

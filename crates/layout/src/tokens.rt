@@ -12,31 +12,6 @@ ghost use Rattle.records.specs.Stores.{written};
 ghost use Rattle.operand.specs.Entry.{signs, spelledAs, prefixed, wellSpelled, goodToken};
 ghost use Rattle.layout.specs.Coding.{Decoded};
 
-// The byte of each sign, from kind 5 (`#`) on; the last two have it twice.
-const SIGNS: [u8; 21] = [
-    35,
-    44,
-    40,
-    41,
-    91,
-    93,
-    123,
-    125,
-    58,
-    43,
-    45,
-    42,
-    47,
-    92,
-    38,
-    33,
-    124,
-    94,
-    126,
-    60,
-    62,
-];
-
 // Whether a text is this byte alone.
 fn once(text: &[u8], byte: u8) -> bool
     ensures { λ r. ⌜ r ≡ same (now (text .entry)) (byte ∷ []) ⌝ }
@@ -65,12 +40,14 @@ fn spelled(kind: u16, text: &[u8]) -> bool
     requires { ⌜ 5 ≤ kind ⌝ }
     ensures { λ r. ⌜ r ≡ spelledAs signs (kind - 5) (now (text .entry)) ⌝ }
 {
-    if 26 <= kind {
+    if kinds::SHIFT_RIGHT < kind {
         return true;
     }
-    let i = (kind - 5) as usize;
-    let byte = SIGNS[i];
-    if kind < 24 {
+    // The byte of each sign; the last two have it twice.
+    let signs = b"#,()[]{}:+-*/\\&!|^~<>";
+    let i = (kind - kinds::HASH) as usize;
+    let byte = signs[i];
+    if kind < kinds::SHIFT_LEFT {
         return once(text, byte);
     }
     twice(text, byte)

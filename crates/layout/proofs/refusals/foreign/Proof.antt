@@ -6,7 +6,7 @@ use native.Mathlib.Omega.{arith}
 use lib.ListN.{length, drop}
 use Rattle.names.specs.Choice.{either}
 use Rattle.operand.specs.Entry.{foreign}
-use Rattle.layout.proofs.Checks.{foreign-end, foreign-on, either-false, either-assoc}
+use Rattle.layout.proofs.Checks.{foreign-end, foreign-on, either-false, either-assoc, or-either}
 use borrow.Author.Needs.{needs}
 use Rattle.layout.proofs.refusals.foreign.Statement.{statement}
 use Rattle.layout.proofs.refusals.foreign.Tie as tie
@@ -20,11 +20,11 @@ abbrev μ-loop : tie.MeasureT-loop
 loop-holds : tie.Need-loop-holds Inv-loop μ-loop
 loop-holds c = (omega arith, refl)
 
-shared-slice-read-seen : tie.Need-shared-slice-read-seen Inv-loop μ-loop
-shared-slice-read-seen c = search needs
+shared-slice-read-is-foreign : tie.Need-shared-slice-read-is-foreign Inv-loop μ-loop
+shared-slice-read-is-foreign c = search needs
 
-seen-requires : tie.Need-seen-requires Inv-loop μ-loop
-seen-requires c κs = search needs
+is-foreign-requires : tie.Need-is-foreign-requires Inv-loop μ-loop
+is-foreign-requires c κs = search needs
 
 add-i : tie.Need-add-i Inv-loop μ-loop
 add-i c = search needs
@@ -36,8 +36,8 @@ loop-again : tie.Need-loop-again Inv-loop μ-loop
 loop-again c =
     let c-loop = c .before .before .before .loop in
     let c-args = c .before .before .before .before .before .args in
-    let c-seen = c .seen in
-    (omega arith, ap (λ b. either b (foreign (drop (c-loop .i + 1) (c-args .line .now)))) (c-seen .ensures) ∙ either-assoc (c-loop .found) _ _ ∙ ap (either (c-loop .found)) (sym (foreign-on (c-args .line .now) (c-loop .i) (omega arith))) ∙ c-loop .inv .1)
+    let c-is-foreign = c .is-foreign in
+    (omega arith, ap (λ b. either b (foreign (drop (c-loop .i + 1) (c-args .line .now)))) (or-either (c-loop .found) _ ∙ ap (either (c-loop .found)) (c-is-foreign .ensures)) ∙ either-assoc (c-loop .found) _ _ ∙ ap (either (c-loop .found)) (sym (foreign-on (c-args .line .now) (c-loop .i) (omega arith))) ∙ c-loop .inv .1)
 
 returns : tie.Need-returns Inv-loop μ-loop
 returns c =
@@ -52,8 +52,8 @@ foreign-spec =
     Inv-loop
     μ-loop
     loop-holds
-    shared-slice-read-seen
-    seen-requires
+    shared-slice-read-is-foreign
+    is-foreign-requires
     add-i
     loop-less
     loop-again

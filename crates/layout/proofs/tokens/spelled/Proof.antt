@@ -19,8 +19,8 @@ sub-i c = search needs
 cast-i : tie.Need-cast-i
 cast-i c = search needs
 
-array-read-byte : tie.Need-array-read-byte
-array-read-byte c = search needs
+element-copy-out-byte : tie.Need-element-copy-out-byte
+element-copy-out-byte c = search needs
 
 once-requires : tie.Need-once-requires
 once-requires c κs = search needs
@@ -29,7 +29,7 @@ returns-2 : tie.Need-returns-2
 returns-2 c =
     let c-once = c .once in
     let c-if2 = c .before .if2 in
-    let c-pre = c .before .before .before .before .pre in
+    let c-pre = c .before .before .before .before .before .before .pre in
     c-once .ensures ∙ sym (sign-once _ _ (omega (arith, c-if2 .taken, c-pre)))
 
 twice-requires : tie.Need-twice-requires
@@ -39,8 +39,8 @@ returns-3 : tie.Need-returns-3
 returns-3 c =
     let c-twice = c .twice in
     let c-if2 = c .before .if2 in
-    let c-pre = c .before .before .before .before .pre in
-    let c-if1 = c .before .before .if1 in
+    let c-pre = c .before .before .before .before .before .before .pre in
+    let c-if1 = c .before .before .before .before .if1 in
     c-twice .ensures ∙ sym (sign-twice _ _ (omega (arith, c-if2 .left, c-pre)) (omega (arith, c-if1 .left, c-pre)))
 
 pub spelled-spec : {M : Type 1} → statement M
@@ -50,7 +50,7 @@ spelled-spec =
     returns
     sub-i
     cast-i
-    array-read-byte
+    element-copy-out-byte
     once-requires
     returns-2
     twice-requires
