@@ -48,15 +48,15 @@ pub enum SizedDisplacement {
     Not,
 }
 
-// The fields of document 01's record, and the mask of a register list. The large ones stand first, since a record is copied in pieces
-// that then are whole fields.
+// The fields of document 01's record, and the mask of a register list, which has sixteen bits. Order and widths are such that the pieces
+// in which a record is copied do not overlap.
 pub struct OperandRecord {
     pub base: BaseRegister,
     pub index: Index,
     pub displacement: SizedDisplacement,
     pub outer: SizedDisplacement,
     pub span: Span,
-    pub mask: u16,
+    pub mask: u32,
     pub form: u8,
     pub indirection: u8,
     pub special: u8,

@@ -1,4 +1,5 @@
-// Expressions of an operand, for which there is always room.
+// Expressions of an operand, for which there is always room. A slice that is lent anew (`&*line`) is handed on in registers, not through
+// memory.
 use expressions::Setting;
 use records::Counters;
 use records::Span;
@@ -23,7 +24,7 @@ pub(crate) fn expression_at(
     requires { ⌜ NodeRoom (now tokens) (now nodes) c 0 0 1 ⌝ }
     ensures { λ r. ⌜ ExpressionFits (now (line .entry)) (now (tokens .entry)) (now (nodes .entry)) (now (diagnostics .entry)) (now (nodes .exit)) (now (diagnostics .exit)) c (s .limit) r ⌝ }
 {
-    let r = expression(line, tokens, nodes, diagnostics, c, s);
+    let r = expression(&*line, &*tokens, nodes, diagnostics, c, s);
     match r {
         ExpressionAnswer::Is(x) => x,
         ExpressionAnswer::Unfit => Step {

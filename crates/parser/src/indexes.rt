@@ -1,4 +1,5 @@
-// Sizes, scales and index registers, and the end of a parenthesis.
+// Sizes, scales and index registers, and the end of a parenthesis. A slice that is lent anew (`&*line`) is handed on in registers, not
+// through memory.
 use crate::places::register_at;
 use crate::places::register_of;
 use crate::places::suppressed_index_at;
@@ -55,7 +56,7 @@ pub(crate) fn suffix_run(
     requires { ⌜ c .diagnostics < 65535 ⌝ }
     ensures { λ r. ⌜ ((T : List ℕ) → Told suffixRead (Same (c .nodes)) (suffixRun from token (runOf (textOf (now (line .entry)) (token .start) (token .end)))) (now (line .entry)) T (now (diagnostics .entry)) (now (diagnostics .exit)) c (r .suffix) (r .counters)) ⌝ }
 {
-    let run = names::suffix_run(names::text_of(line, token));
+    let run = names::suffix_run(names::text_of(&*line, token));
     let span = span_of(token);
     if 2 <= run.len() {
         let name = Span {
@@ -339,11 +340,11 @@ fn index_register(
 {
     let own = register.span;
     let start = own.start;
-    let z = take_size_suffix(line, tokens, diagnostics, c, start);
+    let z = take_size_suffix(&*line, &*tokens, diagnostics, c, start);
     let e = z.counters;
     let suffix = z.suffix;
     let x = sized_index(register, suppressed, suffix);
-    index_scale(line, tokens, diagnostics, e, s, shape, x)
+    index_scale(&*line, &*tokens, diagnostics, e, s, shape, x)
 }
 
 pub(crate) fn parse_index_register(
@@ -358,19 +359,19 @@ pub(crate) fn parse_index_register(
     ensures { λ r. ⌜ Told indexRead (Same (c .nodes)) (parseIndexRegister s shape) (now (line .entry)) (now (tokens .entry)) (now (diagnostics .entry)) (now (diagnostics .exit)) c (r .index) (r .counters) ⌝ }
 {
     let at = c.at as usize;
-    let p = names::token_at(tokens, at);
+    let p = names::token_at(&*tokens, at);
     let Peeked::Is(t) = p else {
-        return no_index(stepped_over(tokens, diagnostics, c, s, shape, 6));
+        return no_index(stepped_over(&*tokens, diagnostics, c, s, shape, 6));
     };
     let e = step_over(c, t);
-    let z = suppressed_index_at(line, t, at, s);
+    let z = suppressed_index_at(&*line, t, at, s);
     if let Reg::Is(i) = z {
         let register = register_of(i, t);
-        return index_register(line, tokens, diagnostics, e, s, shape, register, true);
+        return index_register(&*line, &*tokens, diagnostics, e, s, shape, register, true);
     }
-    let Reg::Is(index) = register_at(line, t) else {
-        return no_index(stepped_over(tokens, diagnostics, c, s, shape, 6));
+    let Reg::Is(index) = register_at(&*line, t) else {
+        return no_index(stepped_over(&*tokens, diagnostics, c, s, shape, 6));
     };
     let register = register_of(index, t);
-    index_register(line, tokens, diagnostics, e, s, shape, register, false)
+    index_register(&*line, &*tokens, diagnostics, e, s, shape, register, false)
 }

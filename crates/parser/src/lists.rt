@@ -248,7 +248,7 @@ fn listed(start: u16, c: Counters, mask: u16) -> OperandStep
         indirection: 0,
         outer: SizedDisplacement::Not,
         special: 0,
-        mask: mask,
+        mask: mask as u32,
     };
     OperandStep {
         operand: OperandRead::Is(x),
