@@ -24,12 +24,13 @@ use Rattle.operand.specs.Operand.{finishExpressionOperand}
 use Rattle.operand.specs.Records.{sizeD, nodesD}
 use Rattle.operand.specs.Forms.{sizedOf, operandRead}
 use Rattle.records.specs.Rooms.{NodeRoom}
-use Rattle.parser.specs.Steps.{Told, HeldBy, Kept, Unsized, Stored}
+use Rattle.expressions.specs.Told.{Told}
+use Rattle.parser.specs.Steps.{HeldBy, Kept, Unsized, Stored}
 use Rattle.parser.specs.Behind.{TreeTold}
 use Rattle.operand.specs.declared.forms.SizedDisplacement.{SizedDisplacement}
 use Rattle.operand.specs.declared.forms.OperandRead.{OperandRead}
 use Rattle.operand.specs.declared.forms.OperandStep.{OperandStep}
-use Rattle.parser.proofs.Paths.{answered, bound, reheld}
+use Rattle.expressions.specs.Paths.{answered, bound, reheld}
 use Rattle.parser.proofs.Trees.{TreeRead, term-told, from-told}
 
 -- ---- an operand's nodes

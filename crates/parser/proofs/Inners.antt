@@ -26,7 +26,8 @@ use Rattle.operand.specs.Operand.{anIndex, steppedOver, parseIndexRegister, out
 use Rattle.operand.specs.Records.{sizeD, nodesD, sizeO, nodesO}
 use Rattle.operand.specs.Forms.{sizedOf, displacementRead, recordOf, operandRead}
 use Rattle.records.specs.Rooms.{Room, NodeRoom}
-use Rattle.parser.specs.Steps.{Told, Same, HeldBy, Stored}
+use Rattle.expressions.specs.Told.{Told, Same}
+use Rattle.parser.specs.Steps.{HeldBy, Stored}
 use Rattle.operand.specs.Costs.{Left}
 use Rattle.operand.specs.Costs as cost
 use Rattle.parser.specs.Brackets.{indirectRecord, StoredD, StoredPart, SizedTold, DisplacementTold, innerOf, innerRead, innerD, InnerTold, outerOf, outerRead, outerD, OuterTold, StoredBoth, ClosedTold}
@@ -44,7 +45,7 @@ use Rattle.parser.specs.declared.inner.InnerStep.{InnerStep}
 use Rattle.parser.specs.declared.outer.OuterPart.{OuterPart}
 use Rattle.parser.specs.declared.outer.OuterRead.{OuterRead}
 use Rattle.parser.specs.declared.outer.OuterStep.{OuterStep}
-use Rattle.parser.proofs.Paths.{answered, hereby, hit, passed, unseen}
+use Rattle.expressions.specs.Paths.{answered, hereby, hit, passed, unseen}
 use Rattle.parser.proofs.Rooms.{room-step, left-room}
 use Rattle.parser.proofs.Trees.{TreeRead}
 

@@ -28,7 +28,8 @@ use Rattle.operand.specs.Operand.{baseShape, indexedOperand, closedBase, closed
 use Rattle.operand.specs.Forms.{sizedOf, formOf, recordOf, operandRead}
 use Rattle.operand.specs.Records.{sizeD, nodesD, sizeO, nodesO}
 use Rattle.parser.specs.Tests.{isBase}
-use Rattle.parser.specs.Steps.{Raised, Told, HeldBy, Kept, Unsized, Plain}
+use Rattle.expressions.specs.Told.{Raised, Told}
+use Rattle.parser.specs.Steps.{HeldBy, Kept, Unsized, Plain}
 use Rattle.operand.specs.declared.forms.Register.{Register}
 use Rattle.operand.specs.declared.forms.IndexRegister.{IndexRegister}
 use Rattle.operand.specs.declared.forms.BaseRegister.{BaseRegister}
@@ -39,7 +40,8 @@ use Rattle.operand.specs.declared.forms.SizedDisplacement.{SizedDisplacement}
 use Rattle.operand.specs.declared.forms.OperandRecord.{OperandRecord}
 use Rattle.operand.specs.declared.forms.OperandRead.{OperandRead}
 use Rattle.operand.specs.declared.forms.OperandStep.{OperandStep}
-use Rattle.parser.proofs.Paths.{renamed, reheld, raised-as, answered, hit, missed, failed-malformed, raised-same}
+use Rattle.expressions.specs.Paths.{renamed, reheld, raised-as, answered, hit, missed, raised-same}
+use Rattle.parser.proofs.Failures.{failed-malformed}
 
 -- ---- the shape
 

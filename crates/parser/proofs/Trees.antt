@@ -23,7 +23,7 @@ use Rattle.expressions.specs.Records.{nodes, length-nodes}
 use Rattle.terms.specs.Terms.{parsedOf, sizeT, nodesT}
 use Rattle.expressions.specs.Trees.{Expr, spanE, withSpan, size}
 use Rattle.records.specs.Rooms.{Room, NodeRoom}
-use Rattle.parser.specs.Steps.{Told}
+use Rattle.expressions.specs.Told.{Told}
 
 -- ---- the node store
 

@@ -30,7 +30,8 @@ use Rattle.operand.specs.Mask as M
 use Rattle.operand.specs.Forms.{recordOf, operandRead}
 use Rattle.operand.specs.Fuel.{list-equation}
 use Rattle.records.specs.Rooms.{Room}
-use Rattle.parser.specs.Steps.{Told, HeldBy, Stored, OperandTold}
+use Rattle.expressions.specs.Told.{Told}
+use Rattle.parser.specs.Steps.{HeldBy, Stored, OperandTold}
 use Rattle.parser.specs.Items.{RegisterTold, found, missing, itemOf, itemRead, Behind, ItemHeld, ItemTold, itemBytes, slashed, listStep, ListAsks}
 use Rattle.operand.specs.declared.forms.Register.{Register}
 use Rattle.operand.specs.declared.forms.OperandRead.{OperandRead}
@@ -40,7 +41,7 @@ use Rattle.parser.specs.declared.lists.ItemRead.{ItemRead}
 use Rattle.parser.specs.declared.lists.ItemStep.{ItemStep}
 use Rattle.parser.specs.declared.lists.RegisterRead.{RegisterRead}
 use Rattle.parser.specs.declared.lists.RegisterStep.{RegisterStep}
-use Rattle.parser.proofs.Paths.{retold, answered, hereby, bound, hit, missed}
+use Rattle.expressions.specs.Paths.{retold, answered, hereby, bound, hit, missed}
 use Rattle.parser.proofs.Ranges.{or-assoc, is-register, room-on, found-at, expected}
 
 -- ---- one more item

@@ -5,7 +5,7 @@ use native.Mathlib.Omega.{arith}
 use Rattle.operand.specs.Operand.{outerClosed}
 use Rattle.operand.specs.Forms.{operandRead}
 use Rattle.parser.specs.Steps.{HeldBy}
-use Rattle.parser.proofs.Paths.{answered, bound}
+use Rattle.expressions.specs.Paths.{answered, bound}
 use Rattle.parser.proofs.Inners.{outer-room, outer-is, outer-not, outer-of, held-some, operand-behind}
 use borrow.Author.Needs.{needs}
 use Rattle.parser.proofs.indirect.after_inner.Statement.{statement}

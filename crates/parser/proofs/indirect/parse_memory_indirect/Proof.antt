@@ -9,7 +9,8 @@ use Rattle.operand.specs.Forms.{operandRead}
 use Rattle.parser.specs.Steps.{HeldBy}
 use Rattle.parser.specs.Brackets.{innerOf}
 use Rattle.names.specs.Places.{live}
-use Rattle.parser.proofs.Paths.{answered, bound, hit, miss, done, failed-unclosed}
+use Rattle.expressions.specs.Paths.{answered, bound, hit, miss, done}
+use Rattle.parser.proofs.Failures.{failed-unclosed}
 use Rattle.parser.proofs.Inners.{node-step, inner-room, inner-is, inner-not, held-some, stored-on, stored-first}
 use borrow.Author.Needs.{needs}
 use Rattle.parser.proofs.indirect.parse_memory_indirect.Statement.{statement}

@@ -4,7 +4,7 @@ use mathlib.Core.Path.{sym, _∙_}
 use native.Mathlib.Omega.{arith}
 use Rattle.operand.specs.Operand.{innerDisplaced}
 use Rattle.parser.specs.Brackets.{innerRead}
-use Rattle.parser.proofs.Paths.{answered, bound}
+use Rattle.expressions.specs.Paths.{answered, bound}
 use Rattle.parser.proofs.Inners.{displacement-is, displacement-not, displacement-room, held-some}
 use borrow.Author.Needs.{needs}
 use Rattle.parser.proofs.inner.inner_displacement.Statement.{statement}

@@ -3,7 +3,7 @@
 use mathlib.Core.Path.{sym, _∙_}
 use Rattle.operand.specs.Operand.{outerDisplaced}
 use Rattle.parser.specs.Brackets.{outerRead}
-use Rattle.parser.proofs.Paths.{answered, bound}
+use Rattle.expressions.specs.Paths.{answered, bound}
 use Rattle.parser.proofs.Inners.{displacement-is, displacement-not, held-some, outer-answered}
 use borrow.Author.Needs.{needs}
 use Rattle.parser.proofs.outer.outer_displaced.Statement.{statement}

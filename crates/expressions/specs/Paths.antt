@@ -2,28 +2,22 @@
 -- Assumes nothing.
 use mathlib.Core.Path.{_≡_, refl, sym, _∙_, ap, subst}
 use mathlib.Core.Bool.{Bool, true, false}
-use mathlib.Core.List.{List, [], _∷_, _++_}
-use Prim.Native.Nat.{ℕ, _+_, _*_, _<_, _≤_}
-use native.Mathlib.Nat.{add-zero}
+use mathlib.Core.List.{List}
+use Prim.Native.Nat.{ℕ, _+_}
 use native.Mathlib.Omega.{arith}
 use lib.ListN.{length, length-append}
-use Rattle.names.specs.Tokens.{count, tokenAt}
+use Rattle.names.specs.Tokens.{tokenAt}
 use Rattle.names.specs.Places.{Place, nothing, stands, textOf, place, there, nowhere}
 use Rattle.names.specs.declared.tokens.Token.{Token}
 use Rattle.names.specs.declared.tokens.Peeked.the-variants as peeked
 use Rattle.records.specs.declared.diagnostics.Diagnostic.{Diagnostic}
 use Rattle.records.specs.declared.counters.Counters.{Counters}
-use Rattle.records.specs.Diagnostics.{diagnosticRecord, malformedOperand, malformedOpen}
-use Rattle.expressions.specs.Laws.{holds, met-one, met-yes, met-no}
-use Rattle.expressions.specs.Reader.{Test, Reading, reading, after, Reader, answer, here, raise, bump, peek, _>>=_, choose, run}
-use Rattle.records.specs.Stores.{written, added}
+use Rattle.records.specs.Stores.{added}
 use Rattle.records.specs.Written.{added-append}
 use Rattle.records.specs.Counting.{stepped}
-use Rattle.records.specs.Spans.{span, spanOf, noSpan}
-use Rattle.parser.specs.Steps.{Raised, RaisedOver, over, ended, Told, Same}
-use Rattle.expressions.specs.declared.reading.Setting.{Setting}
-use Rattle.operand.specs.Operands.{Maybe, some, none}
-use Rattle.operand.specs.Operand.{malformed, unclosed, notAnAddressRegister, steppedOver}
+use Rattle.expressions.specs.Laws.{holds, met-yes, met-no}
+use Rattle.expressions.specs.Reader.{Test, Reading, Reader, answer, here, raise, bump, peek, _>>=_, choose, run}
+use Rattle.expressions.specs.Told.{Raised, RaisedOver, over, ended, Told, Same}
 
 -- ---- a test that fails
 
@@ -200,35 +194,9 @@ pub unchosen : {A E : Type 0} {f : A → E} {Q : A → Counters → Type 0} {L T
 unchosen true p e h = let z : _≡_ {A = ℕ} 0 1 = cc in absurd (omega arith)
 unchosen false p e h = h
 
--- ---- a reader that fails
+-- ---- no node is written
 
--- a diagnostic, and no answer
-pub failed : {A E : Type 0} {f : Maybe A → E} {Q : Maybe A → Counters → Type 0} {L T D D′ : List ℕ} {x : Diagnostic} {c m : Counters} {v : E} {r : Counters}
-    → Raised D D′ c x m → v ≡ f none → r ≡ m → Q none m → Told f Q (raise x (answer none)) L T D D′ c v r
-failed h w e q = raised h (answered w e q)
-
-pub failed-malformed : {A E : Type 0} {f : Maybe A → E} {Q : Maybe A → Counters → Type 0} (s : Setting) (shape problem : ℕ) {L T D D′ : List ℕ} {c m : Counters} {v : E} {r : Counters}
-    → Raised D D′ c (malformedOperand shape problem (span (s .start) (c .end)) noSpan) m → v ≡ f none → r ≡ m → Q none m → Told f Q (malformed s shape problem) L T D D′ c v r
-unfolding malformed
-failed-malformed s shape problem h w e q = hereby (failed h w e q)
-
-pub failed-unclosed : {A E : Type 0} {f : Maybe A → E} {Q : Maybe A → Counters → Type 0} (s : Setting) (k : Token) (shape problem : ℕ) {L T D D′ : List ℕ} {c m : Counters} {v : E} {r : Counters}
-    → Raised D D′ c (malformedOpen shape problem (span (s .start) (c .end)) (spanOf k)) m → v ≡ f none → r ≡ m → Q none m → Told f Q (unclosed s k shape problem) L T D D′ c v r
-unfolding unclosed
-failed-unclosed s k shape problem h w e q = hereby (failed h w e q)
-
-pub failed-register : {A E : Type 0} {f : Maybe A → E} {Q : Maybe A → Counters → Type 0} (s : Setting) (shape : ℕ) (k : Token) {L T D D′ : List ℕ} {c m : Counters} {v : E} {r : Counters}
-    → Raised D D′ c (malformedOperand shape 2 (span (s .start) (c .end)) (spanOf k)) m → v ≡ f none → r ≡ m → Q none m → Told f Q (notAnAddressRegister s shape k) L T D D′ c v r
-unfolding notAnAddressRegister
-failed-register s shape k h w e q = hereby (failed h w e q)
-
-pub failed-over : {A E : Type 0} {f : Maybe A → E} {Q : Maybe A → Counters → Type 0} (s : Setting) (shape problem : ℕ) {L T D D′ : List ℕ} {c m : Counters} {v : E} {r : Counters}
-    → RaisedOver T D D′ c (λ l. malformedOperand shape problem (span (s .start) l) noSpan) m → v ≡ f none → r ≡ m → Q none m → Told f Q (steppedOver s shape problem) L T D D′ c v r
-unfolding steppedOver
-failed-over s shape problem (over t e h) w u q = hit e refl refl (failed-malformed s shape problem h w u q)
-failed-over s shape problem (ended e h) w u q = done e (failed-malformed s shape problem h w u q)
-
--- a failed reader has written no node
+-- a diagnostic writes none
 pub raised-same : {D D′ : List ℕ} {c : Counters} {x : Diagnostic} {r : Counters} → Raised D D′ c x r → r .nodes ≡ c .nodes
 raised-same h = ap (λ z. z .nodes) (h .counters)
 
