@@ -1,6 +1,6 @@
 -- A path through a reader, a step at a time: from what the rest of it tells, what the whole tells.
 -- Assumes nothing.
-use mathlib.Core.Path.{_≡_, refl, sym, _∙_, ap, subst}
+use mathlib.Core.Path.{_≡_, refl, sym, _∙_, ap, ap₂, subst}
 use mathlib.Core.Bool.{Bool, true, false}
 use mathlib.Core.List.{List}
 use Prim.Native.Nat.{ℕ, _+_}
@@ -21,11 +21,11 @@ use Rattle.expressions.specs.Told.{Raised, RaisedOver, over, ended, Told
 
 -- ---- a test that fails
 
-fails : (t : Test) (p : Place) (k : Token) (x : List ℕ) → p ≡ stands k x → t k x ≡ false → holds t p ≡ false
+pub fails : (t : Test) (p : Place) (k : Token) (x : List ℕ) → p ≡ stands k x → t k x ≡ false → holds t p ≡ false
 unfolding holds
 fails t p k x h q = rw h q
 
-fails-end : (t : Test) (p : Place) → p ≡ nothing → holds t p ≡ false
+pub fails-end : (t : Test) (p : Place) → p ≡ nothing → holds t p ≡ false
 unfolding holds
 fails-end t p h = rw h
 
@@ -57,13 +57,23 @@ retold {A} {f = f} {Q = Q} {p = p} {L = L} {T = T} {D = D} {c = c} {c₁ = c₁}
 pub renamed : {A E : Type 0} {f : A → E} {Q : A → Counters → Type 0} {p q : Reader A} {L T D D′ : List ℕ} {c : Counters} {v : E} {r : Counters} → q ≡ p → Told f Q q L T D D′ c v r → Told f Q p L T D D′ c v r
 renamed {f = f} {Q = Q} {L = L} {T = T} {D = D} {D′ = D′} {c = c} {v = v} {r = r} e h = subst (λ z. Told f Q z L T D D′ c v r) e h
 
--- what else holds of the answer, in other words
-pub reheld : {A E : Type 0} {f : A → E} {Q R : A → Counters → Type 0} {p : Reader A} {L T D D′ : List ℕ} {c : Counters} {v : E} {r : Counters} → ((a : A) → Q a r → R a r) → Told f Q p L T D D′ c v r → Told f R p L T D D′ c v r
-reheld g h = record { what = h .what; at = h .at; end = h .end; seen = h .seen; more = h .more; held = g _ (h .held) }
+-- what else holds of the answer a
+pub held-as : {A E : Type 0} {f : A → E} {Q : A → Counters → Type 0} {p : Reader A} {L T D D′ : List ℕ} {c : Counters} {v : E} {r : Counters} {a : A} → Told f Q p L T D D′ c v r → run p (place L T) (c .at) (c .end) .value ≡ a → Q a r
+held-as {Q = Q} {r = r} h e = subst (λ z. Q z r) e (h .held)
+
+-- in other words
+pub reheld : {A E : Type 0} {f : A → E} {Q R : A → Counters → Type 0} {p : Reader A} {L T D D′ : List ℕ} {c : Counters} {v : E} {r : Counters}
+    → (Q (run p (place L T) (c .at) (c .end) .value) r → R (run p (place L T) (c .at) (c .end) .value) r) → Told f Q p L T D D′ c v r → Told f R p L T D D′ c v r
+reheld g h = record { what = h .what; at = h .at; end = h .end; seen = h .seen; more = h .more; held = g (h .held) }
+
+-- from counters that count other nodes
+pub counted : {A E : Type 0} {f : A → E} {Q : A → Counters → Type 0} {p : Reader A} {L T D D′ : List ℕ} {c c₁ : Counters} {v : E} {r : Counters}
+    → c₁ .at ≡ c .at → c₁ .end ≡ c .end → c₁ .diagnostics ≡ c .diagnostics → Told f Q p L T D D′ c₁ v r → Told f Q p L T D D′ c v r
+counted {p = p} {L = L} {T = T} a e d h = retold (ap₂ (run p (place L T)) (sym a) (sym e)) d h
 
 -- from counters that count as many nodes
 pub same : {A E : Type 0} {f : A → E} {p : Reader A} {L T D D′ : List ℕ} {n m : ℕ} {c : Counters} {v : E} {r : Counters} → m ≡ n → Told f (Same m) p L T D D′ c v r → Told f (Same n) p L T D D′ c v r
-same e h = reheld (λ a q. q ∙ e) h
+same e h = reheld (λ q. q ∙ e) h
 
 -- the answer
 pub answered : {A E : Type 0} {f : A → E} {Q : A → Counters → Type 0} {L T D : List ℕ} {c : Counters} {a : A} {v : E} {r : Counters} → v ≡ f a → r ≡ c → Q a c → Told f Q (answer a) L T D D c v r

@@ -59,7 +59,7 @@ stored-as y n N b s none m h = tt
 
 stored-told : (y : Displacement) (n : ℕ) (N : List ℕ) {p : Reader (Maybe Operand)} {L T D D′ : List ℕ} {c : Counters} {v : OperandRead} {r : Counters}
     → take (10 * n) N ≡ nodesD 0 y → n ≡ sizeD y → Told operandRead (Kept n y) p L T D D′ c v r → Told operandRead (Stored N) p L T D D′ c v r
-stored-told y n N {r = r} b s h = reheld (λ x q. stored-as y n N b s x (r .nodes) q) h
+stored-told y n N {r = r} b s h = reheld (λ q. stored-as y n N b s _ (r .nodes) q) h
 
 -- a tree's are
 pub tree-stored : (N : List ℕ) {n : ℕ} {e : Expr} {p : Reader (Maybe Operand)} {L T D D′ : List ℕ} {c : Counters} {v : OperandRead} {r : Counters}
@@ -77,7 +77,7 @@ unstored-told N {n} e h = stored-told undisplaced n N (ap (λ z. take (10 * z) N
 pub kept-sized : (e : Expr) (k : ℕ) {p : Reader (Maybe Operand)} {L T D D′ : List ℕ} {n m : ℕ} {c : Counters} {v : OperandRead} {r : Counters} → m ≡ n
     → Told operandRead (Kept m (displaced e k)) p L T D D′ c v r → Told operandRead (Kept n (displaced e 0)) p L T D D′ c v r
 unfolding nodesD sizeD
-kept-sized e k w h = reheld (λ a q. (q .0 ∙ w, q .1)) h
+kept-sized e k w h = reheld (λ q. (q .0 ∙ w, q .1)) h
 
 -- ---- a tree that stands in the records
 

@@ -134,7 +134,7 @@ module _ {L T : List ℕ} {c : Counters} {n : ℕ} {r : OperandStep} {d : SizedD
 
 -- from counters that count as many nodes
 pub kept-from : {p : Reader (Maybe Operand)} {L T D D′ : List ℕ} {n m : ℕ} {c : Counters} {v : OperandRead} {r : Counters} (y : Displacement) → m ≡ n → Told operandRead (Kept m y) p L T D D′ c v r → Told operandRead (Kept n y) p L T D D′ c v r
-kept-from y e h = reheld (λ a q. (q .0 ∙ e, q .1)) h
+kept-from y e h = reheld (λ q. (q .0 ∙ e, q .1)) h
 
 -- the shape is that of the definition's displacement
 pub unclosed-shape : {D D′ : List ℕ} {c m : Counters} {sh shape : ℕ} (problem : ℕ) (o : ℕ) (z : Span) → sh ≡ shape → Raised D D′ c (malformedOpen sh problem (span o (c .end)) z) m → Raised D D′ c (malformedOpen shape problem (span o (c .end)) z) m
