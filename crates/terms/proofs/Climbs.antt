@@ -25,7 +25,7 @@ use Rattle.expressions.specs.Reader.{Reader, answer, _>>=_, run}
 use Rattle.expressions.specs.Laws.{holds}
 use Rattle.expressions.specs.Told.{Told}
 use Rattle.expressions.specs.Paths.{fails, fails-end, raised-as, held-as, reheld, counted, answered, raised, bound, hit, missed}
-use Rattle.expressions.specs.Expressions.{Term, read, reported, absent, precedence, binaryOperator, operator, operated, parsePrefix, parseExpressionFrom, fuel}
+use Rattle.expressions.specs.Expressions.{Term, read, precedence, binaryOperator, operator, operated, parsePrefix, parseExpressionFrom, fuel}
 use Rattle.records.specs.Nodes.{nodeRecord, words, zeros}
 use Rattle.expressions.specs.Records.{nodes, length-nodes}
 use Rattle.expressions.specs.Grown.{Grown, grown-is, grown-none, grown-behind, climb-grows}

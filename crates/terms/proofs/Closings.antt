@@ -1,6 +1,7 @@
 -- What the returns behind a group's expression show: the parenthesis closes it, or it is told.
 -- Assumes nothing.
 use mathlib.Core.Path.{_≡_, refl, sym, _∙_, ap}
+use mathlib.Core.Bool.{false}
 use mathlib.Core.List.{List, [], _∷_}
 use Prim.Native.Nat.{ℕ, _+_, _-_, _*_, _≤_}
 use native.Mathlib.Omega.{arith}
@@ -8,7 +9,7 @@ use lib.ListN.{length, take}
 use lib.Seq.{length-take-le}
 use Rattle.names.specs.Kinds
 use Rattle.names.specs.Tokens.{tokenAt}
-use Rattle.names.specs.Places.{live}
+use Rattle.names.specs.Places.{place, live}
 use Rattle.names.specs.declared.tokens.Token.{Token}
 use Rattle.names.specs.declared.tokens.Peeked.the-variants as peeked
 use Rattle.records.specs.Spans.{span, spanOf}
@@ -18,6 +19,8 @@ use Rattle.records.specs.declared.counters.Counters.{Counters}
 use Rattle.terms.specs.declared.terms.Parsed.the-variants as parsed
 use Rattle.terms.specs.declared.terms.Step.{Step}
 use Rattle.records.specs.Diagnostics.{expressionExpected, unclosedParenthesis}
+use Rattle.expressions.specs.Reader.{is}
+use Rattle.expressions.specs.Laws.{holds}
 use Rattle.expressions.specs.Paths.{held-as, counted, answered, raised, bound, hit, missed}
 use Rattle.expressions.specs.Expressions.{read, reported, absent, grouped}
 use Rattle.records.specs.Stores.{written}
@@ -25,7 +28,6 @@ use Rattle.records.specs.Counting.{stepped}
 use Rattle.terms.specs.Terms.{parsedOf, sizeT, nodesT, Held, DeepTold, ExpressionTold, groupTerm, BehindTold, withNodes, CloseTold, closed, unclosed}
 use Rattle.expressions.specs.Costs.{size-withSpan, size-pos}
 use Rattle.terms.specs.Roots.{spanE-withSpan, widened}
-use Rattle.terms.proofs.Groups.{not-closed}
 use Rattle.terms.proofs.Leaves.{held-none, deep-raised}
 use Rattle.terms.proofs.Returns.{kept, is-read, is-absent, behind, fails-on, told-more}
 
@@ -42,13 +44,13 @@ module _ {L T N D N₁ D₁ : List ℕ} {c : Counters} (room : ℕ) (k : Token) 
   group-absents w f h = told-more g long (grouped k) absent (is-absent g w) refl refl f h
 
   -- what was read is given up
-  group-opens : {x : Span} {D₂ : List ℕ} {q : Step} → r .parsed ≡ parsed.Read x → ((t : Token) → tokenAt T (r .counters .at) ≡ peeked.Is t → t .kind ≡ Kinds.rightParen → ⊥)
+  group-opens : {x : Span} {D₂ : List ℕ} {q : Step} → r .parsed ≡ parsed.Read x → ((L : List ℕ) → holds (is Kinds.rightParen) (place L T (r .counters .at)) ≡ false)
       → DeepTold D₁ D₂ (withNodes (r .counters) (c .nodes)) (unclosedParenthesis (spanOf k)) q → BehindTold (groupTerm room k) L T N D N₁ D₂ c q
   unfolding grouped parsedOf sizeT
   group-opens w never h =
       let y = is-read g w in
       behind g
-      (bound (g .told) (y .1) (missed (not-closed L T (r .counters .at) never) (counted refl refl refl (raised (deep-raised h) (answered (h .what) refl (held-none reported refl (h .same) (kept (g .told .held) long)))))))
+      (bound (g .told) (y .1) (missed (never L) (counted refl refl refl (raised (deep-raised h) (answered (h .what) refl (held-none reported refl (h .same) (kept (g .told .held) long)))))))
       (λ j b. refl) (h .at) (omega (arith, h .same, g .told .held .total)) (omega (arith, h .push .next))
 
   group-closes : {x : Span} {N₂ D₂ : List ℕ} {q : Step} → r .parsed ≡ parsed.Read x → (t : Token) → tokenAt T (r .counters .at) ≡ peeked.Is t → t .kind ≡ Kinds.rightParen

@@ -22,15 +22,14 @@ use Rattle.records.specs.declared.counters.Counters.{Counters}
 use Rattle.terms.specs.declared.terms.Parsed.the-variants as parsed
 use Rattle.terms.specs.declared.terms.Step.{Step}
 use Rattle.terms.specs.declared.terms.Chain.{Chain}
-use Rattle.records.specs.Diagnostics.{plain, expressionExpected, plusIsNotAUnaryOperator}
+use Rattle.records.specs.Diagnostics.{plain, expressionExpected}
 use Rattle.expressions.specs.Reader.{Reading, Reader, answer, raise, _>>=_, run}
-use Rattle.expressions.specs.Told.{Told}
 use Rattle.expressions.specs.Paths.{raised-as, held-as, renamed, counted, answered, raised, bound, hit, miss, done}
 use Rattle.expressions.specs.Expressions.{Term, read, reported, absent, unaryOperator, isUnary, negated, plussed, climbed, leafTerm, parsePrefixTerm, parsePrefix, parseExpressionOf, parseExpression, parseExpressionFrom, fuel}
 use Rattle.records.specs.Nodes.{nodeRecord, words}
 use Rattle.expressions.specs.Records.{nodes}
 use Rattle.records.specs.Counting.{stepped}
-use Rattle.terms.specs.Terms.{NodeTold, parsedOf, sizeT, nodesT, Held, Said, DeepTold, TokenTold, DepthTold, TermTold, PrefixTold, ExpressionTold, unaryTerm, plusTerm, groupTerm, BehindTold, Joined, ClimbTold, Spared}
+use Rattle.terms.specs.Terms.{NodeTold, parsedOf, sizeT, nodesT, Held, Said, DeepTold, TokenTold, DepthTold, TermTold, PrefixTold, ExpressionTold, unaryTerm, plusTerm, groupTerm, BehindTold, ClimbTold, Spared}
 use Rattle.expressions.specs.Laws as laws
 use Rattle.expressions.specs.Laws.{law-run}
 use Rattle.expressions.specs.Costs.{Cost, prefix-cost, expression-cost, size-pos, all-clean}

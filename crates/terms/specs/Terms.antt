@@ -1,11 +1,13 @@
 -- What the functions that read terms ask, and what they tell: the answer and both stores, by the reading that the definition gives.
 -- Assumes nothing.
 use mathlib.Core.Path.{_≡_}
+use mathlib.Core.Bool.{false}
 use mathlib.Core.List.{List, [], _∷_, _++_}
 use Prim.Native.Nat.{ℕ, _+_, _-_, _*_, _≤_, _<_}
 use lib.ListN.{length, take, drop}
 use Rattle.names.specs.Kinds
 use Rattle.names.specs.Tokens.{count, tokenAt}
+use Rattle.names.specs.Places.{place}
 use Rattle.names.specs.declared.tokens.Peeked.the-variants as peeked
 use Rattle.names.specs.declared.tokens.Token.{Token}
 use Rattle.records.specs.Spans.{span, spanOf}
@@ -18,7 +20,8 @@ use Rattle.terms.specs.declared.terms.Parsed.the-variants as parsed
 use Rattle.terms.specs.declared.terms.Step.{Step}
 use Rattle.terms.specs.declared.terms.Chain.{Chain}
 use Rattle.records.specs.Diagnostics.{unclosedParenthesis}
-use Rattle.expressions.specs.Reader.{Reader, _>>=_}
+use Rattle.expressions.specs.Reader.{is, Reader, _>>=_}
+use Rattle.expressions.specs.Laws.{holds}
 use Rattle.expressions.specs.Told.{Told}
 use Rattle.expressions.specs.Expressions.{Term, precedence, read, reported, absent, tooDeep, fuel, negated, plussed, grouped, parsePrefix, parseExpression, parseExpressionFrom}
 use Rattle.records.specs.Nodes.{nodeRecord, words}
@@ -176,5 +179,5 @@ pub data CloseTold (T N D N′ D′ : List ℕ) (first : ℕ) (c : Counters) (k 
   closed : (t : Token) → tokenAt T (c .at) ≡ peeked.Is t → t .kind ≡ Kinds.rightParen
       → N′ ≡ written N (10 * (c .nodes - 1) + 4) (k .start ∷ t .end ∷ []) → D′ ≡ D
       → r .parsed ≡ parsed.Read (span (k .start) (t .end)) → r .counters ≡ stepped c t → CloseTold T N D N′ D′ first c k r
-  unclosed : ((t : Token) → tokenAt T (c .at) ≡ peeked.Is t → t .kind ≡ Kinds.rightParen → ⊥) → N′ ≡ N
+  unclosed : ((L : List ℕ) → holds (is Kinds.rightParen) (place L T (c .at)) ≡ false) → N′ ≡ N
       → DeepTold D D′ (withNodes c first) (unclosedParenthesis (spanOf k)) r → CloseTold T N D N′ D′ first c k r
