@@ -129,5 +129,4 @@ module _ (L : List ℕ) {T N D N′ D′ : List ℕ} {c : Counters} (group : Spa
       → Told operandRead (Stored N′) (expressionFrom limit (withSpan e group) >>= finishExpressionOperand s) L T D D₂ c (r .operand) (r .counters)
   group-told e st s g =
       let f = from-told L group limit h p st in
-      let k : Stands N′ (m .counters .nodes) [] 0 (run (expressionFrom limit (withSpan e group)) (place L T) (c .at) (c .end) .value) = record { bytes = f .held .0; total = f .held .1 } in
-      bound f refl (tree-stored N′ k (g .told _ (stands-size k) (f .what)))
+      bound f refl (tree-stored N′ (f .held) (g .told _ (stands-size (f .held)) (f .what)))

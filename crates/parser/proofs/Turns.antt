@@ -41,7 +41,7 @@ use Rattle.parser.specs.declared.lists.ItemRead.{ItemRead}
 use Rattle.parser.specs.declared.lists.ItemStep.{ItemStep}
 use Rattle.parser.specs.declared.lists.RegisterRead.{RegisterRead}
 use Rattle.parser.specs.declared.lists.RegisterStep.{RegisterStep}
-use Rattle.expressions.specs.Paths.{retold, answered, hereby, bound, hit, missed}
+use Rattle.expressions.specs.Paths.{held-as, retold, answered, hereby, bound, hit, missed}
 use Rattle.parser.proofs.Ranges.{or-assoc, is-register, room-on, found-at, expected}
 
 -- ---- one more item
@@ -87,7 +87,7 @@ pub item-behind : {L T D D′ : List ℕ} {c : Counters} (r : Register) {s : Ite
 unfolding ItemHeld
 item-behind {L} {T} {c = c} r {s} {y} h e =
     let x = item-is _ y (sym e ∙ h .what) in
-    subst (λ z. Behind T c z (s .counters)) (x .same) (subst (λ z. ItemHeld T c z (s .counters)) (x .is-some) (h .held))
+    subst (λ z. Behind T c z (s .counters)) (x .same) (held-as h (x .is-some))
 
 -- ---- the slash
 
