@@ -9,3 +9,5 @@ pub mod Costs
 pub mod Fuel
 pub mod Grown
 pub mod Offsets
+pub mod Told
+pub mod Paths

@@ -24,12 +24,13 @@ use Rattle.operand.specs.Operand.{finishExpressionOperand}
 use Rattle.operand.specs.Records.{sizeD, nodesD}
 use Rattle.operand.specs.Forms.{sizedOf, operandRead}
 use Rattle.records.specs.Rooms.{NodeRoom}
-use Rattle.parser.specs.Steps.{Told, HeldBy, Kept, Unsized, Stored}
+use Rattle.expressions.specs.Told.{Told}
+use Rattle.parser.specs.Steps.{HeldBy, Kept, Unsized, Stored}
 use Rattle.parser.specs.Behind.{TreeTold}
 use Rattle.operand.specs.declared.forms.SizedDisplacement.{SizedDisplacement}
 use Rattle.operand.specs.declared.forms.OperandRead.{OperandRead}
 use Rattle.operand.specs.declared.forms.OperandStep.{OperandStep}
-use Rattle.parser.proofs.Paths.{answered, bound, reheld}
+use Rattle.expressions.specs.Paths.{answered, bound, reheld}
 use Rattle.parser.proofs.Trees.{TreeRead, term-told, from-told}
 
 -- ---- an operand's nodes
@@ -58,7 +59,7 @@ stored-as y n N b s none m h = tt
 
 stored-told : (y : Displacement) (n : ℕ) (N : List ℕ) {p : Reader (Maybe Operand)} {L T D D′ : List ℕ} {c : Counters} {v : OperandRead} {r : Counters}
     → take (10 * n) N ≡ nodesD 0 y → n ≡ sizeD y → Told operandRead (Kept n y) p L T D D′ c v r → Told operandRead (Stored N) p L T D D′ c v r
-stored-told y n N {r = r} b s h = reheld (λ x q. stored-as y n N b s x (r .nodes) q) h
+stored-told y n N {r = r} b s h = reheld (λ q. stored-as y n N b s _ (r .nodes) q) h
 
 -- a tree's are
 pub tree-stored : (N : List ℕ) {n : ℕ} {e : Expr} {p : Reader (Maybe Operand)} {L T D D′ : List ℕ} {c : Counters} {v : OperandRead} {r : Counters}
@@ -76,7 +77,7 @@ unstored-told N {n} e h = stored-told undisplaced n N (ap (λ z. take (10 * z) N
 pub kept-sized : (e : Expr) (k : ℕ) {p : Reader (Maybe Operand)} {L T D D′ : List ℕ} {n m : ℕ} {c : Counters} {v : OperandRead} {r : Counters} → m ≡ n
     → Told operandRead (Kept m (displaced e k)) p L T D D′ c v r → Told operandRead (Kept n (displaced e 0)) p L T D D′ c v r
 unfolding nodesD sizeD
-kept-sized e k w h = reheld (λ a q. (q .0 ∙ w, q .1)) h
+kept-sized e k w h = reheld (λ q. (q .0 ∙ w, q .1)) h
 
 -- ---- a tree that stands in the records
 
@@ -128,5 +129,4 @@ module _ (L : List ℕ) {T N D N′ D′ : List ℕ} {c : Counters} (group : Spa
       → Told operandRead (Stored N′) (expressionFrom limit (withSpan e group) >>= finishExpressionOperand s) L T D D₂ c (r .operand) (r .counters)
   group-told e st s g =
       let f = from-told L group limit h p st in
-      let k : Stands N′ (m .counters .nodes) [] 0 (run (expressionFrom limit (withSpan e group)) (place L T) (c .at) (c .end) .value) = record { bytes = f .held .0; total = f .held .1 } in
-      bound f refl (tree-stored N′ k (g .told _ (stands-size k) (f .what)))
+      bound f refl (tree-stored N′ (f .held) (g .told _ (stands-size (f .held)) (f .what)))

@@ -26,7 +26,8 @@ use Rattle.operand.specs.Operand.{anIndex, steppedOver, parseIndexRegister, out
 use Rattle.operand.specs.Records.{sizeD, nodesD, sizeO, nodesO}
 use Rattle.operand.specs.Forms.{sizedOf, displacementRead, recordOf, operandRead}
 use Rattle.records.specs.Rooms.{Room, NodeRoom}
-use Rattle.parser.specs.Steps.{Told, Same, HeldBy, Stored}
+use Rattle.expressions.specs.Told.{Told, Same}
+use Rattle.parser.specs.Steps.{HeldBy, Stored}
 use Rattle.operand.specs.Costs.{Left}
 use Rattle.operand.specs.Costs as cost
 use Rattle.parser.specs.Brackets.{indirectRecord, StoredD, StoredPart, SizedTold, DisplacementTold, innerOf, innerRead, innerD, InnerTold, outerOf, outerRead, outerD, OuterTold, StoredBoth, ClosedTold}
@@ -44,16 +45,11 @@ use Rattle.parser.specs.declared.inner.InnerStep.{InnerStep}
 use Rattle.parser.specs.declared.outer.OuterPart.{OuterPart}
 use Rattle.parser.specs.declared.outer.OuterRead.{OuterRead}
 use Rattle.parser.specs.declared.outer.OuterStep.{OuterStep}
-use Rattle.parser.proofs.Paths.{answered, hereby, hit, passed, unseen}
+use Rattle.expressions.specs.Paths.{held-as, answered, hereby, hit, passed, unseen}
 use Rattle.parser.proofs.Rooms.{room-step, left-room}
 use Rattle.parser.proofs.Trees.{TreeRead}
 
 -- ---- nodes
-
--- those of an answer
-pub held-some : {A B : Type 0} {f : Maybe A → B} {g : A → Displacement} {N N′ : List ℕ} {n : ℕ} {p : Reader (Maybe A)} {L T D D′ : List ℕ} {c : Counters} {v : B} {r : Counters} {x : A}
-    → Told f (StoredPart g N N′ n) p L T D D′ c v r → run p (place L T) (c .at) (c .end) .value ≡ some x → StoredD N N′ n (g x) r
-held-some {g = g} {N} {N′} {n} {r = r} h e = subst (λ m. StoredPart g N N′ n m r) e (h .held)
 
 -- no displacement has none
 pub stored-none : (N : List ℕ) (c : Counters) → StoredD N N (c .nodes) undisplaced c
@@ -84,8 +80,8 @@ part-room g least far law w h t n =
     let q = rw w at (law-run law) in
     record {
       room = left-room (λ z. sizeD (g z)) least 0 far law w (h .room) t;
-      nodesFit = omega (arith, q .1, held-some t w .total, t .at, h .nodesFit);
-      nodesLong = omega (arith, q .1, held-some t w .total, t .at, h .nodesLong);
+      nodesFit = omega (arith, q .1, held-as t w .total, t .at, h .nodesFit);
+      nodesLong = omega (arith, q .1, held-as t w .total, t .at, h .nodesLong);
     }
 
 pub displacement-room : (s : Setting) {L T N D N₁ D₁ : List ℕ} {c : Counters} {r : DisplacementStep} {y : Displacement} → NodeRoom T N c 0 0 1 → DisplacementTold (parseSizedDisplacement s) L T N D N₁ D₁ c r

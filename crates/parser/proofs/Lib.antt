@@ -1,5 +1,5 @@
 -- What the proofs of the functions share.
-pub mod Paths
+pub mod Failures
 pub mod Names
 pub mod Starts
 pub mod Ranges

@@ -24,10 +24,11 @@ use Rattle.operand.specs.declared.forms.Register.{Register}
 use Rattle.operand.specs.declared.forms.BaseRegister.{BaseRegister}
 use Rattle.operand.proofs.forms.BaseRegister as bases
 use Rattle.operand.specs.declared.forms.SizedDisplacement.{SizedDisplacement}
-use Rattle.parser.specs.Steps.{Told, Plain}
+use Rattle.expressions.specs.Told.{Told}
+use Rattle.parser.specs.Steps.{Plain}
 use Rattle.parser.specs.Tests.{isBase}
 use Rattle.parser.specs.Bases.{addressOr, unsuppressedBase, isUnsuppressed, openShape, indexShape, indexForm, closed, indexedBy, behindBase}
-use Rattle.parser.proofs.Paths.{hit, miss}
+use Rattle.expressions.specs.Paths.{hit, miss}
 use Rattle.parser.proofs.Tails.{index-plain, counter-plain}
 
 -- a base that is no address register, by its variant's place

@@ -35,7 +35,8 @@ use Rattle.operand.specs.Operands as O
 use Rattle.operand.specs.Operand.{name, aRegister, registerFrom, over, predecrementClose, parsePredecrement, registerDirect, parseRegisterOperand, immediateSize, absoluteSize, specialIndex}
 use Rattle.operand.specs.Records.{flag, sizeD, nodesD, sizeO, nodesO}
 use Rattle.operand.specs.Forms.{recordOf, operandRead, suffixRead}
-use Rattle.parser.specs.Steps.{Raised, Told, Same, Kept, Stored}
+use Rattle.expressions.specs.Told.{Raised, Told, Same}
+use Rattle.parser.specs.Steps.{Kept, Stored}
 use Rattle.parser.specs.Tests.{regAt}
 use Rattle.parser.specs.Behind.{immediateStep, absoluteStep, SizeAt}
 use Rattle.operand.specs.declared.forms.Register.{Register}
@@ -44,7 +45,8 @@ use Rattle.operand.specs.declared.forms.SuffixRead.{SuffixRead}
 use Rattle.operand.specs.declared.forms.SuffixStep.{SuffixStep}
 use Rattle.operand.specs.declared.forms.OperandRead.{OperandRead}
 use Rattle.operand.specs.declared.forms.OperandStep.{OperandStep}
-use Rattle.parser.proofs.Paths.{bound, chosen, unchosen, hit, renamed, failed-malformed, raised-same}
+use Rattle.expressions.specs.Paths.{bound, chosen, unchosen, hit, renamed, raised-same}
+use Rattle.parser.proofs.Failures.{failed-malformed}
 use Rattle.parser.proofs.Names.{reg-from}
 use Rattle.parser.proofs.Rooms.{suffix-is, suffix-not}
 use Rattle.parser.proofs.Tails.{operand-told, register-at-base}

@@ -33,7 +33,7 @@ use Rattle.operand.specs.Operands.{single, Maybe, some, none}
 use Rattle.operand.specs.Operand.{aRegister, indexOf, registerFrom, registerExpected, ranged, listItem}
 use Rattle.operand.specs.Mask.{bitsFrom}
 use Rattle.records.specs.Rooms.{Room}
-use Rattle.parser.specs.Steps.{Raised, Told}
+use Rattle.expressions.specs.Told.{Raised, Told}
 use Rattle.parser.specs.Tests.{regAt}
 use Rattle.parser.specs.Items.{expectedAt, RegisterTold, found, missing, itemOf, itemRead, RangedTold, rising, falling, singleStep, ItemHeld, ItemTold, itemBytes}
 use Rattle.operand.specs.declared.forms.Register.{Register}
@@ -43,7 +43,7 @@ use Rattle.parser.specs.declared.lists.ItemStep.{ItemStep}
 use Rattle.parser.specs.declared.lists.RegisterRead.{RegisterRead}
 use Rattle.parser.specs.declared.lists.RegisterStep.{RegisterStep}
 use Rattle.parser.proofs.Names.{reg-small}
-use Rattle.parser.proofs.Paths.{answered, hereby, raised, hit, missed, miss, done, seen, beyond, chosen, unchosen}
+use Rattle.expressions.specs.Paths.{answered, hereby, raised, hit, missed, miss, done, seen, beyond, chosen, unchosen}
 
 -- ---- a register at a place
 

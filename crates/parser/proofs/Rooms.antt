@@ -23,7 +23,7 @@ use Rattle.operand.specs.Costs.{Left}
 use Rattle.operand.specs.Costs as cost
 use Rattle.operand.specs.Forms.{indexRead, registersRead, closeRead, suffixRead}
 use Rattle.records.specs.Rooms.{Room}
-use Rattle.parser.specs.Steps.{Told}
+use Rattle.expressions.specs.Told.{Told}
 use Rattle.operand.specs.declared.forms.IndexRegister.{IndexRegister}
 use Rattle.operand.specs.declared.forms.IndexRead.{IndexRead}
 use Rattle.operand.specs.declared.forms.Registers.{Registers}

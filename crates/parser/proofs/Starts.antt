@@ -24,12 +24,12 @@ use Rattle.expressions.specs.declared.reading.Setting.{Setting}
 use Rattle.records.specs.declared.counters.Counters.{Counters}
 use Rattle.operand.specs.Operands.{Maybe}
 use Rattle.operand.specs.Operand.{isAddress, isSuppressed, isSuppressedRegister, isSuppressedAddress, aRegister, anAddressRegister, aProgramCounter, unmarked, suppressedIndex, registerFrom, afterBaseRegister, sizeOrScale, noBase, parseBaseAndIndexRegisters, closes, startsAFullIndex, startsABase}
-use Rattle.parser.specs.Steps.{Told}
+use Rattle.expressions.specs.Told.{Told}
 use Rattle.operand.specs.declared.forms.Register.{Register}
 use Rattle.parser.specs.Tests.{regAt, suppressedAt, fullIndexStarts, baseStarts, addressBase, suppressedBase, isCounter, baseAt}
 use Rattle.operand.specs.declared.forms.BaseRegister.{BaseRegister}
 use Rattle.operand.specs.declared.forms.Registers.{Registers}
-use Rattle.parser.proofs.Paths.{hereby, hit, miss, done, passed, unseen, whether}
+use Rattle.expressions.specs.Paths.{hereby, hit, miss, done, passed, unseen, whether}
 use Rattle.parser.proofs.Names.{both-yes, both-no, either-no, holds-at, holds-end, an-address, reg-is, reg-from, address-is, address-not, unmarked-is, suppressed-is}
 
 -- ---- what follows an index

@@ -30,11 +30,11 @@ use Rattle.operand.specs.Forms.{suffixRead}
 use Rattle.operand.specs.Operand.{scaleOf, indexScale, indexSize}
 use Rattle.operand.specs.declared.forms.Register.{Register}
 use Rattle.names.specs.Choice.{either}
-use Rattle.parser.specs.Steps.{Raised, Told, Same}
+use Rattle.expressions.specs.Told.{Raised, Told, Same}
 use Rattle.parser.specs.Tests.{sizedIndex}
 use Rattle.operand.specs.declared.forms.SuffixRead.{SuffixRead}
 use Rattle.operand.specs.declared.forms.SuffixStep.{SuffixStep}
-use Rattle.parser.proofs.Paths.{answered, raised, raised-as, raised-same, chosen, unchosen, hit-same}
+use Rattle.expressions.specs.Paths.{answered, raised, raised-as, raised-same, chosen, unchosen, hit-same}
 
 -- ---- a size suffix
 

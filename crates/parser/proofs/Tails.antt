@@ -28,7 +28,8 @@ use Rattle.operand.specs.Operand.{baseShape, indexedOperand, closedBase, closed
 use Rattle.operand.specs.Forms.{sizedOf, formOf, recordOf, operandRead}
 use Rattle.operand.specs.Records.{sizeD, nodesD, sizeO, nodesO}
 use Rattle.parser.specs.Tests.{isBase}
-use Rattle.parser.specs.Steps.{Raised, Told, HeldBy, Kept, Unsized, Plain}
+use Rattle.expressions.specs.Told.{Raised, Told}
+use Rattle.parser.specs.Steps.{HeldBy, Kept, Unsized, Plain}
 use Rattle.operand.specs.declared.forms.Register.{Register}
 use Rattle.operand.specs.declared.forms.IndexRegister.{IndexRegister}
 use Rattle.operand.specs.declared.forms.BaseRegister.{BaseRegister}
@@ -39,7 +40,8 @@ use Rattle.operand.specs.declared.forms.SizedDisplacement.{SizedDisplacement}
 use Rattle.operand.specs.declared.forms.OperandRecord.{OperandRecord}
 use Rattle.operand.specs.declared.forms.OperandRead.{OperandRead}
 use Rattle.operand.specs.declared.forms.OperandStep.{OperandStep}
-use Rattle.parser.proofs.Paths.{renamed, reheld, raised-as, answered, hit, missed, failed-malformed, raised-same}
+use Rattle.expressions.specs.Paths.{renamed, reheld, raised-as, answered, hit, missed, raised-same}
+use Rattle.parser.proofs.Failures.{failed-malformed}
 
 -- ---- the shape
 
@@ -132,7 +134,7 @@ module _ {L T : List ℕ} {c : Counters} {n : ℕ} {r : OperandStep} {d : SizedD
 
 -- from counters that count as many nodes
 pub kept-from : {p : Reader (Maybe Operand)} {L T D D′ : List ℕ} {n m : ℕ} {c : Counters} {v : OperandRead} {r : Counters} (y : Displacement) → m ≡ n → Told operandRead (Kept m y) p L T D D′ c v r → Told operandRead (Kept n y) p L T D D′ c v r
-kept-from y e h = reheld (λ a q. (q .0 ∙ e, q .1)) h
+kept-from y e h = reheld (λ q. (q .0 ∙ e, q .1)) h
 
 -- the shape is that of the definition's displacement
 pub unclosed-shape : {D D′ : List ℕ} {c m : Counters} {sh shape : ℕ} (problem : ℕ) (o : ℕ) (z : Span) → sh ≡ shape → Raised D D′ c (malformedOpen sh problem (span o (c .end)) z) m → Raised D D′ c (malformedOpen shape problem (span o (c .end)) z) m

@@ -1,6 +1,6 @@
 -- A tree that `expression` has read: where its records stand, and what is left of the stores behind it.
 -- Assumes nothing.
-use mathlib.Core.Path.{_≡_, refl, sym, _∙_, ap}
+use mathlib.Core.Path.{_≡_, sym, _∙_, ap}
 use mathlib.Core.List.{List, _++_, append-assoc}
 use Prim.Native.Nat.{ℕ, _+_, _-_, _*_, _≤_, _<_}
 use native.Mathlib.Omega.{arith}
@@ -20,10 +20,11 @@ use Rattle.terms.specs.Promises.{filled, ExpressionFits, FromFits}
 use Rattle.terms.specs.Left.{Stands, before-length, left-nodes}
 use Rattle.expressions.specs.Reader.{run}
 use Rattle.expressions.specs.Records.{nodes, length-nodes}
-use Rattle.terms.specs.Terms.{parsedOf, sizeT, nodesT}
+use Rattle.terms.specs.Terms.{sizeT, nodesT, Held, Said}
 use Rattle.expressions.specs.Trees.{Expr, spanE, withSpan, size}
 use Rattle.records.specs.Rooms.{Room, NodeRoom}
-use Rattle.parser.specs.Steps.{Told}
+use Rattle.expressions.specs.Told.{Told}
+use Rattle.expressions.specs.Paths.{held-as}
 
 -- ---- the node store
 
@@ -37,12 +38,6 @@ unfolding filled
 filled-take b n m N e = ap (take (10 * n)) (append-assoc b _ _) ∙ take-at b _ (10 * n) e
 
 -- ---- a term
-
--- the records of a tree that was read stand behind the n of before
-abbrev pub StoredT : List ℕ → List ℕ → ℕ → Term → Counters → Type 0
-StoredT N N′ n (read e) r = (take (10 * r .nodes) N′ ≡ take (10 * n) N ++ nodes n e) × (r .nodes ≡ n + size e)
-StoredT N N′ n reported r = Unit {0}
-StoredT N N′ n absent r = Unit {0}
 
 -- what the tree is that stands there, and room behind it
 pub record TreeRead (L T N D N′ D′ : List ℕ) (c : Counters) (limit : ℕ) (s : Span) (r : Counters) : Type 0 where
@@ -72,38 +67,33 @@ module _ (L : List ℕ) {T N D N′ D′ : List ℕ} {c : Counters} (limit : ℕ
   bytes : take (10 * r .counters .nodes) N′ ≡ take (10 * c .nodes) N ++ nodesT (c .nodes) term
   bytes = ap (λ z. take (10 * z) N′) total ∙ ap (take (10 * (c .nodes + sizeT term))) (p .nodes) ∙ filled-take _ _ _ N bytes-term
 
-  stored : (t : Term) → term ≡ t → StoredT N N′ (c .nodes) t (r .counters)
-  unfolding nodesT sizeT
-  stored (read e) q = (bytes ∙ ap (λ t. take (10 * c .nodes) N ++ nodesT (c .nodes) t) q, total ∙ ap (λ t. c .nodes + sizeT t) q)
-  stored reported q = tt
-  stored absent q = tt
-
-  pub term-told : Told parsedOf (StoredT N N′ (c .nodes)) (parseExpression limit) L T D D′ c (r .parsed) (r .counters)
+  pub term-told : Said (parseExpression limit) L T N D N′ D′ c r
   term-told = record {
     what = ap (λ z. z .parsed) (p .answer);
     at = ap (λ z. z .counters .at) (p .answer);
     end = ap (λ z. z .counters .end) (p .answer);
     seen = ap (λ z. z .counters .diagnostics) (p .answer);
     more = p .diagnostics;
-    held = stored term refl;
+    held = record { total = total; bytes = bytes };
   }
 
   pub tree-read : {s : Span} → r .parsed ≡ parsed.Read s → length N′ ≡ length N → TreeRead L T N D N′ D′ c limit s (r .counters)
+  unfolding nodesT sizeT
   tree-read q n =
       let m = what-read term _ (sym (term-told .what) ∙ q) in
-      let k = stored (read (m .0)) (m .1) in
+      let k : Held N N′ (c .nodes) (read (m .0)) (r .counters) = held-as term-told (m .1) in
       let law = rw (m .1) at (law-run (expression-cost (place L T) 0 (all-clean (place L T)) limit (c .at) (c .end) 0 0)) in
       record {
         tree = m .0;
         value = m .1;
         span = m .2;
-        bytes = k .0;
-        total = k .1;
+        bytes = k .bytes;
+        total = k .total;
         room = record {
           room = record {
             few = h .room .few;
             within = p .within;
-            stand = omega (arith, k .1, size-pos (m .0));
+            stand = omega (arith, k .total, size-pos (m .0));
             seenFit = omega (arith, h .room .seenFit, term-told .at, term-told .seen, law .2);
           };
           nodesFit = omega (arith, p .few, h .nodesFit);
@@ -123,10 +113,6 @@ module _ (L : List ℕ) {T N D N′ D′ : List ℕ} {c : Counters} (limit : ℕ
       }
 
 -- ---- a tree that goes on from a group
-
--- the records of the tree stand from b on, behind the bytes P
-abbrev pub StoredFrom : List ℕ → List ℕ → ℕ → Expr → Counters → Type 0
-StoredFrom P N′ b e r = (take (10 * r .nodes) N′ ≡ P ++ nodes b e) × (r .nodes ≡ b + size e)
 
 module _ (L : List ℕ) {T N D N′ D′ : List ℕ} {c : Counters} (group : Span) (limit : ℕ) {r : Chain} (h : NodeRoom T N c 1 0 1) (p : FromFits L T N D N′ D′ c group limit r) where
   pub from-room : length N′ ≡ length N → NodeRoom T N′ (r .counters) 1 0 1
@@ -149,7 +135,7 @@ module _ (L : List ℕ) {T N D N′ D′ : List ℕ} {c : Counters} (group : Spa
     bytes-from : length (P ++ nodes b on) ≡ 10 * (b + size on)
     bytes-from = simp length-append (omega (arith, length-nodes b on, before-length N P (c .nodes) b e st long))
 
-    pub from-told : Told spanE (StoredFrom P N′ b) (expressionFrom limit (withSpan e group)) L T D D′ c (r .span) (r .counters)
+    pub from-told : Told spanE (λ v s. Stands N′ (s .nodes) P b v) (expressionFrom limit (withSpan e group)) L T D D′ c (r .span) (r .counters)
     from-told =
         let q = p .told b e (st .total) in
         record {
@@ -158,5 +144,8 @@ module _ (L : List ℕ) {T N D N′ D′ : List ℕ} {c : Counters} (group : Spa
           end = ap (λ z. z .counters .end) (q .answer);
           seen = ap (λ z. z .counters .diagnostics) (q .answer);
           more = q .diagnostics;
-          held = (ap (λ z. take (10 * z) N′) from-total ∙ ap (take (10 * (b + size on))) (left-nodes p long (h .room .stand) st) ∙ filled-take _ _ _ N bytes-from, from-total);
+          held = record {
+            bytes = ap (λ z. take (10 * z) N′) from-total ∙ ap (take (10 * (b + size on))) (left-nodes p long (h .room .stand) st) ∙ filled-take _ _ _ N bytes-from;
+            total = from-total;
+          };
         }

@@ -15,7 +15,8 @@ use Rattle.records.specs.declared.spans.Span.{Span}
 use Rattle.records.specs.declared.counters.Counters.{Counters}
 use Rattle.operand.specs.Operands.{Displacement, displaced, Operand, Maybe}
 use Rattle.operand.specs.Forms.{formOf, operandRead}
-use Rattle.parser.specs.Steps.{Told, Kept, Stored}
+use Rattle.expressions.specs.Told.{Told}
+use Rattle.parser.specs.Steps.{Kept, Stored}
 use Rattle.operand.specs.declared.forms.BaseRegister.{BaseRegister}
 use Rattle.operand.specs.declared.forms.Index.{Index}
 use Rattle.operand.specs.declared.forms.SizedDisplacement.{SizedDisplacement}

@@ -15,7 +15,8 @@ use Rattle.operand.specs.Operands.{Displacement, displaced, Operand, Maybe, som
 use Rattle.operand.specs.Operand.{sized, Inner, Outer, closeIndirect, afterInner}
 use Rattle.operand.specs.Records.{sizeD, nodesD}
 use Rattle.operand.specs.Forms.{sizedOf, displacementRead, operandRead}
-use Rattle.parser.specs.Steps.{Told, Stored}
+use Rattle.expressions.specs.Told.{Told}
+use Rattle.parser.specs.Steps.{Stored}
 use Rattle.operand.specs.declared.forms.SizedDisplacement.{SizedDisplacement}
 use Rattle.operand.specs.declared.forms.DisplacementStep.{DisplacementStep}
 use Rattle.operand.specs.declared.forms.OperandRecord.{OperandRecord}

@@ -24,7 +24,7 @@ use Rattle.records.specs.Counting.{stepped}
 use Rattle.operand.specs.Operands.{RegisterListItem, single, range, Maybe, some, none}
 use Rattle.operand.specs.Operand.{aRegister, listItem}
 use Rattle.records.specs.Rooms.{Room}
-use Rattle.parser.specs.Steps.{Raised, Told}
+use Rattle.expressions.specs.Told.{Raised, Told}
 use Rattle.parser.specs.Tests.{regAt}
 use Rattle.operand.specs.declared.forms.Register.{Register}
 use Rattle.operand.specs.declared.forms.BaseRegister.{BaseRegister}

@@ -28,7 +28,8 @@ ghost use mathlib.Core.Path.{_≡_};
 ghost use Rattle.records.specs.Rooms.{Room};
 ghost use Rattle.operand.specs.Operand.{afterBaseRegister, noBase, parseBaseAndIndexRegisters, parseFullIndex, withIndex, commaAndIndex};
 ghost use Rattle.operand.specs.Forms.{registersRead};
-ghost use Rattle.parser.specs.Steps.{Told, Same, TailTold};
+ghost use Rattle.expressions.specs.Told.{Told, Same};
+ghost use Rattle.parser.specs.Steps.{TailTold};
 ghost use Rattle.operand.specs.declared.forms.RegistersRead.{RegistersRead};
 
 fn registers(base: BaseRegister, index: Index, c: Counters) -> RegistersStep

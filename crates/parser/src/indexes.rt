@@ -39,7 +39,7 @@ ghost use Rattle.records.specs.Diagnostics.{runStart};
 ghost use Rattle.expressions.specs.Expressions.{suffixRun, takeSizeSuffix};
 ghost use Rattle.operand.specs.Operand.{expectClose, scaleOf, scaled, scaleValue, indexScale, indexRegister, parseIndexRegister};
 ghost use Rattle.operand.specs.Forms.{suffixRead, closeRead, indexRead};
-ghost use Rattle.parser.specs.Steps.{Told, Same};
+ghost use Rattle.expressions.specs.Told.{Told, Same};
 ghost use Rattle.parser.specs.Tests.{sizedIndex};
 ghost use Rattle.operand.specs.declared.forms.Close.{Close};
 ghost use Rattle.operand.specs.declared.forms.IndexRead.{IndexRead};

@@ -29,7 +29,8 @@ ghost use Rattle.records.specs.Stores.{PutAsks};
 ghost use Rattle.terms.specs.Terms.{NodeTold};
 ghost use Rattle.operand.specs.Operand.{parseRegisterList};
 ghost use Rattle.operand.specs.Mask.{bitsFrom};
-ghost use Rattle.parser.specs.Steps.{Raised, OperandTold};
+ghost use Rattle.expressions.specs.Told.{Raised};
+ghost use Rattle.parser.specs.Steps.{OperandTold};
 ghost use Rattle.parser.specs.Items.{expectedAt, RegisterTold, RangedTold, singleStep, ItemTold, itemBytes, slashed, listStep, ListAsks};
 
 // A register (kind 7) or a range (kind 8), as its node has it.

@@ -44,7 +44,8 @@ ghost use Rattle.operand.specs.Operand.{aRegister, registerFrom, predecrementCl
 ghost use Rattle.operand.specs.Operands as O;
 ghost use Rattle.operand.specs.Operands.{undisplaced, some};
 ghost use Rattle.operand.specs.Forms.{operandRead};
-ghost use Rattle.parser.specs.Steps.{Told, Kept, OperandTold};
+ghost use Rattle.expressions.specs.Told.{Told};
+ghost use Rattle.parser.specs.Steps.{Kept, OperandTold};
 ghost use Rattle.parser.specs.Items.{ListAsks};
 
 // ---- predecrement

@@ -14,7 +14,7 @@ ghost use Prim.Native.Nat.{_<_};
 ghost use Rattle.records.specs.Rooms.{Room};
 ghost use Rattle.records.specs.Spans.{span, noSpan, spanOf};
 ghost use Rattle.records.specs.Diagnostics.{malformedOperand, malformedOpen, expressionExpected};
-ghost use Rattle.parser.specs.Steps.{Raised, RaisedOver};
+ghost use Rattle.expressions.specs.Told.{Raised, RaisedOver};
 
 pub(crate) fn raise(diagnostics: &mut [u16], c: Counters, x: Diagnostic) -> Counters
     requires { ⌜ c .diagnostics < 65535 ⌝ }

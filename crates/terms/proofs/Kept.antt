@@ -8,7 +8,7 @@ use native.Mathlib.Omega.{arith}
 use lib.ListN.{length, take, drop, replicate}
 use Rattle.names.specs.Tokens.{count}
 use Rattle.names.specs.Places.{place}
-use Rattle.expressions.specs.Trees.{withSpan, size}
+use Rattle.expressions.specs.Trees.{spanE, withSpan, size}
 use Rattle.records.specs.declared.spans.Span.{Span}
 use Rattle.records.specs.declared.counters.Counters.{Counters}
 use Rattle.records.specs.Counting.{counters-are}
@@ -19,7 +19,8 @@ use Rattle.expressions.specs.Expressions.{parseExpression, expressionFrom, fuel
 use Rattle.records.specs.Rooms.{NodeRoom}
 use Rattle.records.specs.Stores.{cleared}
 use Rattle.records.specs.Written.{written-past, cleared-fits}
-use Rattle.terms.specs.Terms.{ExpressionTold, ClimbTold, Says}
+use Rattle.terms.specs.Terms.{ExpressionTold, Joined, ClimbTold}
+use Rattle.expressions.specs.Told.{Told}
 use Rattle.terms.specs.Roots.{rooted, spanE-withSpan}
 use Rattle.terms.specs.Promises.{filled, spent, RoomTold, enough, lacking, ExpressionFits, FromFits}
 use Rattle.expressions.specs.Fuel.{fuel-enough}
@@ -37,8 +38,8 @@ expression-kept L T N D N₁ D₁ N₂ c room r g f k =
     let s = run (parseExpression room) (place L T) (c .at) (c .end) in
     let h = g .told in
     record {
-      answer = ap₂ (λ p q. record { parsed = p; counters = q }) (h .what) (counters-are (r .counters) _ _ _ _ (h .at) (h .end) (h .total) (h .seen));
-      nodes = filled-is N N₁ N₂ _ (r .counters .nodes) _ (spent c (r .counters)) (h .bytes) (h .total) (g .past (spent c (r .counters)) (omega (arith, g .on))) (omega (arith, g .few, g .on)) f k;
+      answer = ap₂ (λ p q. record { parsed = p; counters = q }) (h .what) (counters-are (r .counters) _ _ _ _ (h .at) (h .end) (h .held .total) (h .seen));
+      nodes = filled-is N N₁ N₂ _ (r .counters .nodes) _ (spent c (r .counters)) (h .held .bytes) (h .held .total) (g .past (spent c (r .counters)) (omega (arith, g .on))) (omega (arith, g .few, g .on)) f k;
       diagnostics = h .more;
       on = g .on;
       within = g .within;
@@ -66,11 +67,11 @@ pub from-kept : (L T N D N₁ N₂ D₂ N₃ : List ℕ) (c : Counters) (group :
 unfolding expressionFrom
 from-kept L T N D N₁ N₂ D₂ N₃ c group room r asks w g f k = record {
   told = λ b e cnt.
-      let h : Says (run (expressionFrom room (withSpan e group)) (place L T) (c .at) (c .end)) D N₂ D₂ (take (10 * c .nodes) (rooted N (c .nodes) group)) b (size e) (c .diagnostics) r
+      let h : Told spanE (Joined (take (10 * c .nodes) (rooted N (c .nodes) group)) N₂ b (size e)) (expressionFrom room (withSpan e group)) L T D D₂ c (r .span) (r .counters)
       = rw (w, size-withSpan e group) at (g .told fuel (omega (arith, fuel-enough, asks)) b (withSpan e group) (cnt ∙ ap (λ z. b + z) (sym (size-withSpan e group))) (sym (spanE-withSpan e group))) in
       record {
-        answer = ap₂ (λ p q. record { span = p; counters = q }) (h .span) (counters-are (r .counters) _ _ _ _ (h .at) (h .end) (h .total) (h .seen));
-        nodes = filled-is N N₂ N₃ _ (r .counters .nodes) _ (spent c (r .counters)) (h .bytes) (h .total) (g .past (spent c (r .counters)) (omega (arith, g .on)) ∙ rw w (written-past N (10 * (c .nodes - 1) + 4) (group .start ∷ group .end ∷ []) (10 * spent c (r .counters)) (omega (arith, asks)) (omega (arith, asks, g .on)))) (omega (arith, g .few, g .on)) f k;
+        answer = ap₂ (λ p q. record { span = p; counters = q }) (h .what) (counters-are (r .counters) _ _ _ _ (h .at) (h .end) (h .held .total) (h .seen));
+        nodes = filled-is N N₂ N₃ _ (r .counters .nodes) _ (spent c (r .counters)) (h .held .bytes) (h .held .total) (g .past (spent c (r .counters)) (omega (arith, g .on)) ∙ rw w (written-past N (10 * (c .nodes - 1) + 4) (group .start ∷ group .end ∷ []) (10 * spent c (r .counters)) (omega (arith, asks)) (omega (arith, asks, g .on)))) (omega (arith, g .few, g .on)) f k;
         diagnostics = h .more;
       };
   some = omega (arith, g .some);

@@ -1,8 +1,6 @@
 -- Laws that the proofs share, in the order of the code.
 pub mod Operators
-pub mod Branches
 pub mod Leaves
-pub mod Groups
 pub mod Returns
 pub mod Closings
 pub mod Climbs

@@ -1,13 +1,14 @@
 -- What the functions that read terms ask, and what they tell: the answer and both stores, by the reading that the definition gives.
 -- Assumes nothing.
 use mathlib.Core.Path.{_≡_}
+use mathlib.Core.Bool.{false}
 use mathlib.Core.List.{List, [], _∷_, _++_}
 use Prim.Native.Nat.{ℕ, _+_, _-_, _*_, _≤_, _<_}
 use lib.ListN.{length, take, drop}
 use Rattle.names.specs.Kinds
 use Rattle.names.specs.Tokens.{count, tokenAt}
+use Rattle.names.specs.Places.{place}
 use Rattle.names.specs.declared.tokens.Peeked.the-variants as peeked
-use Rattle.names.specs.Places.{Place, stands, place}
 use Rattle.names.specs.declared.tokens.Token.{Token}
 use Rattle.records.specs.Spans.{span, spanOf}
 use Rattle.expressions.specs.Trees.{Expr, spanE, size}
@@ -19,12 +20,14 @@ use Rattle.terms.specs.declared.terms.Parsed.the-variants as parsed
 use Rattle.terms.specs.declared.terms.Step.{Step}
 use Rattle.terms.specs.declared.terms.Chain.{Chain}
 use Rattle.records.specs.Diagnostics.{unclosedParenthesis}
-use Rattle.expressions.specs.Reader.{Reading, Reader, run, _>>=_}
+use Rattle.expressions.specs.Reader.{is, Reader, _>>=_}
+use Rattle.expressions.specs.Laws.{holds}
+use Rattle.expressions.specs.Told.{Told}
 use Rattle.expressions.specs.Expressions.{Term, precedence, read, reported, absent, tooDeep, fuel, negated, plussed, grouped, parsePrefix, parseExpression, parseExpressionFrom}
 use Rattle.records.specs.Nodes.{nodeRecord, words}
 use Rattle.expressions.specs.Records.{nodes}
 use Rattle.records.specs.Counting.{stepped}
-use Rattle.records.specs.Stores.{written, added, PutTold, PushTold}
+use Rattle.records.specs.Stores.{written, PutTold, PushTold}
 
 -- ---- a term as the answer has it
 
@@ -43,15 +46,14 @@ nodesT b (read e) = nodes b e
 nodesT b reported = []
 nodesT b absent = []
 
--- the answer r and the stores N′ and D′ are what the reading s says, from the node n and the diagnostic d on
-pub record Told (s : Reading Term) (N D N′ D′ : List ℕ) (n d : ℕ) (r : Step) : Type 0 where
-  pub what : r .parsed ≡ parsedOf (s .value)
-  pub at : r .counters .at ≡ s .cursor
-  pub end : r .counters .end ≡ s .end
-  pub total : r .counters .nodes ≡ n + sizeT (s .value)
-  pub seen : r .counters .diagnostics ≡ d + length (s .raised)
-  pub bytes : take (10 * r .counters .nodes) N′ ≡ take (10 * n) N ++ nodesT n (s .value)
-  pub more : D′ ≡ added D d (s .raised)
+-- the term v stands behind the first n records
+pub record Held (N N′ : List ℕ) (n : ℕ) (v : Term) (r : Counters) : Type 0 where
+  pub total : r .nodes ≡ n + sizeT v
+  pub bytes : take (10 * r .nodes) N′ ≡ take (10 * n) N ++ nodesT n v
+
+-- the answer and both stores are what the reader p says, from the counters c on
+abbrev pub Said : Reader Term → List ℕ → List ℕ → List ℕ → List ℕ → List ℕ → List ℕ → Counters → Step → Type 0
+Said p L T N D N′ D′ c r = Told parsedOf (Held N N′ (c .nodes)) p L T D D′ c (r .parsed) (r .counters)
 
 -- From the counters c to r a record is written for each consumed token at the most: the records past these stay
 abbrev pub Spared : List ℕ → List ℕ → Counters → Counters → Type 0
@@ -89,23 +91,23 @@ pub record LeafAsks (N : List ℕ) (c : Counters) : Type 0 where
 
 -- the reader p, which looks at no place, from the counters c on
 pub record ReaderTold (p : Reader Term) (N D N′ D′ : List ℕ) (c : Counters) (r : Step) : Type 0 where
-  pub told : (at : ℕ → Place) → Told (run p at (c .at) (c .end)) N D N′ D′ (c .nodes) (c .diagnostics) r
+  pub told : (L T : List ℕ) → Said p L T N D N′ D′ c r
   pub stays : r .counters .at ≡ c .at
   pub past : (k : ℕ) → c .nodes < k → drop (10 * k) N′ ≡ drop (10 * k) N
 
--- the reader p, where the token k with the text x stands at the cursor
-pub record TokenTold (p : Reader Term) (k : Token) (x : List ℕ) (N D N′ D′ : List ℕ) (c : Counters) (r : Step) : Type 0 where
-  pub told : (at : ℕ → Place) → at (c .at) ≡ stands k x → Told (run p at (c .at) (c .end)) N D N′ D′ (c .nodes) (c .diagnostics) r
+-- the reader p, where the token k stands at the cursor
+pub record TokenTold (p : Reader Term) (L : List ℕ) (k : Token) (N D N′ D′ : List ℕ) (c : Counters) (r : Step) : Type 0 where
+  pub told : (T : List ℕ) → tokenAt T (c .at) ≡ peeked.Is k → Said p L T N D N′ D′ c r
   pub past : Spared N N′ c (r .counters)
 
 -- the depth is told, whatever the line
 pub record DepthTold (T D D′ : List ℕ) (c : Counters) (r : Step) : Type 0 where
-  pub told : (L N : List ℕ) → Told (run tooDeep (place L T) (c .at) (c .end)) N D N D′ (c .nodes) (c .diagnostics) r
+  pub told : (L N : List ℕ) → Said tooDeep L T N D N D′ c r
 
 -- ---- the readers that call each other
 
-pub record TermTold (s : Reading Term) (T N D N′ D′ : List ℕ) (c : Counters) (r : Step) : Type 0 where
-  pub told : Told s N D N′ D′ (c .nodes) (c .diagnostics) r
+pub record TermTold (p : Reader Term) (L T N D N′ D′ : List ℕ) (c : Counters) (r : Step) : Type 0 where
+  pub told : Said p L T N D N′ D′ c r
   pub past : Spared N N′ c (r .counters)
   pub on : c .at ≤ r .counters .at
   pub within : r .counters .at ≤ count T
@@ -113,10 +115,10 @@ pub record TermTold (s : Reading Term) (T N D N′ D′ : List ℕ) (c : Counter
   pub quiet : r .counters .diagnostics + c .at ≤ c .diagnostics + r .counters .at + 1
 
 abbrev pub PrefixTold : List ℕ → List ℕ → List ℕ → List ℕ → List ℕ → List ℕ → Counters → ℕ → Step → Type 0
-PrefixTold L T N D N′ D′ c room r = TermTold (run (parsePrefix fuel room) (place L T) (c .at) (c .end)) T N D N′ D′ c r
+PrefixTold L T N D N′ D′ c room r = TermTold (parsePrefix fuel room) L T N D N′ D′ c r
 
 abbrev pub ExpressionTold : List ℕ → List ℕ → List ℕ → List ℕ → List ℕ → List ℕ → Counters → ℕ → Step → Type 0
-ExpressionTold L T N D N′ D′ c room r = TermTold (run (parseExpression room) (place L T) (c .at) (c .end)) T N D N′ D′ c r
+ExpressionTold L T N D N′ D′ c room r = TermTold (parseExpression room) L T N D N′ D′ c r
 
 -- the terms behind their first token
 abbrev pub unaryTerm : ℕ → Token → Reader Term
@@ -129,27 +131,22 @@ abbrev pub groupTerm : ℕ → Token → Reader Term
 groupTerm room k = parseExpression room >>= grouped k
 
 pub record BehindTold (p : Reader Term) (L T N D N′ D′ : List ℕ) (c : Counters) (r : Step) : Type 0 where
-  pub told : Told (run p (place L T) (c .at) (c .end)) N D N′ D′ (c .nodes) (c .diagnostics) r
+  pub told : Said p L T N D N′ D′ c r
   pub past : (k : ℕ) → c .nodes + r .counters .at + 1 ≤ k + c .at → drop (10 * k) N′ ≡ drop (10 * k) N
   pub on : c .at ≤ r .counters .at
   pub within : r .counters .at ≤ count T
   pub few : r .counters .nodes + c .at ≤ c .nodes + r .counters .at + 1
   pub quiet : r .counters .diagnostics + c .at ≤ c .diagnostics + r .counters .at + 2
 
--- the climb s of a tree of m nodes, the first of which has the number b: it adds records behind those that stand, P
-pub record Says (s : Reading Expr) (D N′ D′ P : List ℕ) (b m d : ℕ) (r : Chain) : Type 0 where
-  pub span : r .span ≡ spanE (s .value)
-  pub at : r .counters .at ≡ s .cursor
-  pub end : r .counters .end ≡ s .end
-  pub total : r .counters .nodes ≡ b + size (s .value)
-  pub seen : r .counters .diagnostics ≡ d + length (s .raised)
-  pub bytes : take (10 * r .counters .nodes) N′ ≡ P ++ drop (10 * m) (nodes b (s .value))
-  pub more : D′ ≡ added D d (s .raised)
+-- the tree v, whose first node has the number b: behind the numbers P stands what was joined to a left side of m nodes
+pub record Joined (P N′ : List ℕ) (b m : ℕ) (v : Expr) (r : Counters) : Type 0 where
+  pub total : r .nodes ≡ b + size v
+  pub bytes : take (10 * r .nodes) N′ ≡ P ++ drop (10 * m) (nodes b v)
 
 -- whatever tree e of this span the left side is, with fuel enough. What stands in the store is not looked at
 pub record ClimbTold (L T N D N′ D′ : List ℕ) (c : Counters) (left : Span) (min room : ℕ) (r : Chain) : Type 0 where
   pub told : (g : ℕ) → count T ≤ g + c .at → (b : ℕ) (e : Expr) → c .nodes ≡ b + size e → left ≡ spanE e
-      → Says (run (parseExpressionFrom g (parsePrefix fuel room) min e) (place L T) (c .at) (c .end)) D N′ D′ (take (10 * c .nodes) N) b (size e) (c .diagnostics) r
+      → Told spanE (Joined (take (10 * c .nodes) N) N′ b (size e)) (parseExpressionFrom g (parsePrefix fuel room) min e) L T D D′ c (r .span) (r .counters)
   pub past : Spared N N′ c (r .counters)
   pub some : 0 < r .counters .nodes
   pub on : c .at ≤ r .counters .at
@@ -182,5 +179,5 @@ pub data CloseTold (T N D N′ D′ : List ℕ) (first : ℕ) (c : Counters) (k 
   closed : (t : Token) → tokenAt T (c .at) ≡ peeked.Is t → t .kind ≡ Kinds.rightParen
       → N′ ≡ written N (10 * (c .nodes - 1) + 4) (k .start ∷ t .end ∷ []) → D′ ≡ D
       → r .parsed ≡ parsed.Read (span (k .start) (t .end)) → r .counters ≡ stepped c t → CloseTold T N D N′ D′ first c k r
-  unclosed : ((t : Token) → tokenAt T (c .at) ≡ peeked.Is t → t .kind ≡ Kinds.rightParen → ⊥) → N′ ≡ N
+  unclosed : ((L : List ℕ) → holds (is Kinds.rightParen) (place L T (c .at)) ≡ false) → N′ ≡ N
       → DeepTold D D′ (withNodes c first) (unclosedParenthesis (spanOf k)) r → CloseTold T N D N′ D′ first c k r

@@ -137,7 +137,7 @@ pub(crate) fn parse_leaf(
     token: Token,
 ) -> Step
     requires { ⌜ LeafAsks (now nodes) c × (c .at < 1023) ⌝ }
-    ensures { λ r. ⌜ TokenTold leafTerm token (textOf (now (line .entry)) (token .start) (token .end)) (now (nodes .entry)) (now (diagnostics .entry)) (now (nodes .exit)) (now (diagnostics .exit)) c r ⌝ }
+    ensures { λ r. ⌜ TokenTold leafTerm (now (line .entry)) token (now (nodes .entry)) (now (diagnostics .entry)) (now (nodes .exit)) (now (diagnostics .exit)) c r ⌝ }
 {
     let e = step_over(c, token);
     let span = span_of(token);

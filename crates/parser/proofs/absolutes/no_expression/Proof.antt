@@ -3,7 +3,7 @@
 use mathlib.Core.Path.{refl, sym, _∙_, ap}
 use native.Mathlib.Omega.{arith}
 use Rattle.operand.specs.Operand.{noExpression}
-use Rattle.parser.proofs.Paths.{raised, raised-as, raised-same, seen, beyond}
+use Rattle.expressions.specs.Paths.{raised, raised-as, raised-same, seen, beyond}
 use Rattle.parser.proofs.Holdings.{nothing-told}
 use borrow.Author.Needs.{needs}
 use Rattle.parser.proofs.absolutes.no_expression.Statement.{statement}

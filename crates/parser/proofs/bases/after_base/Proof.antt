@@ -8,7 +8,8 @@ use Rattle.operand.specs.Operand.{baseAndIndex}
 use Rattle.operand.specs.Forms.{operandRead}
 use Rattle.names.specs.Places.{live}
 use Rattle.parser.specs.Bases.{indexedBy, behindBase}
-use Rattle.parser.proofs.Paths.{renamed, hit, miss, done, failed-unclosed}
+use Rattle.expressions.specs.Paths.{renamed, hit, miss, done}
+use Rattle.parser.proofs.Failures.{failed-unclosed}
 use Rattle.parser.proofs.Rooms.{room-step}
 use Rattle.parser.proofs.Tails.{kept-from, unclosed-shape, no-operand-held}
 use Rattle.parser.proofs.Opened.{plain-with}

@@ -5,7 +5,7 @@ use native.Mathlib.Omega.{arith}
 use Rattle.operand.specs.Operand.{closedIndex}
 use Rattle.operand.specs.Forms.{operandRead}
 use Rattle.parser.specs.Steps.{HeldBy}
-use Rattle.parser.proofs.Paths.{answered, bound}
+use Rattle.expressions.specs.Paths.{answered, bound}
 use Rattle.parser.proofs.Rooms.{index-is, index-not, index-room}
 use Rattle.parser.proofs.Tails.{kept-from}
 use borrow.Author.Needs.{needs}

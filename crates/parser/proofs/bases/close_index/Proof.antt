@@ -4,7 +4,7 @@ use mathlib.Core.Path.{refl, sym, _∙_, ap}
 use Rattle.operand.specs.Operand.{indexedOperand}
 use Rattle.operand.specs.Forms.{operandRead}
 use Rattle.parser.specs.Steps.{HeldBy}
-use Rattle.parser.proofs.Paths.{answered, bound}
+use Rattle.expressions.specs.Paths.{answered, bound}
 use Rattle.parser.proofs.Rooms.{close-is, close-not}
 use Rattle.parser.proofs.Tails.{indexed-full, indexed-plain}
 use borrow.Author.Needs.{needs}

@@ -2,7 +2,7 @@
 -- Assumes nothing.
 use mathlib.Core.Path.{sym, ap}
 use Rattle.parser.specs.Bases.{closed}
-use Rattle.parser.proofs.Paths.{renamed}
+use Rattle.expressions.specs.Paths.{renamed}
 use Rattle.parser.proofs.Opened.{other-closed}
 use borrow.Author.Needs.{needs}
 use Rattle.parser.proofs.bases.closed.Statement.{statement}

@@ -5,7 +5,8 @@ use native.Mathlib.Omega.{arith}
 use Rattle.operand.specs.Operand.{parseBaseAndIndex}
 use Rattle.operand.specs.Forms.{operandRead}
 use Rattle.names.specs.Places.{live}
-use Rattle.parser.proofs.Paths.{hit, miss, done, failed-unclosed, failed-register}
+use Rattle.expressions.specs.Paths.{hit, miss, done}
+use Rattle.parser.proofs.Failures.{failed-unclosed, failed-register}
 use Rattle.parser.proofs.Rooms.{room-step}
 use Rattle.parser.proofs.Tails.{kept-from, unclosed-shape, register-shape, no-operand-held, no-operand-behind}
 use Rattle.parser.proofs.Opened.{unsuppressed, no-register, no-counter, opened}

@@ -4,7 +4,8 @@ use mathlib.Core.Path.{sym, _∙_}
 use native.Mathlib.Omega.{arith}
 use Rattle.operand.specs.Operand.{parseSizedDisplacement, displacementValue}
 use Rattle.operand.specs.Forms.{displacementRead}
-use Rattle.parser.proofs.Paths.{answered, bound, failed-over}
+use Rattle.expressions.specs.Paths.{answered, bound}
+use Rattle.parser.proofs.Failures.{failed-over}
 use Rattle.parser.proofs.Trees.{term-told, tree-read, absent-room}
 use Rattle.terms.specs.Answers.{what-reported, what-absent}
 use Rattle.parser.proofs.Inners.{displacement-read}

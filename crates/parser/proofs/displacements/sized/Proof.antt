@@ -3,7 +3,7 @@
 use mathlib.Core.Path.{sym, _∙_}
 use native.Mathlib.Omega.{arith}
 use Rattle.operand.specs.Operand.{sized}
-use Rattle.parser.proofs.Paths.{bound}
+use Rattle.expressions.specs.Paths.{bound}
 use Rattle.parser.proofs.Rooms.{suffix-is, suffix-not}
 use Rattle.parser.proofs.Inners.{sized-told}
 use borrow.Author.Needs.{needs}

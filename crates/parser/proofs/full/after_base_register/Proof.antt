@@ -4,7 +4,7 @@ use mathlib.Core.Path.{refl, sym, _∙_, ap}
 use native.Mathlib.Omega.{arith}
 use Rattle.operand.specs.Operand.{afterBaseRegister}
 use Rattle.operand.specs.Forms.{registersRead}
-use Rattle.parser.proofs.Paths.{answered, hereby, passed, unseen}
+use Rattle.expressions.specs.Paths.{answered, hereby, passed, unseen}
 use borrow.Author.Needs.{needs}
 use Rattle.parser.proofs.full.after_base_register.Statement.{statement}
 use Rattle.parser.proofs.full.after_base_register.Tie as tie

@@ -6,7 +6,7 @@ use borrow.Author.Tests.{eq-eqb, ne-eqb}
 use Rattle.names.specs.Kinds
 use Rattle.operand.specs.Forms.{registersRead}
 use Rattle.names.specs.Places.{live}
-use Rattle.parser.proofs.Paths.{answered, hit-same, miss, done}
+use Rattle.expressions.specs.Paths.{answered, hit-same, miss, done}
 use Rattle.parser.proofs.Rooms.{room-step}
 use borrow.Author.Needs.{needs}
 use Rattle.parser.proofs.full.comma_and_index.Statement.{statement}

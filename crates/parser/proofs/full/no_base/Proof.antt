@@ -7,7 +7,8 @@ use Rattle.names.specs.Places.{place}
 use Rattle.expressions.specs.Laws.{holds}
 use Rattle.operand.specs.Operand.{noBase, anIndex}
 use Rattle.operand.specs.Forms.{registersRead}
-use Rattle.parser.proofs.Paths.{hereby, passed, unseen, failed-over, over-same}
+use Rattle.expressions.specs.Paths.{hereby, passed, unseen, over-same}
+use Rattle.parser.proofs.Failures.{failed-over}
 use borrow.Author.Needs.{needs}
 use Rattle.parser.proofs.full.no_base.Statement.{statement}
 use Rattle.parser.proofs.full.no_base.Tie as tie

@@ -4,7 +4,7 @@ use mathlib.Core.Path.{refl, sym, _∙_, ap}
 use native.Mathlib.Omega.{arith}
 use Rattle.parser.proofs.Starts.{base-read, base-none, base-end}
 use Rattle.names.specs.Places.{live}
-use Rattle.parser.proofs.Paths.{same}
+use Rattle.expressions.specs.Paths.{same}
 use Rattle.parser.proofs.Rooms.{room-step}
 use Rattle.parser.proofs.Tails.{some-base, no-base}
 use borrow.Author.Needs.{needs}

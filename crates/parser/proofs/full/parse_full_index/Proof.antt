@@ -5,7 +5,7 @@ use native.Mathlib.Omega.{arith}
 use Rattle.operand.specs.Operand.{parseFullIndex, closedRegisters, fullIndexed}
 use Rattle.operand.specs.Forms.{operandRead}
 use Rattle.parser.specs.Steps.{HeldBy}
-use Rattle.parser.proofs.Paths.{answered, bound}
+use Rattle.expressions.specs.Paths.{answered, bound}
 use Rattle.parser.proofs.Rooms.{registers-is, registers-not, registers-room, close-is, close-not}
 use Rattle.parser.proofs.Tails.{full-index-told}
 use borrow.Author.Needs.{needs}

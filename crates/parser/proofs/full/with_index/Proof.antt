@@ -3,7 +3,7 @@
 use mathlib.Core.Path.{refl, sym, _∙_, ap}
 use Rattle.operand.specs.Operand.{indexAlone}
 use Rattle.operand.specs.Forms.{registersRead}
-use Rattle.parser.proofs.Paths.{answered, bound}
+use Rattle.expressions.specs.Paths.{answered, bound}
 use Rattle.parser.proofs.Rooms.{index-is, index-not}
 use borrow.Author.Needs.{needs}
 use Rattle.parser.proofs.full.with_index.Statement.{statement}

@@ -2,7 +2,7 @@
 -- Assumes nothing.
 use native.Mathlib.Omega.{arith}
 use Rattle.operand.specs.Operand.{parseImmediate, immediateValue}
-use Rattle.parser.proofs.Paths.{raised}
+use Rattle.expressions.specs.Paths.{raised}
 use Rattle.parser.proofs.Trees.{tree-read, absent-room}
 use Rattle.parser.proofs.Holdings.{nothing-stored, tree-stored, tree-stands, stands-size, behind-tree, behind-reported, behind-absent}
 use borrow.Author.Needs.{needs}

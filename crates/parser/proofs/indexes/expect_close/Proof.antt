@@ -7,7 +7,8 @@ use Rattle.names.specs.Kinds
 use Rattle.operand.specs.Operand.{expectClose}
 use Rattle.operand.specs.Forms.{closeRead}
 use Rattle.names.specs.Places.{live}
-use Rattle.parser.proofs.Paths.{answered, hit, miss, done, failed-unclosed, raised-same}
+use Rattle.expressions.specs.Paths.{answered, hit, miss, done, raised-same}
+use Rattle.parser.proofs.Failures.{failed-unclosed}
 use borrow.Author.Needs.{needs}
 use Rattle.parser.proofs.indexes.expect_close.Statement.{statement}
 use Rattle.parser.proofs.indexes.expect_close.Tie as tie

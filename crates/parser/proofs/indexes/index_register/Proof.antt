@@ -3,7 +3,7 @@
 use mathlib.Core.Path.{refl, sym, _∙_, ap}
 use Rattle.operand.specs.Operand.{indexRegister, indexScale}
 use Rattle.parser.specs.Tests.{sizedIndex}
-use Rattle.parser.proofs.Paths.{bound, renamed, same}
+use Rattle.expressions.specs.Paths.{bound, renamed, same}
 use Rattle.parser.proofs.Rooms.{suffix-room}
 use Rattle.parser.proofs.Suffixes.{index-sized}
 use borrow.Author.Needs.{needs}

@@ -7,7 +7,8 @@ use Rattle.names.specs.Kinds
 use Rattle.operand.specs.Operand.{indexScale}
 use Rattle.operand.specs.Forms.{indexRead}
 use Rattle.names.specs.Places.{live}
-use Rattle.parser.proofs.Paths.{answered, hit, hit-same, miss, done, failed-over, over-same}
+use Rattle.expressions.specs.Paths.{answered, hit, hit-same, miss, done, over-same}
+use Rattle.parser.proofs.Failures.{failed-over}
 use Rattle.parser.proofs.Rooms.{room-step}
 use borrow.Author.Needs.{needs}
 use Rattle.parser.proofs.indexes.index_scale.Statement.{statement}

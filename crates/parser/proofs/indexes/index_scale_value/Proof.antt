@@ -3,7 +3,7 @@
 use mathlib.Core.Path.{refl, sym, _∙_, ap}
 use native.Mathlib.Omega.{arith}
 use Rattle.names.specs.Numbers.{numberOf}
-use Rattle.parser.proofs.Paths.{bound-as, same, raised-same}
+use Rattle.expressions.specs.Paths.{bound-as, same, raised-same}
 use Rattle.parser.proofs.Suffixes.{value-known, value-large, value-invalid}
 use borrow.Author.Needs.{needs}
 use Rattle.parser.proofs.indexes.index_scale_value.Statement.{statement}

@@ -7,7 +7,8 @@ use Rattle.operand.specs.Operand.{parseIndexRegister, indexRegister}
 use Rattle.operand.specs.Forms.{indexRead}
 use Rattle.parser.proofs.Names.{reg-is, reg-not, suppressed-hit, suppressed-miss, suppressed-no-register, register-as, suppressed-as}
 use Rattle.names.specs.Places.{live}
-use Rattle.parser.proofs.Paths.{renamed, hereby, hit-same, miss, done, failed-over, over-same}
+use Rattle.expressions.specs.Paths.{renamed, hereby, hit-same, miss, done, over-same}
+use Rattle.parser.proofs.Failures.{failed-over}
 use Rattle.parser.proofs.Rooms.{room-step}
 use borrow.Author.Needs.{needs}
 use Rattle.parser.proofs.indexes.parse_index_register.Statement.{statement}

@@ -4,7 +4,8 @@ use mathlib.Core.Path.{refl, sym, _∙_, ap}
 use native.Mathlib.Omega.{arith}
 use Rattle.operand.specs.Operand.{scaled, scaleOf}
 use Rattle.operand.specs.Forms.{indexRead}
-use Rattle.parser.proofs.Paths.{answered, chosen, unchosen, failed-malformed, raised-same}
+use Rattle.expressions.specs.Paths.{answered, chosen, unchosen, raised-same}
+use Rattle.parser.proofs.Failures.{failed-malformed}
 use Rattle.parser.proofs.Suffixes.{scale-small}
 use borrow.Author.Needs.{needs}
 use Rattle.parser.proofs.indexes.scaled.Statement.{statement}

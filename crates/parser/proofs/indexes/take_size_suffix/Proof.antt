@@ -7,7 +7,7 @@ use Rattle.names.specs.Kinds
 use Rattle.expressions.specs.Expressions.{takeSizeSuffix}
 use Rattle.operand.specs.Forms.{suffixRead}
 use Rattle.names.specs.Places.{live}
-use Rattle.parser.proofs.Paths.{answered, miss, done}
+use Rattle.expressions.specs.Paths.{answered, miss, done}
 use Rattle.parser.proofs.Suffixes.{suffix-taken}
 use borrow.Author.Needs.{needs}
 use Rattle.parser.proofs.indexes.take_size_suffix.Statement.{statement}

@@ -5,8 +5,8 @@ use native.Mathlib.Omega.{arith}
 use Rattle.operand.specs.Operand.{outerClosed}
 use Rattle.operand.specs.Forms.{operandRead}
 use Rattle.parser.specs.Steps.{HeldBy}
-use Rattle.parser.proofs.Paths.{answered, bound}
-use Rattle.parser.proofs.Inners.{outer-room, outer-is, outer-not, outer-of, held-some, operand-behind}
+use Rattle.expressions.specs.Paths.{held-as, answered, bound}
+use Rattle.parser.proofs.Inners.{outer-room, outer-is, outer-not, outer-of, operand-behind}
 use borrow.Author.Needs.{needs}
 use Rattle.parser.proofs.indirect.after_inner.Statement.{statement}
 use Rattle.parser.proofs.indirect.after_inner.Tie as tie
@@ -56,7 +56,7 @@ returns-2 c =
     let c-parse-outer = c .before .before .before .before .before .before .before .before .before .before .before .before .parse-outer in
     let c-read = c .before .before .before .before .before .read in
     let c-close-indirect = c .before .before .close-indirect in
-    record { told = λ x a st. bound (outer-of _ x a (c-parse-outer .ensures) .told) (outer-is _ _ (sym (outer-of _ x a (c-parse-outer .ensures) .told .what) ∙ c-read .given .1) .is) (operand-behind x (outer-is _ _ (sym (outer-of _ x a (c-parse-outer .ensures) .told .what) ∙ c-read .given .1) .part) a (outer-is _ _ (sym (outer-of _ x a (c-parse-outer .ensures) .told .what) ∙ c-read .given .1) .form) st (held-some (outer-of _ x a (c-parse-outer .ensures) .told) (outer-is _ _ (sym (outer-of _ x a (c-parse-outer .ensures) .told .what) ∙ c-read .given .1) .is)) (c-close-indirect .ensures)) }
+    record { told = λ x a st. bound (outer-of _ x a (c-parse-outer .ensures) .told) (outer-is _ _ (sym (outer-of _ x a (c-parse-outer .ensures) .told .what) ∙ c-read .given .1) .is) (operand-behind x (outer-is _ _ (sym (outer-of _ x a (c-parse-outer .ensures) .told .what) ∙ c-read .given .1) .part) a (outer-is _ _ (sym (outer-of _ x a (c-parse-outer .ensures) .told .what) ∙ c-read .given .1) .form) st (held-as (outer-of _ x a (c-parse-outer .ensures) .told) (outer-is _ _ (sym (outer-of _ x a (c-parse-outer .ensures) .told .what) ∙ c-read .given .1) .is)) (c-close-indirect .ensures)) }
 
 pub after-inner-spec : {M : Type 1} → statement M
 after-inner-spec =

@@ -5,7 +5,7 @@ use Rattle.operand.specs.Operand.{memoryIndirect}
 use Rattle.operand.specs.Forms.{operandRead}
 use Rattle.operand.specs.declared.forms.OperandRead.{OperandRead}
 use Rattle.parser.specs.Steps.{HeldBy}
-use Rattle.parser.proofs.Paths.{answered, bound}
+use Rattle.expressions.specs.Paths.{answered, bound}
 use Rattle.parser.proofs.Rooms.{close-is, close-not}
 use Rattle.parser.proofs.Inners.{operand-closed}
 use borrow.Author.Needs.{needs}

@@ -9,8 +9,9 @@ use Rattle.operand.specs.Forms.{operandRead}
 use Rattle.parser.specs.Steps.{HeldBy}
 use Rattle.parser.specs.Brackets.{innerOf}
 use Rattle.names.specs.Places.{live}
-use Rattle.parser.proofs.Paths.{answered, bound, hit, miss, done, failed-unclosed}
-use Rattle.parser.proofs.Inners.{node-step, inner-room, inner-is, inner-not, held-some, stored-on, stored-first}
+use Rattle.expressions.specs.Paths.{held-as, answered, bound, hit, miss, done}
+use Rattle.parser.proofs.Failures.{failed-unclosed}
+use Rattle.parser.proofs.Inners.{node-step, inner-room, inner-is, inner-not, stored-on, stored-first}
 use borrow.Author.Needs.{needs}
 use Rattle.parser.proofs.indirect.parse_memory_indirect.Statement.{statement}
 use Rattle.parser.proofs.indirect.parse_memory_indirect.Tie as tie
@@ -162,7 +163,7 @@ returns-4 c =
     let c-step-over = c .before .before .before .before .before .before .before .step-over in
     let c-after-inner = c .before .before .before .before .after-inner in
     let c-pre = c .before .before .before .before .before .before .before .before .before .before .before .before .before .before .before .before .before .before .before .before .before .before .before .before .before .before .before .before .before .before .pre in
-    record { told = bound (c-parse-inner .ensures .told) (inner-is _ _ (sym (c-parse-inner .ensures .told .what) ∙ c-read .given .1) .is) (hit (sym (c-token-at .ensures) ∙ c-p .given .1) (eq-eqb _ Kinds.rightBracket (c-if1 .left)) (c-step-over .ensures) (c-after-inner .ensures .told (inner-is _ _ (sym (c-parse-inner .ensures .told .what) ∙ c-read .given .1) .part) (ap (λ m. innerOf m (inner-is _ _ (sym (c-parse-inner .ensures .told .what) ∙ c-read .given .1) .part)) (sym (c-pre .1)) ∙ inner-is _ _ (sym (c-parse-inner .ensures .told .what) ∙ c-read .given .1) .form) (stored-on (stored-first (c-pre .1) (held-some (c-parse-inner .ensures .told) (inner-is _ _ (sym (c-parse-inner .ensures .told .what) ∙ c-read .given .1) .is))) (ap (λ z. z .nodes) (c-step-over .ensures))))) }
+    record { told = bound (c-parse-inner .ensures .told) (inner-is _ _ (sym (c-parse-inner .ensures .told .what) ∙ c-read .given .1) .is) (hit (sym (c-token-at .ensures) ∙ c-p .given .1) (eq-eqb _ Kinds.rightBracket (c-if1 .left)) (c-step-over .ensures) (c-after-inner .ensures .told (inner-is _ _ (sym (c-parse-inner .ensures .told .what) ∙ c-read .given .1) .part) (ap (λ m. innerOf m (inner-is _ _ (sym (c-parse-inner .ensures .told .what) ∙ c-read .given .1) .part)) (sym (c-pre .1)) ∙ inner-is _ _ (sym (c-parse-inner .ensures .told .what) ∙ c-read .given .1) .form) (stored-on (stored-first (c-pre .1) (held-as (c-parse-inner .ensures .told) (inner-is _ _ (sym (c-parse-inner .ensures .told .what) ∙ c-read .given .1) .is))) (ap (λ z. z .nodes) (c-step-over .ensures))))) }
 
 pub parse-memory-indirect-spec : {M : Type 1} → statement M
 parse-memory-indirect-spec =

@@ -6,7 +6,7 @@ use borrow.Author.Tests.{eq-eqb, ne-eqb}
 use Rattle.names.specs.Kinds
 use Rattle.operand.specs.Operand.{innerDisplaced}
 use Rattle.names.specs.Places.{live}
-use Rattle.parser.proofs.Paths.{hit, miss, done}
+use Rattle.expressions.specs.Paths.{hit, miss, done}
 use Rattle.parser.proofs.Rooms.{room-step}
 use Rattle.parser.proofs.Inners.{stored-on, inner-answered}
 use borrow.Author.Needs.{needs}

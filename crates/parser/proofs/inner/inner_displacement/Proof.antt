@@ -4,8 +4,8 @@ use mathlib.Core.Path.{sym, _∙_}
 use native.Mathlib.Omega.{arith}
 use Rattle.operand.specs.Operand.{innerDisplaced}
 use Rattle.parser.specs.Brackets.{innerRead}
-use Rattle.parser.proofs.Paths.{answered, bound}
-use Rattle.parser.proofs.Inners.{displacement-is, displacement-not, displacement-room, held-some}
+use Rattle.expressions.specs.Paths.{held-as, answered, bound}
+use Rattle.parser.proofs.Inners.{displacement-is, displacement-not, displacement-room}
 use borrow.Author.Needs.{needs}
 use Rattle.parser.proofs.inner.inner_displacement.Statement.{statement}
 use Rattle.parser.proofs.inner.inner_displacement.Tie as tie
@@ -54,7 +54,7 @@ returns-2 c =
     let c-parse-sized-displacement = c .before .before .before .before .before .before .before .before .before .before .before .before .parse-sized-displacement in
     let c-displacement = c .before .before .before .before .before .displacement in
     let c-inner-displaced = c .before .before .inner-displaced in
-    record { told = bound (c-parse-sized-displacement .ensures .told) (displacement-is _ _ (sym (c-parse-sized-displacement .ensures .told .what) ∙ c-displacement .given .1) .is) (c-inner-displaced .ensures .told _ _ _ (displacement-is _ _ (sym (c-parse-sized-displacement .ensures .told .what) ∙ c-displacement .given .1) .displacement) (displacement-is _ _ (sym (c-parse-sized-displacement .ensures .told .what) ∙ c-displacement .given .1) .form) (held-some (c-parse-sized-displacement .ensures .told) (displacement-is _ _ (sym (c-parse-sized-displacement .ensures .told .what) ∙ c-displacement .given .1) .is))) }
+    record { told = bound (c-parse-sized-displacement .ensures .told) (displacement-is _ _ (sym (c-parse-sized-displacement .ensures .told .what) ∙ c-displacement .given .1) .is) (c-inner-displaced .ensures .told _ _ _ (displacement-is _ _ (sym (c-parse-sized-displacement .ensures .told .what) ∙ c-displacement .given .1) .displacement) (displacement-is _ _ (sym (c-parse-sized-displacement .ensures .told .what) ∙ c-displacement .given .1) .form) (held-as (c-parse-sized-displacement .ensures .told) (displacement-is _ _ (sym (c-parse-sized-displacement .ensures .told .what) ∙ c-displacement .given .1) .is))) }
 
 pub inner-displacement-spec : {M : Type 1} → statement M
 inner-displacement-spec =

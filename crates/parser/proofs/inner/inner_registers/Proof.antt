@@ -3,7 +3,7 @@
 use mathlib.Core.Path.{sym, _∙_}
 use Rattle.operand.specs.Operand.{innerRegisters}
 use Rattle.parser.specs.Brackets.{innerRead}
-use Rattle.parser.proofs.Paths.{answered, bound}
+use Rattle.expressions.specs.Paths.{answered, bound}
 use Rattle.parser.proofs.Rooms.{registers-is, registers-not}
 use Rattle.parser.proofs.Inners.{stored-on, inner-answered}
 use borrow.Author.Needs.{needs}

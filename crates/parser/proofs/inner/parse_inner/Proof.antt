@@ -7,7 +7,7 @@ use Rattle.names.specs.Kinds
 use Rattle.operand.specs.Operands.{undisplaced}
 use Rattle.operand.specs.Operand.{parseInner}
 use Rattle.operand.specs.Forms.{sizedOf}
-use Rattle.parser.proofs.Paths.{hereby, seen, other, beyond}
+use Rattle.expressions.specs.Paths.{hereby, seen, other, beyond}
 use Rattle.parser.proofs.Inners.{stored-none, inner-answered}
 use borrow.Author.Needs.{needs}
 use Rattle.parser.proofs.inner.parse_inner.Statement.{statement}

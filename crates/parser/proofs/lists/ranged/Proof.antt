@@ -2,7 +2,7 @@
 -- Assumes nothing.
 use mathlib.Core.Path.{refl}
 use Rattle.parser.specs.Items.{rising, falling}
-use Rattle.parser.proofs.Paths.{raised-as}
+use Rattle.expressions.specs.Paths.{raised-as}
 use borrow.Author.Needs.{needs}
 use Rattle.parser.proofs.lists.ranged.Statement.{statement}
 use Rattle.parser.proofs.lists.ranged.Tie as tie

@@ -2,7 +2,7 @@
 -- Assumes nothing.
 use mathlib.Core.Path.{sym, _∙_}
 use Rattle.parser.specs.Items.{expectedAt}
-use Rattle.parser.proofs.Paths.{raised-as}
+use Rattle.expressions.specs.Paths.{raised-as}
 use borrow.Author.Needs.{needs}
 use Rattle.parser.proofs.lists.register_expected.Statement.{statement}
 use Rattle.parser.proofs.lists.register_expected.Tie as tie

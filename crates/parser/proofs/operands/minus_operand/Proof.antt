@@ -6,7 +6,7 @@ use borrow.Author.Tests.{eq-eqb, ne-eqb, not-true, not-false}
 use Rattle.names.specs.Kinds
 use Rattle.operand.specs.Operand.{minusOperand}
 use Rattle.names.specs.Places.{live}
-use Rattle.parser.proofs.Paths.{seen, other, beyond}
+use Rattle.expressions.specs.Paths.{seen, other, beyond}
 use Rattle.parser.proofs.Rooms.{room-step}
 use Rattle.parser.proofs.Operations.{token-from, predecrement-told}
 use borrow.Author.Needs.{needs}

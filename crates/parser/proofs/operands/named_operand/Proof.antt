@@ -5,7 +5,7 @@ use native.Mathlib.Omega.{arith}
 use Rattle.names.specs.Registers.{specialOf}
 use Rattle.operand.specs.Operand.{nameOrExpression}
 use Rattle.names.specs.Places.{live}
-use Rattle.parser.proofs.Paths.{renamed, hit, miss}
+use Rattle.expressions.specs.Paths.{renamed, hit, miss}
 use Rattle.parser.proofs.Names.{reg-is, reg-not, reg-small}
 use Rattle.parser.proofs.Rooms.{room-step}
 use Rattle.parser.proofs.Operations.{register-read, special-is, special-not, special-told}

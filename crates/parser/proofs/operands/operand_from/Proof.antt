@@ -9,7 +9,7 @@ use Rattle.names.specs.Registers.{specialOf}
 use Rattle.names.specs.Reserved.{isSpecial}
 use Rattle.operand.specs.Operand.{operandFrom, nameOrExpression}
 use Rattle.names.specs.Places.{live}
-use Rattle.parser.proofs.Paths.{raised, raised-as, hit, miss, seen, other}
+use Rattle.expressions.specs.Paths.{raised, raised-as, hit, miss, seen, other}
 use Rattle.parser.proofs.Holdings.{nothing-stored}
 use Rattle.parser.proofs.Inners.{node-step}
 use Rattle.parser.proofs.Operations.{unnamed, unnamed-register}

@@ -10,7 +10,8 @@ use Rattle.operand.specs.Operands.{undisplaced}
 use Rattle.operand.specs.Records.{sizeD, nodesD, sizeO, nodesO}
 use Rattle.operand.specs.Forms.{recordOf, operandRead}
 use Rattle.parser.proofs.Names.{reg-not, register-as}
-use Rattle.parser.proofs.Paths.{renamed, bound, chosen, unchosen, failed-register, raised-same}
+use Rattle.expressions.specs.Paths.{renamed, bound, chosen, unchosen, raised-same}
+use Rattle.parser.proofs.Failures.{failed-register}
 use Rattle.parser.proofs.Rooms.{close-is, close-not}
 use Rattle.parser.proofs.Tails.{operand-told}
 use Rattle.parser.proofs.Holdings.{kept-none, nothing-told}

@@ -5,7 +5,7 @@ use native.Mathlib.Omega.{arith}
 use borrow.Author.Tests.{ne-eqb}
 use Rattle.names.specs.Kinds
 use Rattle.operand.specs.Operand.{parseRegisterOperand}
-use Rattle.parser.proofs.Paths.{seen, other, beyond}
+use Rattle.expressions.specs.Paths.{seen, other, beyond}
 use Rattle.parser.proofs.Operations.{direct-told}
 use borrow.Author.Needs.{needs}
 use Rattle.parser.proofs.operands.parse_register_operand.Statement.{statement}

@@ -3,8 +3,8 @@
 use mathlib.Core.Path.{sym, _∙_}
 use Rattle.operand.specs.Operand.{outerDisplaced}
 use Rattle.parser.specs.Brackets.{outerRead}
-use Rattle.parser.proofs.Paths.{answered, bound}
-use Rattle.parser.proofs.Inners.{displacement-is, displacement-not, held-some, outer-answered}
+use Rattle.expressions.specs.Paths.{held-as, answered, bound}
+use Rattle.parser.proofs.Inners.{displacement-is, displacement-not, outer-answered}
 use borrow.Author.Needs.{needs}
 use Rattle.parser.proofs.outer.outer_displaced.Statement.{statement}
 use Rattle.parser.proofs.outer.outer_displaced.Tie as tie
@@ -50,7 +50,7 @@ returns-2 c =
     let c-parse-sized-displacement = c .before .before .before .before .before .before .before .before .before .parse-sized-displacement in
     let c-displacement = c .before .before .displacement in
     let c-an-outer = c .an-outer in
-    record { told = bound (c-parse-sized-displacement .ensures .told) (displacement-is _ _ (sym (c-parse-sized-displacement .ensures .told .what) ∙ c-displacement .given .1) .is) (outer-answered _ _ _ (displacement-is _ _ (sym (c-parse-sized-displacement .ensures .told .what) ∙ c-displacement .given .1) .form) (c-an-outer .ensures .0) (c-an-outer .ensures .1) (held-some (c-parse-sized-displacement .ensures .told) (displacement-is _ _ (sym (c-parse-sized-displacement .ensures .told .what) ∙ c-displacement .given .1) .is))) }
+    record { told = bound (c-parse-sized-displacement .ensures .told) (displacement-is _ _ (sym (c-parse-sized-displacement .ensures .told .what) ∙ c-displacement .given .1) .is) (outer-answered _ _ _ (displacement-is _ _ (sym (c-parse-sized-displacement .ensures .told .what) ∙ c-displacement .given .1) .form) (c-an-outer .ensures .0) (c-an-outer .ensures .1) (held-as (c-parse-sized-displacement .ensures .told) (displacement-is _ _ (sym (c-parse-sized-displacement .ensures .told .what) ∙ c-displacement .given .1) .is))) }
 
 pub outer-displaced-spec : {M : Type 1} → statement M
 outer-displaced-spec =

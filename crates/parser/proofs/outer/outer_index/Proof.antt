@@ -4,7 +4,8 @@ use mathlib.Core.Path.{refl, sym, _∙_}
 use native.Mathlib.Omega.{arith}
 use Rattle.operand.specs.Operand.{outerIndexed}
 use Rattle.parser.specs.Brackets.{outerRead}
-use Rattle.parser.proofs.Paths.{answered, bound, failed-over}
+use Rattle.expressions.specs.Paths.{answered, bound}
+use Rattle.parser.proofs.Failures.{failed-over}
 use Rattle.parser.proofs.Rooms.{index-is, index-not, index-room}
 use Rattle.parser.proofs.Inners.{same-room, outer-from, outer-twice, outer-once}
 use borrow.Author.Needs.{needs}

@@ -8,7 +8,7 @@ use Rattle.operand.specs.Operands.{undisplaced}
 use Rattle.operand.specs.Operand.{parseOuter}
 use Rattle.operand.specs.Forms.{sizedOf}
 use Rattle.names.specs.Places.{live}
-use Rattle.parser.proofs.Paths.{miss, done}
+use Rattle.expressions.specs.Paths.{miss, done}
 use Rattle.parser.proofs.Inners.{node-step, stored-none, outer-answered, outer-hit, outer-index-here, outer-no-index}
 use borrow.Author.Needs.{needs}
 use Rattle.parser.proofs.outer.parse_outer.Statement.{statement}

@@ -8,7 +8,7 @@ use Rattle.names.specs.Kinds
 use Rattle.operand.specs.Operands.{displaced}
 use Rattle.operand.specs.Operand.{afterExpression, groupedOperand}
 use Rattle.names.specs.Places.{live}
-use Rattle.parser.proofs.Paths.{renamed, hit, miss, done, seen, other, beyond}
+use Rattle.expressions.specs.Paths.{renamed, hit, miss, done, seen, other, beyond}
 use Rattle.parser.proofs.Rooms.{room-step}
 use Rattle.parser.proofs.Tails.{kept-from}
 use Rattle.parser.proofs.Holdings.{tree-stored, stands-size, stands-from, tree-is, no-size}

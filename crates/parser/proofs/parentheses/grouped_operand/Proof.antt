@@ -7,7 +7,7 @@ use Rattle.names.specs.Kinds
 use Rattle.operand.specs.Operands.{displaced}
 use Rattle.operand.specs.Operand.{displacementTail}
 use Rattle.names.specs.Places.{live}
-use Rattle.parser.proofs.Paths.{hit, miss, done}
+use Rattle.expressions.specs.Paths.{hit, miss, done}
 use Rattle.parser.proofs.Rooms.{room-step}
 use Rattle.parser.proofs.Tails.{kept-from}
 use Rattle.parser.proofs.Holdings.{tree-stored, stands-size, tree-is, no-size}

@@ -3,7 +3,7 @@
 use mathlib.Core.Path.{_∙_}
 use native.Mathlib.Omega.{arith}
 use Rattle.operand.specs.Operand.{parenthesised, parenthesisedExpression}
-use Rattle.parser.proofs.Paths.{raised}
+use Rattle.expressions.specs.Paths.{raised}
 use Rattle.parser.proofs.Trees.{tree-read, absent-room}
 use Rattle.parser.proofs.Holdings.{nothing-stored, tree-stands, behind-tree, behind-reported, behind-absent}
 use borrow.Author.Needs.{needs}

@@ -7,7 +7,7 @@ use Rattle.names.specs.Kinds
 use Rattle.operand.specs.Operands.{displaced}
 use Rattle.operand.specs.Operand.{sizedBase, over}
 use Rattle.names.specs.Places.{live}
-use Rattle.parser.proofs.Paths.{hit, seen, other, beyond}
+use Rattle.expressions.specs.Paths.{hit, seen, other, beyond}
 use Rattle.parser.proofs.Rooms.{suffix-room, room-step}
 use Rattle.parser.proofs.Suffixes.{suffix-taken}
 use Rattle.parser.proofs.Holdings.{tree-is, kept-sized}

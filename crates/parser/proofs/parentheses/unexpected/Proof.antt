@@ -5,7 +5,7 @@ use native.Mathlib.Omega.{arith}
 use borrow.Author.Tests.{eq-eqb, ne-eqb}
 use Rattle.names.specs.Kinds
 use Rattle.operand.specs.Operand.{unexpected}
-use Rattle.parser.proofs.Paths.{raised, raised-as, raised-same, seen, other, beyond}
+use Rattle.expressions.specs.Paths.{raised, raised-as, raised-same, seen, other, beyond}
 use Rattle.parser.proofs.Holdings.{nothing-told}
 use borrow.Author.Needs.{needs}
 use Rattle.parser.proofs.parentheses.unexpected.Statement.{statement}

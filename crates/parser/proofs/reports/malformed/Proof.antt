@@ -1,6 +1,6 @@
 -- `parser::reports::malformed` meets its contract.
 -- Assumes nothing.
-use Rattle.parser.proofs.Paths.{raised-as}
+use Rattle.expressions.specs.Paths.{raised-as}
 use borrow.Author.Needs.{needs}
 use Rattle.parser.proofs.reports.malformed.Statement.{statement}
 use Rattle.parser.proofs.reports.malformed.Tie as tie

@@ -1,6 +1,6 @@
 -- `parser::reports::not_an_address_register` meets its contract.
 -- Assumes nothing.
-use Rattle.parser.proofs.Paths.{raised-as}
+use Rattle.expressions.specs.Paths.{raised-as}
 use borrow.Author.Needs.{needs}
 use Rattle.parser.proofs.reports.not_an_address_register.Statement.{statement}
 use Rattle.parser.proofs.reports.not_an_address_register.Tie as tie

@@ -4,9 +4,9 @@ use mathlib.Core.Path.{sym, _∙_, ap}
 use native.Mathlib.Omega.{arith}
 use Rattle.records.specs.Spans.{span, noSpan}
 use Rattle.records.specs.Diagnostics.{malformedOperand}
-use Rattle.parser.specs.Steps.{over, ended}
+use Rattle.expressions.specs.Told.{over, ended}
 use Rattle.names.specs.Places.{live}
-use Rattle.parser.proofs.Paths.{raised-at}
+use Rattle.expressions.specs.Paths.{raised-at}
 use borrow.Author.Needs.{needs}
 use Rattle.parser.proofs.reports.stepped_over.Statement.{statement}
 use Rattle.parser.proofs.reports.stepped_over.Tie as tie

@@ -1,6 +1,6 @@
 -- `parser::reports::unclosed` meets its contract.
 -- Assumes nothing.
-use Rattle.parser.proofs.Paths.{raised-as}
+use Rattle.expressions.specs.Paths.{raised-as}
 use borrow.Author.Needs.{needs}
 use Rattle.parser.proofs.reports.unclosed.Statement.{statement}
 use Rattle.parser.proofs.reports.unclosed.Tie as tie

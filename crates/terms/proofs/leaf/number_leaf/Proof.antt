@@ -77,7 +77,7 @@ returns-2 c =
     let c-plain = c .before .before .before .before .before .before .before .before .plain in
     let c-push-diagnostic = c .before .before .before .before .before .before .before .push-diagnostic in
     let c-read-leaf2 = c .before .before .read-leaf2 in
-    number-large _ _ _ _ _ (sym (c-parse-number .ensures ∙ ap (numberOf _) (c-text-of .ensures)) ∙ c-enum-told .given .1) refl (c-span-of .ensures) (c-plain .ensures) (record { next = refl; more = c-push-diagnostic .ensures }) (c-read-leaf2 .ensures)
+    number-large _ _ _ _ _ (sym (c-parse-number .ensures ∙ ap (numberOf _) (c-text-of .ensures)) ∙ c-enum-told .given .1) refl (c-span-of .ensures) (c-plain .ensures) (record { counters = refl; more = c-push-diagnostic .ensures }) (c-read-leaf2 .ensures)
 
 same-length-4 : tie.Need-same-length-4
 same-length-4 c = search needs

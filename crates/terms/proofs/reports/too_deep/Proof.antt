@@ -43,7 +43,7 @@ returns c =
     let c-span-of = c .before .before .before .before .span-of in
     let c-plain = c .before .before .before .plain in
     let c-report = c .before .before .report in
-    deep-token _ _ _ (sym (c-token-at .ensures) ∙ c-p .given .1) (c-span-of .ensures) (c-plain .ensures) (c-report .ensures)
+    deep-token (sym (c-token-at .ensures) ∙ c-p .given .1) (c-span-of .ensures) (c-plain .ensures) (c-report .ensures)
 
 same-length-2 : tie.Need-same-length-2
 same-length-2 c = search needs
@@ -54,7 +54,7 @@ returns-2 c =
     let c-enum-told = c .before .before .before .before .before .enum-told in
     let c-plain2 = c .before .before .before .plain2 in
     let c-report2 = c .before .before .report2 in
-    deep-past _ _ _ (sym (c-token-at .ensures) ∙ c-enum-told .given .1) (c-plain2 .ensures) (c-report2 .ensures)
+    deep-past (sym (c-token-at .ensures) ∙ c-enum-told .given .1) (c-plain2 .ensures) (c-report2 .ensures)
 
 pub too-deep-spec : {M : Type 1} → statement M
 too-deep-spec =

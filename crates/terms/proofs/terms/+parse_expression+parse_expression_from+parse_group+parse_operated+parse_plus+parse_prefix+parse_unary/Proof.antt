@@ -216,7 +216,7 @@ parse-expression-returns t c =
     let c-parse-prefix = c .before .before .before .before .before .before .before .before .before .before .before .before .before .before .before .before .before .parse-prefix in
     let c-w = c .before .before .before .before .before .before .before .before .before .before .w in
     let c-parse-expression-from = c .before .before .before .before .before .before .parse-expression-from in
-    expression-reads _ _ _ _ _ _ _ _ _ (omega (arith, c-pre)) (c-parse-prefix .ensures) (c-pre .1 .room .within) (c-pre .1 .room .few) (c-w .given .1) (c-parse-expression-from .ensures)
+    expression-reads _ (omega (arith, c-pre)) (c-parse-prefix .ensures) (c-pre .1 .room .within) (c-pre .1 .room .few) (c-w .given .1) (c-parse-expression-from .ensures)
 
 parse-expression-same-length-3 : (t : ℕ) → parse-expression-lts.Need-same-length-3 (parse-expression-claims t) (parse-expression-at t) parse-expression.Post
 parse-expression-same-length-3 t c = search needs
@@ -229,7 +229,7 @@ parse-expression-returns-2 t c =
     let c-pre = c .before .before .before .before .before .before .before .before .before .before .before .before .before .before .pre in
     let c-parse-prefix = c .before .before .before .before .before .before .before .parse-prefix in
     let c-enum-told = c .enum-told in
-    expression-reports _ _ _ _ _ _ _ _ _ (omega (arith, c-pre)) (c-parse-prefix .ensures) (c-pre .1 .room .within) (c-enum-told .given .1)
+    expression-reports _ (omega (arith, c-pre)) (c-parse-prefix .ensures) (c-pre .1 .room .within) (c-enum-told .given .1)
 
 parse-expression-same-length-5 : (t : ℕ) → parse-expression-lts.Need-same-length-5 (parse-expression-claims t) (parse-expression-at t) parse-expression.Post
 parse-expression-same-length-5 t c = search needs
@@ -242,7 +242,7 @@ parse-expression-returns-3 t c =
     let c-pre = c .before .before .before .before .before .before .before .before .before .before .before .before .before .before .pre in
     let c-parse-prefix = c .before .before .before .before .before .before .before .parse-prefix in
     let c-enum-told2 = c .enum-told2 in
-    expression-absents _ _ _ _ _ _ _ _ _ (omega (arith, c-pre)) (c-parse-prefix .ensures) (c-pre .1 .room .within) (c-enum-told2 .given .1)
+    expression-absents _ (omega (arith, c-pre)) (c-parse-prefix .ensures) (c-pre .1 .room .within) (c-enum-told2 .given .1)
 
 abbrev parse-expression-from-Inv-loop : parse-expression-from-lts.InvT-loop
 parse-expression-from-Inv-loop line tokens nodes₀ diagnostics₀ minimum room e₀ span₀ nodes diagnostics e span = Climbing line tokens nodes₀ diagnostics₀ nodes diagnostics e₀ span₀ minimum room e span
@@ -455,7 +455,7 @@ parse-group-returns t c =
     let c-parse-expression = c .before .before .before .before .before .before .before .before .before .before .before .before .before .before .parse-expression in
     let c-enum-told = c .before .before .before .before .before .before .before .enum-told in
     let c-close-group = c .before .before .before .before .close-group in
-    group-tells _ _ _ _ _ _ _ _ _ _ (omega (arith, c-pre)) (omega (arith, c-pre, c-parse-expression)) (c-parse-expression .ensures) (c-enum-told .given .1) (c-close-group .ensures)
+    group-tells _ _ (omega (arith, c-pre)) (omega (arith, c-pre, c-parse-expression)) (c-parse-expression .ensures) (c-enum-told .given .1) (c-close-group .ensures)
 
 parse-group-same-length-3 : (t : ℕ) → parse-group-lts.Need-same-length-3 (parse-group-claims t) (parse-group-at t) parse-group.Post
 parse-group-same-length-3 t c = search needs
@@ -468,7 +468,7 @@ parse-group-returns-2 t c =
     let c-pre = c .before .before .before .before .before .before .before .before .before .before .before .before .before .before .pre in
     let c-parse-expression = c .before .before .before .before .before .before .before .parse-expression in
     let c-enum-told2 = c .enum-told2 in
-    group-reports _ _ _ _ _ _ _ _ _ _ (omega (arith, c-pre)) (omega (arith, c-pre, c-parse-expression)) (c-parse-expression .ensures) (c-enum-told2 .given .1)
+    group-reports _ _ (omega (arith, c-pre)) (omega (arith, c-pre, c-parse-expression)) (c-parse-expression .ensures) (c-enum-told2 .given .1)
 
 parse-group-same-length-5 : (t : ℕ) → parse-group-lts.Need-same-length-5 (parse-group-claims t) (parse-group-at t) parse-group.Post
 parse-group-same-length-5 t c = search needs
@@ -483,7 +483,7 @@ parse-group-returns-3 t c =
     let c-enum-told3 = c .before .before .before .before .before .enum-told3 in
     let c-expected-after = c .before .before .before .expected-after in
     let c-report = c .before .before .report in
-    group-absents _ _ _ _ _ _ _ _ _ _ (omega (arith, c-pre)) (omega (arith, c-pre, c-parse-expression)) (c-parse-expression .ensures) (c-enum-told3 .given .1) (c-expected-after .ensures) (c-report .ensures)
+    group-absents _ _ (omega (arith, c-pre)) (omega (arith, c-pre, c-parse-expression)) (c-parse-expression .ensures) (c-enum-told3 .given .1) (c-expected-after .ensures) (c-report .ensures)
 
 parse-operated-step-over-requires : (t : ℕ) → parse-operated-lts.Need-step-over-requires (parse-operated-claims t) (parse-operated-at t) parse-operated.Post
 parse-operated-step-over-requires t c κs =
@@ -553,7 +553,7 @@ parse-operated-report-requires t c κs =
     let c-pre = c .before .before .before .before .before .before .before .before .before .before .before .before .before .before .before .before .before .pre in
     let c-parse-prefix = c .before .before .before .before .before .before .before .before .before .parse-prefix in
     let c-enum-told2 = c .before .before .enum-told2 in
-    omega (arith, ap (λ z. z .at) (c-step-over .ensures), ap (λ z. z .nodes) (c-step-over .ensures), ap (λ z. z .diagnostics) (c-step-over .ensures), live _ _ _ (c-pre .1 .1), c-pre .0, c-pre .1 .0, c-parse-prefix, absent-quiet _ _ _ _ _ _ _ _ _ (c-parse-prefix .ensures) (c-enum-told2 .given .1))
+    omega (arith, ap (λ z. z .at) (c-step-over .ensures), ap (λ z. z .nodes) (c-step-over .ensures), ap (λ z. z .diagnostics) (c-step-over .ensures), live _ _ _ (c-pre .1 .1), c-pre .0, c-pre .1 .0, c-parse-prefix, absent-quiet _ (c-parse-prefix .ensures) (c-enum-told2 .given .1))
 
 parse-operated-same-length : (t : ℕ) → parse-operated-lts.Need-same-length (parse-operated-claims t) (parse-operated-at t) parse-operated.Post
 parse-operated-same-length t c =
@@ -667,7 +667,7 @@ parse-plus-returns t c =
     let c-span-of = c .before .before .before .before .before .before .before .before .before .span-of in
     let c-plain = c .before .before .before .before .plain in
     let c-report = c .before .before .before .report in
-    plus-reads _ _ _ _ _ _ _ _ _ (omega (arith, c-pre)) (c-parse-prefix .ensures) _ (c-w .given .1) (c-span-of .ensures) (c-plain .ensures) (c-report .ensures)
+    plus-reads _ (omega (arith, c-pre)) (c-parse-prefix .ensures) _ (c-w .given .1) (c-span-of .ensures) (c-plain .ensures) (c-report .ensures)
 
 parse-plus-same-length-3 : (t : ℕ) → parse-plus-lts.Need-same-length-3 (parse-plus-claims t) (parse-plus-at t) parse-plus.Post
 parse-plus-same-length-3 t c = search needs
@@ -683,7 +683,7 @@ parse-plus-returns-2 t c =
     let c-span-of = c .before .before .before .before .before .before .before .span-of in
     let c-plain2 = c .before .before .before .plain2 in
     let c-report2 = c .before .before .report2 in
-    plus-reports _ _ _ _ _ _ _ _ _ (omega (arith, c-pre)) (c-parse-prefix .ensures) _ (c-enum-told .given .1) (c-span-of .ensures) (c-plain2 .ensures) (c-report2 .ensures)
+    plus-reports _ (omega (arith, c-pre)) (c-parse-prefix .ensures) _ (c-enum-told .given .1) (c-span-of .ensures) (c-plain2 .ensures) (c-report2 .ensures)
 
 parse-plus-same-length-5 : (t : ℕ) → parse-plus-lts.Need-same-length-5 (parse-plus-claims t) (parse-plus-at t) parse-plus.Post
 parse-plus-same-length-5 t c = search needs
@@ -699,7 +699,7 @@ parse-plus-returns-3 t c =
     let c-span-of = c .before .before .before .before .before .before .before .span-of in
     let c-plain3 = c .before .before .before .plain3 in
     let c-report3 = c .before .before .report3 in
-    plus-absents _ _ _ _ _ _ _ _ _ (omega (arith, c-pre)) (c-parse-prefix .ensures) _ (c-enum-told2 .given .1) (c-span-of .ensures) (c-plain3 .ensures) (c-report3 .ensures)
+    plus-absents _ (omega (arith, c-pre)) (c-parse-prefix .ensures) _ (c-enum-told2 .given .1) (c-span-of .ensures) (c-plain3 .ensures) (c-report3 .ensures)
 
 parse-prefix-too-deep-requires : (t : ℕ) → parse-prefix-lts.Need-too-deep-requires (parse-prefix-claims t) (parse-prefix-at t) parse-prefix.Post
 parse-prefix-too-deep-requires t c κs =
@@ -902,7 +902,7 @@ parse-unary-returns t c =
     let c-w = c .before .before .before .before .before .before .before .w in
     let c-unary-operator = c .before .before .before .before .before .unary-operator in
     let c-put-operator = c .before .before .put-operator in
-    unary-reads _ _ _ _ _ _ _ _ _ (omega (arith, c-pre)) (c-parse-prefix .ensures) _ (c-w .given .1) (c-unary-operator .ensures) (c-put-operator .ensures)
+    unary-reads _ (omega (arith, c-pre)) (c-parse-prefix .ensures) _ (c-w .given .1) (c-unary-operator .ensures) (c-put-operator .ensures)
 
 parse-unary-same-length-3 : (t : ℕ) → parse-unary-lts.Need-same-length-3 (parse-unary-claims t) (parse-unary-at t) parse-unary.Post
 parse-unary-same-length-3 t c = search needs
@@ -915,7 +915,7 @@ parse-unary-returns-2 t c =
     let c-pre = c .before .before .before .before .before .before .before .before .before .before .before .before .before .before .pre in
     let c-parse-prefix = c .before .before .before .before .before .before .before .parse-prefix in
     let c-enum-told = c .enum-told in
-    unary-reports _ _ _ _ _ _ _ _ _ (omega (arith, c-pre)) (c-parse-prefix .ensures) _ (c-enum-told .given .1)
+    unary-reports _ (omega (arith, c-pre)) (c-parse-prefix .ensures) _ (c-enum-told .given .1)
 
 parse-unary-same-length-5 : (t : ℕ) → parse-unary-lts.Need-same-length-5 (parse-unary-claims t) (parse-unary-at t) parse-unary.Post
 parse-unary-same-length-5 t c = search needs
@@ -930,7 +930,7 @@ parse-unary-returns-3 t c =
     let c-enum-told2 = c .before .before .before .before .before .enum-told2 in
     let c-expected-after = c .before .before .before .expected-after in
     let c-report = c .before .before .report in
-    unary-absents _ _ _ _ _ _ _ _ _ (omega (arith, c-pre)) (c-parse-prefix .ensures) _ (c-enum-told2 .given .1) (c-expected-after .ensures) (c-report .ensures)
+    unary-absents _ (omega (arith, c-pre)) (c-parse-prefix .ensures) _ (c-enum-told2 .given .1) (c-expected-after .ensures) (c-report .ensures)
 
 pub +parse-expression+parse-expression-from+parse-group+parse-operated+parse-plus+parse-prefix+parse-unary-spec :
     {M : Type 1} → statement M

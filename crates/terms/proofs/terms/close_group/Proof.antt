@@ -3,7 +3,11 @@
 use mathlib.Core.Path.{refl, sym, _∙_, ap}
 use native.Mathlib.Omega.{arith}
 use Rattle.terms.specs.Terms.{closed, unclosed}
-use Rattle.terms.proofs.Groups.{another-kind, no-token}
+use borrow.Author.Tests.{ne-eqb}
+use Rattle.names.specs.Kinds
+use Rattle.names.specs.Places.{there, nowhere}
+use Rattle.expressions.specs.Reader.{is}
+use Rattle.expressions.specs.Paths.{fails, fails-end}
 use borrow.Author.Needs.{needs}
 use Rattle.terms.proofs.terms.close_group.Statement.{statement}
 use Rattle.terms.proofs.terms.close_group.Tie as tie
@@ -56,7 +60,7 @@ returns-2 c =
     let c-p = c .before .before .before .before .before .before .before .p in
     let c-if1 = c .before .before .before .before .if1 in
     let c-unclosed = c .before .before .unclosed in
-    unclosed (another-kind (sym (c-token-at .ensures) ∙ c-p .given .1) (c-if1 .left)) refl (c-unclosed .ensures)
+    unclosed (λ L. fails (is Kinds.rightParen) _ _ _ (there L _ _ _ (sym (c-token-at .ensures) ∙ c-p .given .1)) (ne-eqb _ _ (c-if1 .left))) refl (c-unclosed .ensures)
 
 same-length-3 : tie.Need-same-length-3
 same-length-3 c = search needs
@@ -66,7 +70,7 @@ returns-3 c =
     let c-token-at = c .before .before .before .before .before .before .token-at in
     let c-enum-told = c .before .before .before .before .enum-told in
     let c-unclosed2 = c .before .before .unclosed2 in
-    unclosed (no-token (sym (c-token-at .ensures) ∙ c-enum-told .given .1)) refl (c-unclosed2 .ensures)
+    unclosed (λ L. fails-end (is Kinds.rightParen) _ (nowhere L _ _ (sym (c-token-at .ensures) ∙ c-enum-told .given .1))) refl (c-unclosed2 .ensures)
 
 pub close-group-spec : {M : Type 1} → statement M
 close-group-spec =

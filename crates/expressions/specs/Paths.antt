@@ -1,37 +1,31 @@
 -- A path through a reader, a step at a time: from what the rest of it tells, what the whole tells.
 -- Assumes nothing.
-use mathlib.Core.Path.{_≡_, refl, sym, _∙_, ap, subst}
+use mathlib.Core.Path.{_≡_, refl, sym, _∙_, ap, ap₂, subst}
 use mathlib.Core.Bool.{Bool, true, false}
-use mathlib.Core.List.{List, [], _∷_, _++_}
-use Prim.Native.Nat.{ℕ, _+_, _*_, _<_, _≤_}
-use native.Mathlib.Nat.{add-zero}
+use mathlib.Core.List.{List}
+use Prim.Native.Nat.{ℕ, _+_}
 use native.Mathlib.Omega.{arith}
 use lib.ListN.{length, length-append}
-use Rattle.names.specs.Tokens.{count, tokenAt}
+use Rattle.names.specs.Tokens.{tokenAt}
 use Rattle.names.specs.Places.{Place, nothing, stands, textOf, place, there, nowhere}
 use Rattle.names.specs.declared.tokens.Token.{Token}
 use Rattle.names.specs.declared.tokens.Peeked.the-variants as peeked
 use Rattle.records.specs.declared.diagnostics.Diagnostic.{Diagnostic}
 use Rattle.records.specs.declared.counters.Counters.{Counters}
-use Rattle.records.specs.Diagnostics.{diagnosticRecord, malformedOperand, malformedOpen}
-use Rattle.expressions.specs.Laws.{holds, met-one, met-yes, met-no}
-use Rattle.expressions.specs.Reader.{Test, Reading, reading, after, Reader, answer, here, raise, bump, peek, _>>=_, choose, run}
-use Rattle.records.specs.Stores.{written, added}
+use Rattle.records.specs.Stores.{added}
 use Rattle.records.specs.Written.{added-append}
 use Rattle.records.specs.Counting.{stepped}
-use Rattle.records.specs.Spans.{span, spanOf, noSpan}
-use Rattle.parser.specs.Steps.{Raised, RaisedOver, over, ended, Told, Same}
-use Rattle.expressions.specs.declared.reading.Setting.{Setting}
-use Rattle.operand.specs.Operands.{Maybe, some, none}
-use Rattle.operand.specs.Operand.{malformed, unclosed, notAnAddressRegister, steppedOver}
+use Rattle.expressions.specs.Laws.{holds, met-yes, met-no}
+use Rattle.expressions.specs.Reader.{Test, Reading, Reader, answer, here, raise, bump, peek, _>>=_, choose, run}
+use Rattle.expressions.specs.Told.{Raised, RaisedOver, over, ended, Told, Same}
 
 -- ---- a test that fails
 
-fails : (t : Test) (p : Place) (k : Token) (x : List ℕ) → p ≡ stands k x → t k x ≡ false → holds t p ≡ false
+pub fails : (t : Test) (p : Place) (k : Token) (x : List ℕ) → p ≡ stands k x → t k x ≡ false → holds t p ≡ false
 unfolding holds
 fails t p k x h q = rw h q
 
-fails-end : (t : Test) (p : Place) → p ≡ nothing → holds t p ≡ false
+pub fails-end : (t : Test) (p : Place) → p ≡ nothing → holds t p ≡ false
 unfolding holds
 fails-end t p h = rw h
 
@@ -63,13 +57,23 @@ retold {A} {f = f} {Q = Q} {p = p} {L = L} {T = T} {D = D} {c = c} {c₁ = c₁}
 pub renamed : {A E : Type 0} {f : A → E} {Q : A → Counters → Type 0} {p q : Reader A} {L T D D′ : List ℕ} {c : Counters} {v : E} {r : Counters} → q ≡ p → Told f Q q L T D D′ c v r → Told f Q p L T D D′ c v r
 renamed {f = f} {Q = Q} {L = L} {T = T} {D = D} {D′ = D′} {c = c} {v = v} {r = r} e h = subst (λ z. Told f Q z L T D D′ c v r) e h
 
--- what else holds of the answer, in other words
-pub reheld : {A E : Type 0} {f : A → E} {Q R : A → Counters → Type 0} {p : Reader A} {L T D D′ : List ℕ} {c : Counters} {v : E} {r : Counters} → ((a : A) → Q a r → R a r) → Told f Q p L T D D′ c v r → Told f R p L T D D′ c v r
-reheld g h = record { what = h .what; at = h .at; end = h .end; seen = h .seen; more = h .more; held = g _ (h .held) }
+-- what else holds of the answer a
+pub held-as : {A E : Type 0} {f : A → E} {Q : A → Counters → Type 0} {p : Reader A} {L T D D′ : List ℕ} {c : Counters} {v : E} {r : Counters} {a : A} → Told f Q p L T D D′ c v r → run p (place L T) (c .at) (c .end) .value ≡ a → Q a r
+held-as {Q = Q} {r = r} h e = subst (λ z. Q z r) e (h .held)
+
+-- in other words
+pub reheld : {A E : Type 0} {f : A → E} {Q R : A → Counters → Type 0} {p : Reader A} {L T D D′ : List ℕ} {c : Counters} {v : E} {r : Counters}
+    → (Q (run p (place L T) (c .at) (c .end) .value) r → R (run p (place L T) (c .at) (c .end) .value) r) → Told f Q p L T D D′ c v r → Told f R p L T D D′ c v r
+reheld g h = record { what = h .what; at = h .at; end = h .end; seen = h .seen; more = h .more; held = g (h .held) }
+
+-- from counters that count other nodes
+pub counted : {A E : Type 0} {f : A → E} {Q : A → Counters → Type 0} {p : Reader A} {L T D D′ : List ℕ} {c c₁ : Counters} {v : E} {r : Counters}
+    → c₁ .at ≡ c .at → c₁ .end ≡ c .end → c₁ .diagnostics ≡ c .diagnostics → Told f Q p L T D D′ c₁ v r → Told f Q p L T D D′ c v r
+counted {p = p} {L = L} {T = T} a e d h = retold (ap₂ (run p (place L T)) (sym a) (sym e)) d h
 
 -- from counters that count as many nodes
 pub same : {A E : Type 0} {f : A → E} {p : Reader A} {L T D D′ : List ℕ} {n m : ℕ} {c : Counters} {v : E} {r : Counters} → m ≡ n → Told f (Same m) p L T D D′ c v r → Told f (Same n) p L T D D′ c v r
-same e h = reheld (λ a q. q ∙ e) h
+same e h = reheld (λ q. q ∙ e) h
 
 -- the answer
 pub answered : {A E : Type 0} {f : A → E} {Q : A → Counters → Type 0} {L T D : List ℕ} {c : Counters} {a : A} {v : E} {r : Counters} → v ≡ f a → r ≡ c → Q a c → Told f Q (answer a) L T D D c v r
@@ -200,35 +204,9 @@ pub unchosen : {A E : Type 0} {f : A → E} {Q : A → Counters → Type 0} {L T
 unchosen true p e h = let z : _≡_ {A = ℕ} 0 1 = cc in absurd (omega arith)
 unchosen false p e h = h
 
--- ---- a reader that fails
+-- ---- no node is written
 
--- a diagnostic, and no answer
-pub failed : {A E : Type 0} {f : Maybe A → E} {Q : Maybe A → Counters → Type 0} {L T D D′ : List ℕ} {x : Diagnostic} {c m : Counters} {v : E} {r : Counters}
-    → Raised D D′ c x m → v ≡ f none → r ≡ m → Q none m → Told f Q (raise x (answer none)) L T D D′ c v r
-failed h w e q = raised h (answered w e q)
-
-pub failed-malformed : {A E : Type 0} {f : Maybe A → E} {Q : Maybe A → Counters → Type 0} (s : Setting) (shape problem : ℕ) {L T D D′ : List ℕ} {c m : Counters} {v : E} {r : Counters}
-    → Raised D D′ c (malformedOperand shape problem (span (s .start) (c .end)) noSpan) m → v ≡ f none → r ≡ m → Q none m → Told f Q (malformed s shape problem) L T D D′ c v r
-unfolding malformed
-failed-malformed s shape problem h w e q = hereby (failed h w e q)
-
-pub failed-unclosed : {A E : Type 0} {f : Maybe A → E} {Q : Maybe A → Counters → Type 0} (s : Setting) (k : Token) (shape problem : ℕ) {L T D D′ : List ℕ} {c m : Counters} {v : E} {r : Counters}
-    → Raised D D′ c (malformedOpen shape problem (span (s .start) (c .end)) (spanOf k)) m → v ≡ f none → r ≡ m → Q none m → Told f Q (unclosed s k shape problem) L T D D′ c v r
-unfolding unclosed
-failed-unclosed s k shape problem h w e q = hereby (failed h w e q)
-
-pub failed-register : {A E : Type 0} {f : Maybe A → E} {Q : Maybe A → Counters → Type 0} (s : Setting) (shape : ℕ) (k : Token) {L T D D′ : List ℕ} {c m : Counters} {v : E} {r : Counters}
-    → Raised D D′ c (malformedOperand shape 2 (span (s .start) (c .end)) (spanOf k)) m → v ≡ f none → r ≡ m → Q none m → Told f Q (notAnAddressRegister s shape k) L T D D′ c v r
-unfolding notAnAddressRegister
-failed-register s shape k h w e q = hereby (failed h w e q)
-
-pub failed-over : {A E : Type 0} {f : Maybe A → E} {Q : Maybe A → Counters → Type 0} (s : Setting) (shape problem : ℕ) {L T D D′ : List ℕ} {c m : Counters} {v : E} {r : Counters}
-    → RaisedOver T D D′ c (λ l. malformedOperand shape problem (span (s .start) l) noSpan) m → v ≡ f none → r ≡ m → Q none m → Told f Q (steppedOver s shape problem) L T D D′ c v r
-unfolding steppedOver
-failed-over s shape problem (over t e h) w u q = hit e refl refl (failed-malformed s shape problem h w u q)
-failed-over s shape problem (ended e h) w u q = done e (failed-malformed s shape problem h w u q)
-
--- a failed reader has written no node
+-- a diagnostic writes none
 pub raised-same : {D D′ : List ℕ} {c : Counters} {x : Diagnostic} {r : Counters} → Raised D D′ c x r → r .nodes ≡ c .nodes
 raised-same h = ap (λ z. z .nodes) (h .counters)
 
