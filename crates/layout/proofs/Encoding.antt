@@ -1,13 +1,13 @@
 -- Records written one behind the other, and low bytes.
 -- Assumes nothing.
 use mathlib.Core.Path.{_≡_, refl, sym, _∙_, ap, ap₂}
-use mathlib.Core.List.{List, [], _∷_, _++_}
+use mathlib.Core.List.{List, [], _∷_, _++_, append-assoc}
 use Prim.Native.Nat.{ℕ, zero, suc, _+_, _-_, _*_, _≤_, _<_}
 use native.Mathlib.Omega.{arith}
 use native.Mathlib.Numerals.{add-one}
 use borrow.Author.Tests.{le-leb, lt-leb}
-use lib.ListN.{length, take, drop, getD, replicate, length-append, length-take, length-drop, length-replicate}
-use lib.Seq.{length-take-le}
+use lib.ListN.{length, take, drop, getD, replicate, length-append, length-take, length-drop, length-replicate, replicate-append-replicate}
+use lib.Seq.{length-take-le, drop-at}
 use Rattle.records.specs.Stores.{written, cleared}
 use Rattle.records.specs.Written.{written-fits, written-take, written-past, written-more, written-not, length-written, cleared-fits}
 use Rattle.operand.specs.Layout.{low, lastEight, nodeFrom, nodeBytes, lows}
@@ -56,20 +56,27 @@ module _ (M N : List ℕ) where
   pub nodes-long : (N₁ : List ℕ) (i : ℕ) → 14 * i ≤ length N → N₁ ≡ written N 0 (nodeBytes M i) → length N₁ ≡ length N
   nodes-long N₁ i h e = ap length e ∙ length-written N 0 (nodeBytes M i) (omega (arith, length-node-bytes M i))
 
-  -- zeros behind them
-  pub nodes-all : (N₁ N₂ : List ℕ) (n i : ℕ) → i ≡ n → 14 * n ≤ nodeStore → 10 * n ≤ length M → nodeStore ≤ length N → N₁ ≡ written N 0 (nodeBytes M i)
-      → N₂ ≡ cleared N₁ (14 * n) 3570 → N₂ ≡ nodesEncoded M n N
+  -- over zeros
+  pub nodes-all : (N₁ N₂ : List ℕ) (n i : ℕ) → i ≡ n → 14 * n ≤ nodeStore → 10 * n ≤ length M → nodeStore ≤ length N → N₁ ≡ cleared N 0 3570
+      → N₂ ≡ written N₁ 0 (nodeBytes M i) → N₂ ≡ nodesEncoded M n N
   unfolding nodesEncoded
   nodes-all N₁ N₂ n i same few room h e f =
       let B : List ℕ = nodeBytes M n in
+      let K : List ℕ = replicate (14 * n) 0 in
       let Z : List ℕ = replicate (nodeStore - 14 * n) 0 in
       let l = length-node-bytes M n in
-      let b : 0 + length B ≤ length N = omega arith in
-      let k : 14 * n ≡ 0 + length B = omega arith in
+      let k : 0 + length B ≡ 14 * n = omega arith in
+      let s : nodeStore - 0 ≡ 14 * n + (nodeStore - 14 * n) = omega arith in
       let z : 0 + length (B ++ Z) ≡ nodeStore = simp (length-append, length-replicate) (omega arith) in
-      f ∙ ap₂ (λ x m. cleared x (14 * n) m) (e ∙ ap (λ j. written N 0 (nodeBytes M j)) same) (sym node-store)
-      ∙ cleared-fits (written N 0 B) (14 * n) nodeStore few (omega (arith, length-written N 0 B b))
-      ∙ ap₂ (λ x y. (x ++ Z) ++ y) (ap (λ j. take j (written N 0 B)) k ∙ written-take N 0 B b) (written-past N 0 B nodeStore b (omega arith))
+      let c : N₁ ≡ K ++ (Z ++ drop nodeStore N) =
+      e ∙ ap (cleared N 0) (sym node-store) ∙ cleared-fits N 0 nodeStore (omega arith) h
+      ∙ ap (λ x. x ++ drop nodeStore N) (ap (λ j. replicate j 0) s ∙ sym (replicate-append-replicate (14 * n) (nodeStore - 14 * n) 0))
+      ∙ append-assoc K Z (drop nodeStore N) in
+      let long : length N₁ ≡ length N = cleared-long N N₁ 0 3570 (omega arith) (omega (arith, node-store)) e in
+      f ∙ ap (λ j. written N₁ 0 (nodeBytes M j)) same
+      ∙ written-fits N₁ 0 B (omega arith)
+      ∙ ap (λ x. B ++ x) (ap (λ j. drop j N₁) k ∙ ap (drop (14 * n)) c ∙ drop-at K (Z ++ drop nodeStore N) (14 * n) (length-replicate (14 * n) 0))
+      ∙ sym (append-assoc B Z (drop nodeStore N))
       ∙ ap (λ j. (B ++ Z) ++ drop j N) (sym z)
       ∙ sym (written-fits N 0 (B ++ Z) (omega (arith, z)))
       ∙ sym (rw (le-leb (14 * n) nodeStore few, le-leb (10 * n) (length M) room))

@@ -66,7 +66,7 @@ fn encode_node(numbers: &[u16], from: usize, nodes: &mut [u8], at: usize)
     write(nodes, at + 6, &rest);
 }
 
-// Writes the first n records into the node store, and zeros behind them.
+// Writes the first n records into the node store, and zeros behind them. All of it is cleared first: from its beginning on that is faster.
 pub fn encode_nodes(numbers: &[u16], n: usize, nodes: &mut [u8])
     ensures { λ _. ⌜ now (nodes .exit) ≡ nodesEncoded (now (numbers .entry)) n (now (nodes .entry)) ⌝ }
 {
@@ -79,10 +79,10 @@ pub fn encode_nodes(numbers: &[u16], n: usize, nodes: &mut [u8])
     if nodes.len() < STORE {
         return;
     }
+    clear(nodes, 0, STORE);
     let mut i = 0;
     while i < n {
         encode_node(numbers, 10 * i, nodes, 14 * i);
         i += 1;
     }
-    clear(nodes, 14 * n, STORE);
 }

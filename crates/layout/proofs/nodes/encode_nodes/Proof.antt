@@ -1,4 +1,4 @@
--- `layout::nodes::encode_nodes` meets its contract. The loop's invariant: the first i records are written.
+-- `layout::nodes::encode_nodes` meets its contract. The loop's invariant: the first i records are written over the zeros.
 -- Assumes nothing.
 use mathlib.Core.Path.{_≡_, refl, _∙_, ap}
 use Prim.Native.Nat.{_≤_, _-_, _*_}
@@ -32,10 +32,11 @@ returns-3 c =
     let c-args = c .before .before .before .before .before .args in
     nodes-short (c-args .numbers .now) (c-args .nodes .now) (c-args .n) (omega (arith, node-store)) (omega arith) (omega (arith, node-store))
 
+clear-requires : tie.Need-clear-requires Inv-loop μ-loop
+clear-requires c κs = (omega arith, omega arith)
+
 loop-holds : tie.Need-loop-holds Inv-loop μ-loop
-loop-holds c =
-    let c-args = c .before .before .before .before .before .args in
-    (omega arith, nodes-none (c-args .numbers .now) (c-args .nodes .now))
+loop-holds c = (omega arith, nodes-none _ _)
 
 mul-encode-node : tie.Need-mul-encode-node Inv-loop μ-loop
 mul-encode-node c = omega arith
@@ -45,9 +46,9 @@ mul-encode-node-2 c = omega arith
 
 encode-node-requires : tie.Need-encode-node-requires Inv-loop μ-loop
 encode-node-requires c κs =
-    let c-args = c .before .before .before .before .before .before .before .before .args in
     let c-loop = c .before .before .loop in
-    (omega arith, omega (arith, nodes-long (c-args .numbers .now) (c-args .nodes .now) _ (c-loop .i) (omega arith) (c-loop .inv .1)))
+    let c-clear = c .before .before .before .before .before .clear in
+    (omega arith, omega (arith, nodes-long _ _ _ (c-loop .i) (omega (arith, cleared-long _ _ _ _ (omega arith) (omega arith) (c-clear .ensures))) (c-loop .inv .1) ∙ cleared-long _ _ _ _ (omega arith) (omega arith) (c-clear .ensures)))
 
 add-i : tie.Need-add-i Inv-loop μ-loop
 add-i c = omega arith
@@ -57,33 +58,23 @@ loop-less c = omega arith
 
 loop-again : tie.Need-loop-again Inv-loop μ-loop
 loop-again c =
-    let c-args = c .before .before .before .before .before .before .before .before .before .before .before .args in
     let c-loop = c .before .before .before .before .before .loop in
+    let c-clear = c .before .before .before .before .before .before .before .before .clear in
     let c-encode-node = c .before .before .encode-node in
-    (omega arith, nodes-on (c-args .numbers .now) (c-args .nodes .now) _ _ (c-loop .i) (omega arith) (c-loop .inv .1) (c-encode-node .ensures))
-
-mul-clear : tie.Need-mul-clear Inv-loop μ-loop
-mul-clear c = omega arith
-
-clear-requires : tie.Need-clear-requires Inv-loop μ-loop
-clear-requires c κs =
-    let c-args = c .before .before .before .before .before .before .before .before .args in
-    let c-loop = c .before .before .loop in
-    (omega arith, omega (arith, nodes-long (c-args .numbers .now) (c-args .nodes .now) _ (c-loop .i) (omega arith) (c-loop .inv .1)))
+    (omega arith, nodes-on _ _ _ _ (c-loop .i) (omega (arith, cleared-long _ _ _ _ (omega arith) (omega arith) (c-clear .ensures))) (c-loop .inv .1) (c-encode-node .ensures))
 
 same-length : tie.Need-same-length Inv-loop μ-loop
 same-length c =
-    let c-args = c .before .before .before .before .before .before .before .before .before .before .before .args in
-    let c-loop = c .before .before .before .before .before .loop in
-    let c-clear = c .before .before .clear in
-    cleared-long _ _ (14 * c-args .n) 3570 (omega arith) (omega (arith, nodes-long (c-args .numbers .now) (c-args .nodes .now) _ (c-loop .i) (omega arith) (c-loop .inv .1))) (c-clear .ensures) ∙ nodes-long (c-args .numbers .now) (c-args .nodes .now) _ (c-loop .i) (omega arith) (c-loop .inv .1)
+    let c-loop = c .before .loop in
+    let c-clear = c .before .before .before .before .clear in
+    nodes-long _ _ _ (c-loop .i) (omega (arith, cleared-long _ _ _ _ (omega arith) (omega arith) (c-clear .ensures))) (c-loop .inv .1) ∙ cleared-long _ _ _ _ (omega arith) (omega arith) (c-clear .ensures)
 
 returns-4 : tie.Need-returns-4 Inv-loop μ-loop
 returns-4 c =
     let c-args = c .before .before .before .before .before .before .before .before .before .before .before .args in
-    let c-loop = c .before .before .before .before .before .loop in
-    let c-clear = c .before .before .clear in
-    nodes-all (c-args .numbers .now) (c-args .nodes .now) _ _ (c-args .n) (c-loop .i) (omega arith) (omega (arith, node-store)) (omega arith) (omega (arith, node-store)) (c-loop .inv .1) (c-clear .ensures)
+    let c-loop = c .before .loop in
+    let c-clear = c .before .before .before .before .clear in
+    nodes-all (c-args .numbers .now) (c-args .nodes .now) _ _ (c-args .n) (c-loop .i) (omega arith) (omega (arith, node-store)) (omega arith) (omega (arith, node-store)) (c-clear .ensures) (c-loop .inv .1)
 
 pub encode-nodes-spec : {M : Type 1} → statement M
 encode-nodes-spec =
@@ -94,6 +85,7 @@ encode-nodes-spec =
     returns
     returns-2
     returns-3
+    clear-requires
     loop-holds
     mul-encode-node
     mul-encode-node-2
@@ -101,7 +93,5 @@ encode-nodes-spec =
     add-i
     loop-less
     loop-again
-    mul-clear
-    clear-requires
     same-length
     returns-4)
