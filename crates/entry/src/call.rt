@@ -16,7 +16,7 @@ ghost use Rattle.layout.specs.Promise.{EntryPromise};
 ghost use Rattle.entry.specs.Inner.{ListAsks, StoresAsk, AnswerTold};
 
 // How many terms may be open in each other.
-const NESTING: usize = 64;
+const NESTING: u16 = 64;
 // The numbers of the refusals of a token and of a start.
 const BAD_TOKEN: u8 = 4;
 

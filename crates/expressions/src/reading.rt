@@ -1,6 +1,7 @@
-// What never changes during a reading: how many terms may be open in each other, the symbol mark, and the offset where the operand's first token starts.
+// What never changes during a reading: the symbol mark, how many terms may be open in each other, and the offset where the operand's
+// first token starts. The three are one machine word, which travels in a register.
 pub struct Setting {
-    pub limit: usize,
-    pub mark: usize,
+    pub mark: u32,
+    pub limit: u16,
     pub start: u16,
 }

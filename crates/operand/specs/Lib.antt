@@ -10,6 +10,7 @@ pub mod Listed
 pub mod Costs
 pub mod Readings
 pub mod Fuel
+pub mod Marks
 pub mod Conditions
 pub mod Offsets
 pub mod Numbering

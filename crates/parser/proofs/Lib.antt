@@ -14,3 +14,4 @@ pub mod Inners
 pub mod Holdings
 pub mod Operations
 pub mod Cleared
+pub mod Marked

@@ -79,7 +79,7 @@ pub(crate) fn program_counter_at(line: &[u8], token: Token) -> bool
 pub(crate) fn suppressed_register_at(line: &[u8], token: Token, i: usize, s: Setting) -> Suppressed
     ensures { λ r. ⌜ r ≡ suppressedAt s i token (textOf (now (line .entry)) (token .start) (token .end)) ⌝ }
 {
-    if s.mark == i {
+    if s.mark as usize == i {
         return Suppressed::Not;
     }
     if token.kind != kinds::IDENTIFIER {

@@ -13,7 +13,7 @@ ghost use Rattle.names.specs.Tokens.{tokenAt};
 ghost use Rattle.names.specs.Places.{place};
 ghost use Rattle.names.specs.declared.tokens.Peeked.the-variants as peeked;
 ghost use Rattle.operand.specs.Operand.{readingOf};
-ghost use Prim.Native.Nat.{_≤_};
+ghost use Prim.Native.Nat.{_≤_, min};
 ghost use Rattle.parser.specs.Reading.{OperandAsks, OperandFits, NothingTold, OperandPromise};
 
 // What is read, or unfit where the counts leave no room for a reading.
@@ -31,7 +31,7 @@ pub fn operand_at(
     diagnostics: &mut [u16],
     start: usize,
     mark: usize,
-    limit: usize,
+    limit: u16,
 ) -> OperandAnswer
     ensures { λ r. ⌜ OperandPromise (now (line .entry)) (now (tokens .entry)) (now (nodes .entry)) (now (diagnostics .entry)) (now (nodes .exit)) (now (diagnostics .exit)) start mark limit r ⌝ }
 {
@@ -51,10 +51,21 @@ pub fn operand_at(
     let p = names::token_at(tokens, start);
     match p {
         Peeked::Is(t) => {
-            OperandAnswer::Is(read(line, tokens, nodes, diagnostics, start, mark, limit, t))
+            let near = mark_within(mark);
+            OperandAnswer::Is(read(line, tokens, nodes, diagnostics, start, near, limit, t))
         }
         Peeked::End => OperandAnswer::Is(nothing(nodes, first(start))),
     }
+}
+
+// The mark, or one past every list: these are read alike.
+fn mark_within(mark: usize) -> u32
+    ensures { λ r. ⌜ r ≡ min mark 1023 ⌝ }
+{
+    if mark < MOST_TOKENS {
+        return mark as u32;
+    }
+    MOST_TOKENS as u32
 }
 
 // The operand whose first token is `token`.
@@ -64,8 +75,8 @@ fn read(
     nodes: &mut [u16],
     diagnostics: &mut [u16],
     start: usize,
-    mark: usize,
-    limit: usize,
+    mark: u32,
+    limit: u16,
     token: Token,
 ) -> OperandStep
     requires { ⌜ OperandAsks (now tokens) (now nodes) start limit × (tokenAt (now tokens) start ≡ peeked.Is token) ⌝ }

@@ -70,7 +70,7 @@ pub fn expression(
     if !has_room(tokens.len() / 4, nodes.len(), c, 0) {
         return ExpressionAnswer::Unfit;
     }
-    let r = parse_expression(line, tokens, nodes, diagnostics, c, setting.limit);
+    let r = parse_expression(line, tokens, nodes, diagnostics, c, setting.limit as usize);
     let e = r.counters;
     clear_nodes(nodes, e.nodes, c.nodes + (e.at - c.at));
     ExpressionAnswer::Is(r)
@@ -92,7 +92,16 @@ pub fn expression_from(
         return ChainAnswer::Unfit;
     }
     widen(nodes, c.nodes - 1, group);
-    let r = parse_expression_from(line, tokens, nodes, diagnostics, c, group, 1, setting.limit);
+    let r = parse_expression_from(
+        line,
+        tokens,
+        nodes,
+        diagnostics,
+        c,
+        group,
+        1,
+        setting.limit as usize,
+    );
     let e = r.counters;
     clear_nodes(nodes, e.nodes, c.nodes + (e.at - c.at));
     ChainAnswer::Is(r)

@@ -9,6 +9,9 @@ use borrow.Author.Needs.{needs}
 use Rattle.parser.proofs.places.suppressed_register_at.Statement.{statement}
 use Rattle.parser.proofs.places.suppressed_register_at.Tie as tie
 
+cast-if1 : tie.Need-cast-if1
+cast-if1 c = search needs
+
 returns : tie.Need-returns
 unfolding suppressedAt
 returns c =
@@ -39,4 +42,5 @@ returns-3 c =
 
 pub suppressed-register-at-spec : {M : Type 1} → statement M
 suppressed-register-at-spec =
-    tie.close (tie.spec returns returns-2 text-of-requires suppressed-register-requires returns-3)
+    tie.close
+    (tie.spec cast-if1 returns returns-2 text-of-requires suppressed-register-requires returns-3)

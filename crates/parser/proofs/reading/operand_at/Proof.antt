@@ -4,6 +4,7 @@ use mathlib.Core.Path.{refl, sym, _∙_}
 use native.Mathlib.Omega.{arith}
 use Rattle.parser.specs.Reading.{OperandAsks, read, unread}
 use Rattle.parser.proofs.Cleared.{nothing-from, ended-kept}
+use Rattle.parser.proofs.Marked.{mark-within}
 use borrow.Author.Needs.{needs}
 use Rattle.parser.proofs.reading.operand_at.Statement.{statement}
 use Rattle.parser.proofs.reading.operand_at.Tie as tie
@@ -29,15 +30,18 @@ token-at-requires c κs = search needs
 enum-known-p : tie.Need-enum-known-p
 enum-known-p c = search needs
 
+mark-within-requires : tie.Need-mark-within-requires
+mark-within-requires c κs = search needs
+
 read-requires : tie.Need-read-requires
 read-requires c κs =
-    let c-args = c .before .before .before .before .before .before .before .before .before .before .before .before .before .before .args in
-    let c-if1 = c .before .before .before .before .before .before .before .before .before .if1 in
-    let c-if2 = c .before .before .before .before .before .before .before .before .if2 in
-    let c-if3 = c .before .before .before .before .before .before .before .if3 in
-    let c-if4 = c .before .before .before .before .before .before .if4 in
-    let c-token-at = c .before .before .before .before .before .token-at in
-    let c-p = c .before .before .before .p in
+    let c-args = c .before .before .before .before .before .before .before .before .before .before .before .before .before .before .before .args in
+    let c-if1 = c .before .before .before .before .before .before .before .before .before .before .if1 in
+    let c-if2 = c .before .before .before .before .before .before .before .before .before .if2 in
+    let c-if3 = c .before .before .before .before .before .before .before .before .if3 in
+    let c-if4 = c .before .before .before .before .before .before .before .if4 in
+    let c-token-at = c .before .before .before .before .before .before .token-at in
+    let c-p = c .before .before .before .before .p in
     let asks : OperandAsks (c-args .tokens .now) (c-args .nodes .now) (c-args .start) (c-args .limit) = omega (arith, c-if1 .left, c-if2 .left, c-if3 .left, c-if4 .left) in (asks, sym (c-token-at .ensures) ∙ c-p .given .1)
 
 enum-told : tie.Need-enum-told
@@ -60,13 +64,14 @@ same-length-2 c = search needs
 
 returns-5 : tie.Need-returns-5
 returns-5 c =
-    let c-args = c .before .before .before .before .before .before .before .before .before .before .before .before .before .before .before .before .before .before .before .args in
-    let c-if1 = c .before .before .before .before .before .before .before .before .before .before .before .before .before .before .if1 in
-    let c-if2 = c .before .before .before .before .before .before .before .before .before .before .before .before .before .if2 in
-    let c-if3 = c .before .before .before .before .before .before .before .before .before .before .before .before .if3 in
-    let c-if4 = c .before .before .before .before .before .before .before .before .before .before .before .if4 in
+    let c-args = c .before .before .before .before .before .before .before .before .before .before .before .before .before .before .before .before .before .before .before .before .args in
+    let c-if1 = c .before .before .before .before .before .before .before .before .before .before .before .before .before .before .before .if1 in
+    let c-if2 = c .before .before .before .before .before .before .before .before .before .before .before .before .before .before .if2 in
+    let c-if3 = c .before .before .before .before .before .before .before .before .before .before .before .before .before .if3 in
+    let c-if4 = c .before .before .before .before .before .before .before .before .before .before .before .before .if4 in
+    let c-mark-within = c .before .before .before .before .before .before .before .mark-within in
     let c-read = c .before .before .before .before .read in
-    let asks : OperandAsks (c-args .tokens .now) (c-args .nodes .now) (c-args .start) (c-args .limit) = omega (arith, c-if1 .left, c-if2 .left, c-if3 .left, c-if4 .left) in read _ refl asks (c-read .ensures)
+    let asks : OperandAsks (c-args .tokens .now) (c-args .nodes .now) (c-args .start) (c-args .limit) = omega (arith, c-if1 .left, c-if2 .left, c-if3 .left, c-if4 .left) in read _ refl asks (rw (mark-within (c-args .line .now) (c-args .tokens .now) (asks .few) _ (c-args .mark) _ (c-args .start) (c-mark-within .ensures)) at (c-read .ensures))
 
 same-length-3 : tie.Need-same-length-3
 same-length-3 c = search needs
@@ -95,6 +100,7 @@ operand-at-spec =
     returns-4
     token-at-requires
     enum-known-p
+    mark-within-requires
     read-requires
     enum-told
     first-requires

@@ -28,27 +28,30 @@ sub-widen c =
 widen-requires : tie.Need-widen-requires
 widen-requires c κs = search needs
 
+cast-parse-expression-from : tie.Need-cast-parse-expression-from
+cast-parse-expression-from c = search needs
+
 parse-expression-from-requires : tie.Need-parse-expression-from-requires
 parse-expression-from-requires c κs =
-    let c-has-room = c .before .before .before .before .before .before .before .before .has-room in
-    let c-args = c .before .before .before .before .before .before .before .before .before .before .before .before .before .args in
-    let c-if1 = c .before .before .before .before .before .before .before .if1 in
-    let c-widen = c .before .before .before .before .widen in
+    let c-has-room = c .before .before .before .before .before .before .before .before .before .has-room in
+    let c-args = c .before .before .before .before .before .before .before .before .before .before .before .before .before .before .args in
+    let c-if1 = c .before .before .before .before .before .before .before .before .if1 in
+    let c-widen = c .before .before .before .before .before .widen in
     fit-climb (room-fits (c-has-room .ensures (c-args .tokens .now) (c-args .nodes .now) refl refl) (c-if1 .left)) (omega (arith, c-widen .kept))
 
 sub-clear-nodes : tie.Need-sub-clear-nodes
 sub-clear-nodes c =
-    let c-has-room = c .before .before .before .before .before .before .before .before .before .before .before .before .before .before .before .before .before .has-room in
-    let c-args = c .before .before .before .before .before .before .before .before .before .before .before .before .before .before .before .before .before .before .before .before .before .before .args in
-    let c-if1 = c .before .before .before .before .before .before .before .before .before .before .before .before .before .before .before .before .if1 in
+    let c-has-room = c .before .before .before .before .before .before .before .before .before .before .before .before .before .before .before .before .before .before .has-room in
+    let c-args = c .before .before .before .before .before .before .before .before .before .before .before .before .before .before .before .before .before .before .before .before .before .before .before .args in
+    let c-if1 = c .before .before .before .before .before .before .before .before .before .before .before .before .before .before .before .before .before .if1 in
     let c-parse-expression-from = c .before .before .before .before .before .before .before .before .parse-expression-from in
     omega (arith, (room-fits (c-has-room .ensures (c-args .tokens .now) (c-args .nodes .now) refl refl) (c-if1 .left)), c-parse-expression-from)
 
 add-clear-nodes : tie.Need-add-clear-nodes
 add-clear-nodes c =
-    let c-has-room = c .before .before .before .before .before .before .before .before .before .before .before .before .before .before .before .before .before .before .has-room in
-    let c-args = c .before .before .before .before .before .before .before .before .before .before .before .before .before .before .before .before .before .before .before .before .before .before .before .args in
-    let c-if1 = c .before .before .before .before .before .before .before .before .before .before .before .before .before .before .before .before .before .if1 in
+    let c-has-room = c .before .before .before .before .before .before .before .before .before .before .before .before .before .before .before .before .before .before .before .has-room in
+    let c-args = c .before .before .before .before .before .before .before .before .before .before .before .before .before .before .before .before .before .before .before .before .before .before .before .before .args in
+    let c-if1 = c .before .before .before .before .before .before .before .before .before .before .before .before .before .before .before .before .before .before .if1 in
     let c-parse-expression-from = c .before .before .before .before .before .before .before .before .before .parse-expression-from in
     omega (arith, (room-fits (c-has-room .ensures (c-args .tokens .now) (c-args .nodes .now) refl refl) (c-if1 .left)), c-parse-expression-from)
 
@@ -63,10 +66,10 @@ same-length-2 c = search needs
 
 returns-2 : tie.Need-returns-2
 returns-2 c =
-    let c-has-room = c .before .before .before .before .before .before .before .before .before .before .before .before .before .before .before .before .before .before .before .before .before .has-room in
-    let c-args = c .before .before .before .before .before .before .before .before .before .before .before .before .before .before .before .before .before .before .before .before .before .before .before .before .before .before .args in
-    let c-if1 = c .before .before .before .before .before .before .before .before .before .before .before .before .before .before .before .before .before .before .before .before .if1 in
-    let c-widen = c .before .before .before .before .before .before .before .before .before .before .before .before .before .before .before .before .before .widen in
+    let c-has-room = c .before .before .before .before .before .before .before .before .before .before .before .before .before .before .before .before .before .before .before .before .before .before .has-room in
+    let c-args = c .before .before .before .before .before .before .before .before .before .before .before .before .before .before .before .before .before .before .before .before .before .before .before .before .before .before .before .args in
+    let c-if1 = c .before .before .before .before .before .before .before .before .before .before .before .before .before .before .before .before .before .before .before .before .before .if1 in
+    let c-widen = c .before .before .before .before .before .before .before .before .before .before .before .before .before .before .before .before .before .before .widen in
     let c-parse-expression-from = c .before .before .before .before .before .before .before .before .before .before .before .before .parse-expression-from in
     let c-clear-nodes = c .before .before .clear-nodes in
     climbed _ refl (room-fits (c-has-room .ensures (c-args .tokens .now) (c-args .nodes .now) refl refl) (c-if1 .left)) (from-kept _ _ _ _ _ _ _ _ _ _ _ _ (room-fits (c-has-room .ensures (c-args .tokens .now) (c-args .nodes .now) refl refl) (c-if1 .left)) (c-widen .ensures) (c-parse-expression-from .ensures) (omega (arith, (room-fits (c-has-room .ensures (c-args .tokens .now) (c-args .nodes .now) refl refl) (c-if1 .left)), c-widen .kept, c-parse-expression-from .kept, c-parse-expression-from)) (c-clear-nodes .ensures))
@@ -79,6 +82,7 @@ expression-from-spec =
     returns
     sub-widen
     widen-requires
+    cast-parse-expression-from
     parse-expression-from-requires
     sub-clear-nodes
     add-clear-nodes
