@@ -92,16 +92,8 @@ pub fn expression_from(
         return ChainAnswer::Unfit;
     }
     widen(nodes, c.nodes - 1, group);
-    let r = parse_expression_from(
-        line,
-        tokens,
-        nodes,
-        diagnostics,
-        c,
-        group,
-        1,
-        setting.limit as usize,
-    );
+    let room = setting.limit as usize;
+    let r = parse_expression_from(line, tokens, nodes, diagnostics, c, group, 1, room);
     let e = r.counters;
     clear_nodes(nodes, e.nodes, c.nodes + (e.at - c.at));
     ChainAnswer::Is(r)

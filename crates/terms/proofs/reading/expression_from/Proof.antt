@@ -28,8 +28,8 @@ sub-widen c =
 widen-requires : tie.Need-widen-requires
 widen-requires c κs = search needs
 
-cast-parse-expression-from : tie.Need-cast-parse-expression-from
-cast-parse-expression-from c = search needs
+cast-room : tie.Need-cast-room
+cast-room c = search needs
 
 parse-expression-from-requires : tie.Need-parse-expression-from-requires
 parse-expression-from-requires c κs =
@@ -82,7 +82,7 @@ expression-from-spec =
     returns
     sub-widen
     widen-requires
-    cast-parse-expression-from
+    cast-room
     parse-expression-from-requires
     sub-clear-nodes
     add-clear-nodes
