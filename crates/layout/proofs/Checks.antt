@@ -97,8 +97,8 @@ passes-at f m (suc n) k p l h = go (f m) refl (eqb k m) refl p (λ a b. passes-a
     go true e true q p ih = rw (eqb-true k m q) e
     go true e false q p ih = let g : k ≡ m → ⊥ = eqb-false k m q in ih p (omega arith)
 
-abbrev pub marks : List ℕ
-marks =
+abbrev pub signBytes : List ℕ
+signBytes =
     35 ∷ 44 ∷ 40 ∷ 41 ∷ 91 ∷ 93 ∷ 123 ∷ 125 ∷ 58 ∷ 43 ∷ 45 ∷ 42 ∷ 47 ∷ 92 ∷ 38 ∷ 33 ∷ 124 ∷ 94 ∷ 126 ∷ 60 ∷ 62 ∷ []
 
 abbrev words : List (List ℕ)
@@ -116,22 +116,22 @@ spelled-any [] n x h = refl
 spelled-any (w ∷ ws) zero x h = absurd (omega arith)
 spelled-any (w ∷ ws) (suc n) x h = spelled-any ws n x (omega arith)
 
-word-once : (n : ℕ) → n < 19 → getD words n [] ≡ getD marks n 0 ∷ []
+word-once : (n : ℕ) → n < 19 → getD words n [] ≡ getD signBytes n 0 ∷ []
 unfolding same
-word-once n h = same-eq _ _ (passes-at (λ k. same (getD words k []) (getD marks k 0 ∷ [])) 0 19 n refl (omega arith) (omega arith))
+word-once n h = same-eq _ _ (passes-at (λ k. same (getD words k []) (getD signBytes k 0 ∷ [])) 0 19 n refl (omega arith) (omega arith))
 
-word-twice : (n : ℕ) → 19 ≤ n → n < 21 → getD words n [] ≡ getD marks n 0 ∷ getD marks n 0 ∷ []
+word-twice : (n : ℕ) → 19 ≤ n → n < 21 → getD words n [] ≡ getD signBytes n 0 ∷ getD signBytes n 0 ∷ []
 unfolding same
-word-twice n l h = same-eq _ _ (passes-at (λ k. same (getD words k []) (getD marks k 0 ∷ getD marks k 0 ∷ [])) 19 2 n refl l (omega arith))
+word-twice n l h = same-eq _ _ (passes-at (λ k. same (getD words k []) (getD signBytes k 0 ∷ getD signBytes k 0 ∷ [])) 19 2 n refl l (omega arith))
 
 module _ (x : List ℕ) (n : ℕ) where
   pub sign-any : 21 ≤ n → spelledAs signs n x ≡ true
   sign-any h = spelled-any signs n x h
 
-  pub sign-once : n < 19 → spelledAs signs n x ≡ same x (getD marks n 0 ∷ [])
+  pub sign-once : n < 19 → spelledAs signs n x ≡ same x (getD signBytes n 0 ∷ [])
   sign-once h = spelled-word signs n x (omega arith) ∙ ap (same x) (word-once n h)
 
-  pub sign-twice : 19 ≤ n → n < 21 → spelledAs signs n x ≡ same x (getD marks n 0 ∷ getD marks n 0 ∷ [])
+  pub sign-twice : 19 ≤ n → n < 21 → spelledAs signs n x ≡ same x (getD signBytes n 0 ∷ getD signBytes n 0 ∷ [])
   sign-twice l h = spelled-word signs n x h ∙ ap (same x) (word-twice n l h)
 
 -- ---- a number's prefix

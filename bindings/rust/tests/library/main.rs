@@ -2,5 +2,6 @@
 
 mod arbitrary;
 mod common;
+mod marks;
 mod recorded;
 mod refusals;
