@@ -1,4 +1,4 @@
-/* Reads `4(a0)` and prints its answer line, as document 01 has it. */
+/* Reads `4(a0)` and prints its answer line, the sample of docs/FORMAT.md. */
 #include "sagdrif.h"
 
 #include <stdio.h>

@@ -104,7 +104,9 @@ static int arbitrary(void) {
         diagnostics_length, used, answer, answer_length);
     int stays = !memcmp(nodes, nodes_before, nodes_length) && !memcmp(diagnostics, diagnostics_before, diagnostics_length) &&
         !memcmp(answer, answer_before, answer_length);
-    int well = number == SAGDRIF_READ ? answer[SAGDRIF_KIND] <= 1 : stays && number <= SAGDRIF_SHORT_ANSWER && number != 8;
+    int known = number <= SAGDRIF_SHORT_DIAGNOSTICS || number == SAGDRIF_SHORT_ANSWER;
+    int short_answer = answer_length < SAGDRIF_ANSWER_BYTES;
+    int well = known && short_answer == (number == SAGDRIF_SHORT_ANSWER) && (number == SAGDRIF_READ ? answer[SAGDRIF_KIND] <= 1 : stays);
     free(line), free(tokens), free(nodes), free(diagnostics), free(answer);
     free(nodes_before), free(diagnostics_before), free(answer_before);
     return well ? number : -1;
@@ -127,7 +129,7 @@ int main(int count, char **words) {
             answer_frame(frame, (size_t)bytes);
         }
     }
-    long calls = count > 1 ? atol(words[1]) : 0, seen[10] = {0};
+    long calls = count > 1 ? atol(words[1]) : 0, seen[SAGDRIF_SHORT_ANSWER + 1] = {0};
     for (long i = 0; i < calls; i++) {
         int number = arbitrary();
         if (number < 0) {
@@ -136,8 +138,10 @@ int main(int count, char **words) {
         }
         seen[number]++;
     }
-    for (int k = 0; calls && k < 10; k++) {
-        fprintf(stderr, "number %d: %ld calls\n", k, seen[k]);
+    for (int k = 0; calls && k <= SAGDRIF_SHORT_ANSWER; k++) {
+        if (k <= SAGDRIF_SHORT_DIAGNOSTICS || k == SAGDRIF_SHORT_ANSWER) {
+            fprintf(stderr, "number %d: %ld calls\n", k, seen[k]);
+        }
     }
     return 0;
 }

@@ -1,4 +1,5 @@
-/* Reads one 68020 operand from lent bytes (document 01). Link libterminal.a, which `rt staticlib terminal` writes; of others it needs `memset` alone. */
+/* Reads one 68020 operand from lent bytes; docs/FORMAT.md has every byte of tokens, records and answers. Link libterminal.a, which
+ * `rt staticlib terminal` writes for x86-64 Linux (ELF, the System V calling convention); of other libraries it needs `memset` alone. */
 #ifndef SAGDRIF_H
 #define SAGDRIF_H
 
@@ -26,11 +27,11 @@ enum sagdrif_number {
     SAGDRIF_LONG_LINE = 1,             /* over 255 bytes */
     SAGDRIF_FOREIGN_BYTE = 2,          /* a byte of the line outside 20 to 7E hexadecimal */
     SAGDRIF_BAD_LIST = 3,              /* length not a multiple of 4, or over 255 tokens */
-    SAGDRIF_BAD_TOKEN = 4,             /* see document 01 */
+    SAGDRIF_BAD_TOKEN = 4,             /* undefined kind or detail, a span out of order or past the line, a wrong spelling: docs/FORMAT.md, "Tokens" */
     SAGDRIF_BAD_START = 5,             /* start past the token count */
     SAGDRIF_SHORT_NODES = 6,           /* node store under 3,570 bytes */
-    SAGDRIF_SHORT_DIAGNOSTICS = 7,     /* fewer than 511 whole records free after the used ones */
-    SAGDRIF_SHORT_ANSWER = 9           /* answer store under 27 bytes; checked before the others. 8 is the program's alone */
+    SAGDRIF_SHORT_DIAGNOSTICS = 7,     /* fewer than 511 whole records free after the used ones. 8 is the program's alone */
+    SAGDRIF_SHORT_ANSWER = 255         /* answer store under 27 bytes; checked before the others. The library's own number */
 };
 
 /* The answer's bytes, by place. */

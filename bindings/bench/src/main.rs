@@ -33,7 +33,7 @@ struct Times {
     kept: f64,
     /// The operand dropped in time, and the parser made and dropped for each reading.
     made: f64,
-    /// What the proved call does: the checks, the reading, and document 01's records, by the reference's programs.
+    /// What the proved call does: the checks, the reading, and the records of docs/FORMAT.md, by the reference's programs.
     whole: f64,
 }
 

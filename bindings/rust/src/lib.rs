@@ -1,7 +1,7 @@
 //! The proved reader of one 68020 operand, for Rust.
 //!
-//! A call lends a line, its tokens (4 bytes each), a node store and a diagnostic list, as document
-//! 01 has them. Every input has its result: an answer, or a refusal by which no byte is written.
+//! A call lends a line, its tokens (4 bytes each), a node store and a diagnostic list; docs/FORMAT.md
+//! has every byte of them. Every input has its result: an answer, or a refusal by which no byte is written.
 
 #![deny(missing_docs)]
 
@@ -92,7 +92,7 @@ pub struct Operand {
     pub mask: u16,
 }
 
-/// Why no reading took place, by document 01's numbers.
+/// Why no reading took place, by the numbers of docs/FORMAT.md.
 #[derive(Debug, Clone, Copy, PartialEq, Eq)]
 pub enum Refusal {
     /// The line is over 255 bytes.
@@ -127,7 +127,7 @@ impl Refusal {
 }
 
 /// Reads the operand that begins at the token `start`, and writes the answer. A `mark` at or past the token count means none.
-#[allow(clippy::too_many_arguments)] // what document 01 lends and gives
+#[allow(clippy::too_many_arguments)] // what a call is lent and given
 #[inline]
 pub fn parse_operand(
     line: &[u8],

@@ -1,3 +1,1 @@
--- What the proofs of the functions share.
-pub mod Refusals
-pub mod Outcomes
+-- What the proofs of a module share stands in the folder of that module.

@@ -1,2 +1,3 @@
--- What the functions within the crate ask and tell.
-pub mod Inner
+-- The call.
+-- what is asked and told
+pub mod Call

@@ -1,26 +1,24 @@
 // The entry: what a call lends and gives, and what comes back.
+use decoding::decode_tokens;
 use layout::Answer;
 use layout::Found;
 use layout::Missed;
-use layout::decode_tokens;
 use layout::encode_diagnostics;
 use layout::encode_nodes;
-use layout::refuse_line_and_list;
-use layout::refuse_start_and_stores;
 use operand::OperandRead;
 use operand::OperandStep;
-use parser::OperandAnswer;
-use parser::operand_at;
+use operand::refusal_numbers::BAD_START;
+use operand::refusal_numbers::BAD_TOKEN;
+use operand_code::OperandAnswer;
+use operand_code::operand_at;
+use refusals::refuse_line_and_list;
+use refusals::refuse_start_and_stores;
 ghost use Rattle.operand.specs.Entry.{call};
 ghost use Rattle.layout.specs.Promise.{EntryPromise};
-ghost use Rattle.entry.specs.Inner.{ListAsks, StoresAsk, AnswerTold};
+ghost use Rattle.entry.specs.Call.{ListAsks, StoresAsk, AnswerTold};
 
 // How many terms may be open in each other.
 const NESTING: u16 = 64;
-// The numbers of the refusals of a token and of a start.
-const BAD_TOKEN: u8 = 4;
-
-const BAD_START: u8 = 5;
 
 // Reads the operand that begins at the token `start`. A refusal writes nothing. The numbers of the reading stand in stores of the
 // call's own, in four sizes, since to clear them takes longer than to read a short list.

@@ -10,23 +10,19 @@ use borrow.Author.Tests.{eqb-true}
 use lib.Dec.{eqb, leb}
 use lib.ListN.{length}
 use Rattle.names.specs.Kinds
+pub use Rattle.names.specs.Laws.{true-false}
 use Rattle.names.specs.Places.{Place, stands}
 use Rattle.names.specs.Registers.{reserved}
 use Rattle.names.specs.Sizes.{runOf, sizeOf}
-use Rattle.names.specs.Numbers.{numberOf}
 use Rattle.names.specs.declared.tokens.Token.{Token}
 use Rattle.names.specs.declared.sizes.SizeSuffix.{SizeSuffix}
 use Rattle.names.specs.declared.numbers.Number.{Number}
 use Rattle.records.specs.Spans.{spanOf}
 use Rattle.expressions.specs.Trees.{Expr, number, characterLiteral, symbol, currentAddress, unary, binary, withSpan, size}
 use Rattle.records.specs.declared.spans.Span.{Span}
-use Rattle.records.specs.Diagnostics.{dotInName}
-use Rattle.expressions.specs.Reader.{Reader, answer, raise}
-use Rattle.expressions.specs.Expressions.{Term, read, reported, absent, Suffix, suffixed, known, suffixRun, takeSizeSuffix, operated, parseExpressionFrom, climbed, parseExpressionOf, isUnary, negated, plussed, valued, named, grouped, numberTerm, leafTerm, parsePrefixTerm, tooDeep, parsePrefix, parseExpression, expressionFrom, fuel}
+use Rattle.expressions.specs.Reader.{Reader}
+use Rattle.expressions.specs.Expressions.{Term, read, reported, absent, Suffix, known, suffixRun, takeSizeSuffix, operated, parseExpressionFrom, climbed, parseExpressionOf, isUnary, negated, plussed, valued, named, grouped, numberTerm, leafTerm, parsePrefixTerm, tooDeep, parsePrefix, parseExpression, expressionFrom, fuel}
 use Rattle.expressions.specs.Laws.{holds, All, all-choose, Law, call, PlusBefore}
-
-pub true-false : true ≡ false → ⊥
-true-false z = let y : _≡_ {A = ℕ} 0 1 = cc in omega arith
 
 pub size-withSpan : (e : Expr) (t : Span) → size (withSpan e t) ≡ size e
 unfolding size withSpan
@@ -183,7 +179,7 @@ module _ (at : ℕ → Place) (w : ℕ) (clean : Clean at w) where
 
   pub expression-cost : (room : ℕ) → Costs (parseExpression room)
   unfolding parseExpression
-  expression-cost room = expressionOf-cost fuel _ (prefix-cost fuel room)
+  expression-cost room = expressionOf-cost fuel _ (prefix-cost fuel _)
 
   pub from-cost : (room : ℕ) (left : Expr) (i l d r : ℕ) → Law (expressionFrom room left) at (Spent (size left) i d r) i l d r
   unfolding expressionFrom
@@ -215,8 +211,8 @@ module _ (at : ℕ → Place) (w : ℕ) (clean : Clean at w) where
     pub unary-expression : (room l d r : ℕ) → Law (parseExpression (suc room)) at (Signed i d r) i l d r
     unfolding All parseExpression parseExpressionOf climbed
     unary-expression room l d r = record {
-      all = call (unary-prefix fuel room l d r) λ j e s. elim [
-        | read y ↦ λ a b c g m. call (climb-cost fuel _ (prefix-cost fuel (suc room)) _ _ _ _ _ _) (omega arith)
+      all = call (unary-prefix fuel _ l d r) λ j e s. elim [
+        | read y ↦ λ a b c g m. call (climb-cost fuel _ (prefix-cost fuel _) _ _ _ _ _ _) (omega arith)
         | reported ↦ omega arith
         | absent ↦ λ a b c g m. absurd g
       ];

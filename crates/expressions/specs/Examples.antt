@@ -1,4 +1,4 @@
--- Trees that the definition reads: levels, sides, groups and names.
+-- Trees that the definition reads: levels, sides, depth, groups and names.
 -- Assumes nothing.
 use mathlib.Core.Path.{_≡_, refl}
 use mathlib.Core.Bool.{Bool, true, false}
@@ -41,19 +41,20 @@ ownIs s n (currentAddress t) = false
 ownIs s n (unary o e t) = false
 ownIs s n (binary o l r t) = false
 
--- a text, its tokens, and the tree in which each operation stands in parentheses
+-- how many terms may be open, a text, its tokens, and the tree in which each operation stands in parentheses; no tree where the text is reported
 pub record Example : Type 0 where
+  pub limit : ℕ
   pub text : String
   pub tokens : List ℕ
   pub tree : String
 
 unfoldable pub treeIs : String → Term → Bool
 treeIs t (read e) = same (shown e) (bytes t)
-treeIs t reported = false
+treeIs t reported = same [] (bytes t)
 treeIs t absent = false
 
 unfoldable pub readAs : Example → Bool
-readAs x = treeIs (x .tree) (run (parseExpression 64) (place (bytes (x .text)) (x .tokens)) 0 0 .value)
+readAs x = treeIs (x .tree) (run (parseExpression (x .limit)) (place (bytes (x .text)) (x .tokens)) 0 0 .value)
 
 unfoldable pub readAll : List Example → Bool
 readAll [] = true
@@ -64,8 +65,11 @@ unfoldable pub ofKinds : ℕ → List ℕ → List ℕ
 ofKinds at [] = []
 ofKinds at (k ∷ ks) = k ∷ 0 ∷ at ∷ (at + 1) ∷ ofKinds (at + 1) ks
 
+abbrev pub nested : ℕ → String → List ℕ → String → Example
+nested n t ks tree = record { limit = n; text = t; tokens = ofKinds 0 ks; tree = tree }
+
 abbrev pub example : String → List ℕ → String → Example
-example t ks tree = record { text = t; tokens = ofKinds 0 ks; tree = tree }
+example = nested 64
 
 unfoldable pub examples : List Example
 examples =
@@ -78,6 +82,12 @@ examples =
     ∷ example "1-(2-3)" (Kinds.number ∷ Kinds.minus ∷ Kinds.leftParen ∷ Kinds.number ∷ Kinds.minus ∷ Kinds.number ∷ Kinds.rightParen ∷ []) "(1-(2-3))"
     -- a failed right side keeps the left, and outer levels read on
     ∷ example "1+2*/3" (Kinds.number ∷ Kinds.plus ∷ Kinds.number ∷ Kinds.star ∷ Kinds.slash ∷ Kinds.number ∷ []) "((1+2)/3)"
+    -- the depth is tested before the token is looked at: where one term may be open, there is none for a number behind a sign or a parenthesis
+    ∷ nested 1 "1" (Kinds.number ∷ []) "1"
+    ∷ nested 1 "-1" (Kinds.minus ∷ Kinds.number ∷ []) ""
+    ∷ nested 2 "-1" (Kinds.minus ∷ Kinds.number ∷ []) "(-1)"
+    ∷ nested 1 "(1)" (Kinds.leftParen ∷ Kinds.number ∷ Kinds.rightParen ∷ []) ""
+    ∷ nested 2 "(1)" (Kinds.leftParen ∷ Kinds.number ∷ Kinds.rightParen ∷ []) "1"
     ∷ []
 
 pub read-so : readAll examples ≡ true

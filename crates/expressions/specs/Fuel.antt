@@ -1,17 +1,16 @@
 -- The fuel of the climb never decides: whatever stands for more turns than there are tokens reads the same.
 -- Assumes nothing.
 use mathlib.Core.Path.{_≡_, refl, sym, _∙_, ap}
-use mathlib.Core.Bool.{Bool, true}
-use mathlib.Core.List.{List, _++_}
+use mathlib.Core.Bool.{true}
+use mathlib.Core.List.{List}
 use Prim.Native.Nat.{ℕ, zero, suc, _+_, _≤_, _<_}
 use native.Mathlib.Omega.{arith}
 use Rattle.names.specs.Places.{Place, stands}
 use Rattle.names.specs.declared.tokens.Token.{Token}
-use Rattle.records.specs.Spans.{span}
-use Rattle.expressions.specs.Trees.{Expr, binary, spanE}
-use Rattle.expressions.specs.Reader.{Test, Reading, reading, after, Reader, answer, bind, here, bump, _>>=_, run, met}
-use Rattle.expressions.specs.Expressions.{Term, read, reported, absent, precedence, binaryOperator, operator, operated, parseExpressionFrom, parsePrefix, fuel, expressionFrom}
-use Rattle.expressions.specs.Laws.{holds, met-all, met-one, met-yes, met-no, forward}
+use Rattle.expressions.specs.Trees.{Expr}
+use Rattle.expressions.specs.Reader.{Test, Reading, after, Reader, answer, bind, bump, _>>=_, run}
+use Rattle.expressions.specs.Expressions.{Term, read, reported, absent, operator, operated, parseExpressionFrom, parsePrefix, fuel}
+use Rattle.expressions.specs.Laws.{met-one, met-yes, met-no, forward}
 
 -- two readers read the same from here
 pub record Alike {A : Type 0} (at : ℕ → Place) (i l : ℕ) (p q : Reader A) : Type 0 where
@@ -72,7 +71,7 @@ module _ (at : ℕ → Place) (count : ℕ) (ends : (j : ℕ) (k : Token) (x : L
 unfoldable pub turn : (ℕ → Expr → Reader Expr) → Reader Term → ℕ → Expr → Reader Expr
 turn again prefix min left = bump (operator min) (λ k x. prefix >>= operated again min left k) λ u. answer left
 
--- the fuel is enough for the longest list of document 01
+-- the fuel is enough for the longest list, 255 tokens
 pub fuel-enough : 1023 ≤ fuel
 unfolding fuel
 fuel-enough = omega arith

@@ -1,16 +1,16 @@
 -- The climb only adds to its left side: the left side's records stand before those that it adds, whatever they are.
 -- Assumes nothing.
-use mathlib.Core.Path.{_≡_, refl, sym, _∙_, ap}
-use mathlib.Core.List.{List, [], _∷_, _++_, append-assoc, append-nil}
-use Prim.Native.Nat.{ℕ, zero, suc, _+_, _-_, _*_}
+use mathlib.Core.Path.{_≡_, sym, _∙_, ap}
+use mathlib.Core.List.{List, [], _++_, append-assoc, append-nil}
+use Prim.Native.Nat.{ℕ, zero, suc, _+_, _*_}
 use lib.ListN.{drop}
 use lib.Seq.{drop-at}
-use Rattle.names.specs.Places.{Place, stands}
+use Rattle.names.specs.Places.{Place}
 use Rattle.names.specs.declared.tokens.Token.{Token}
 use Rattle.records.specs.declared.spans.Span.{Span}
 use Rattle.records.specs.Spans.{span}
 use Rattle.expressions.specs.Trees.{Expr, binary, spanE, size}
-use Rattle.expressions.specs.Reader.{Reading, Reader, run, _>>=_}
+use Rattle.expressions.specs.Reader.{Reading, Reader, run}
 use Rattle.expressions.specs.Expressions.{Term, read, reported, absent, precedence, binaryOperator, operator, operated, parseExpressionFrom}
 use Rattle.expressions.specs.Records.{nodes, length-nodes}
 use Rattle.expressions.specs.Laws.{met-one}

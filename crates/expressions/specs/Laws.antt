@@ -11,6 +11,7 @@ use lib.ListN.{length, length-append}
 use Rattle.names.specs.Kinds
 use Rattle.names.specs.Places.{Place, nothing, stands}
 use Rattle.names.specs.declared.tokens.Token.{Token}
+use Rattle.records.specs.DiagnosticKinds
 use Rattle.records.specs.Spans.{spanOf}
 use Rattle.records.specs.declared.spans.Span.{Span}
 use Rattle.records.specs.declared.diagnostics.Diagnostic.{Diagnostic}
@@ -144,14 +145,14 @@ If false T = Unit {0}
 
 -- what a diagnostic that is raised with the cursor at j has to meet
 abbrev pub Fine : (ℕ → Place) → Diagnostic → ℕ → Type 0
-Fine at d j = If (eqb (d .kind) 13) (PlusBefore at (d .span) j)
+Fine at d j = If (eqb (d .kind) DiagnosticKinds.plusIsNotAUnaryOperator) (PlusBefore at (d .span) j)
 
 if-map : {S T : Type 0} (b : Bool) → (S → T) → If b S → If b T
 if-map true f h = f h
 if-map false f h = tt
 
 fine-on : (at : ℕ → Place) (d : Diagnostic) {i j : ℕ} → i ≤ j → Fine at d i → Fine at d j
-fine-on at d h = if-map (eqb (d .kind) 13) λ p. record { place = p .place; before = omega arith; token = p .token; text = p .text; found = p .found; plus = p .plus; spans = p .spans }
+fine-on at d h = if-map (eqb (d .kind) DiagnosticKinds.plusIsNotAUnaryOperator) λ p. record { place = p .place; before = omega arith; token = p .token; text = p .text; found = p .found; plus = p .plus; spans = p .spans }
 
 abbrev pub Every : (Diagnostic → Type 0) → List Diagnostic → Type 0
 Every P [] = Unit {0}

@@ -15,7 +15,8 @@ use Rattle.names.specs.Sizes.{runOf, sizeOf}
 use Rattle.names.specs.declared.tokens.Token.{Token}
 use Rattle.names.specs.declared.sizes.SizeSuffix.{SizeSuffix}
 use Rattle.names.specs.declared.numbers.Number.{Number}
-use Rattle.records.specs.Spans.{span, spanOf}
+use Rattle.records.specs.DiagnosticKinds
+use Rattle.records.specs.Spans.{spanOf}
 use Rattle.records.specs.declared.spans.Span.{Span}
 use Rattle.records.specs.declared.diagnostics.Diagnostic.{Diagnostic}
 use Rattle.expressions.specs.Trees.{Expr, number, characterLiteral, symbol, currentAddress, unary, binary, spanE, withSpan}
@@ -48,7 +49,7 @@ SuffixIn m bare = Unit {0}
 
 -- the text of kind 10 is two registers
 abbrev pub DiagnosticIn : ℕ → Diagnostic → Type 0
-DiagnosticIn m d = SpanIn m (d .span) × SpanIn (pick (eqb (d .kind) 10) 15 m) (d .text) × SpanIn m (d .related)
+DiagnosticIn m d = SpanIn m (d .span) × SpanIn (pick (eqb (d .kind) DiagnosticKinds.registerRangeOutOfOrder) 15 m) (d .text) × SpanIn m (d .related)
 
 -- no token starts or ends past m
 pub record TokensIn (m : ℕ) (at : ℕ → Place) : Type 0 where
@@ -209,7 +210,7 @@ module _ {m : ℕ} where
 
   pub expression-fits : (room : ℕ) → Fits m (TermIn m) (parseExpression room)
   unfolding parseExpression
-  expression-fits room = expression-of-fits fuel _ (prefix-fits fuel room)
+  expression-fits room = expression-of-fits fuel _ (prefix-fits fuel _)
 
   pub from-fits : (room : ℕ) (left : Expr) → TreeIn m left → Fits m (TreeIn m) (expressionFrom room left)
   unfolding expressionFrom

@@ -14,7 +14,7 @@ use Rattle.records.specs.declared.diagnostics.Diagnostic.{Diagnostic}
 use Rattle.records.specs.declared.counters.Counters.{Counters}
 use Rattle.records.specs.Stores.{added}
 use Rattle.records.specs.Written.{added-append}
-use Rattle.records.specs.Counting.{stepped}
+use Rattle.records.specs.Counters.{stepped}
 use Rattle.expressions.specs.Laws.{holds, met-yes, met-no}
 use Rattle.expressions.specs.Reader.{Test, Reading, Reader, answer, here, raise, bump, peek, _>>=_, choose, run}
 use Rattle.expressions.specs.Told.{Raised, RaisedOver, over, ended, Told, Same}

@@ -20,10 +20,10 @@ abbrev pub Test : Type 0
 Test = Token → List ℕ → Bool
 
 abbrev pub is : ℕ → Test
-is kind t x = eqb (t .kind) kind
+is kind k x = eqb (k .kind) kind
 
 abbrev pub any : Test
-any t x = true
+any k x = true
 
 -- answer: the value. bind: one reader after the other. here: the cursor, and the end of the last token. raise: a diagnostic.
 -- bump: if the token at the cursor passes the test, step over it and go on with the first, else with the second.

@@ -12,7 +12,7 @@ use Rattle.records.specs.declared.diagnostics.Diagnostic.{Diagnostic}
 use Rattle.records.specs.declared.counters.Counters.{Counters}
 use Rattle.records.specs.Diagnostics.{diagnosticRecord}
 use Rattle.records.specs.Stores.{written, added}
-use Rattle.records.specs.Counting.{stepped}
+use Rattle.records.specs.Counters.{stepped}
 use Rattle.expressions.specs.Reader.{Reader, run}
 
 -- the diagnostic x behind those that count; nothing else moves

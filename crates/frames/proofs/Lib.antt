@@ -1,6 +1,1 @@
--- Laws that the proofs share, in the order of the code.
-pub mod Digits
-pub mod Decoding
-pub mod Putting
-pub mod Replies
-pub mod Turns
+-- What the proofs of a module share stands in the folder of that module.

@@ -9,9 +9,10 @@ use borrow.Author.Tests.{ltb-false, le-ltb}
 use lib.Dec.{eqb, ltb}
 use lib.ListN.{length, take, length-append}
 use Rattle.names.specs.Choice.{pick}
+use Rattle.operand.specs.RefusalNumbers
 use Rattle.frames.specs.Reply.{refused, ended, answerLine}
 use Rattle.frames.specs.Machine.{longest, roomy, State, heldLine, fed, kept, step, steps, fresh, lastLine}
-use Rattle.frames.specs.Promise.{BatchTold, FinishTold}
+use Rattle.frames.specs.Batches.{BatchTold, FinishTold}
 use Rattle.frames.specs.Lengths.{length-digits, answer-bound}
 use Rattle.frames.specs.declared.batches.Batched.{Batched}
 
@@ -45,8 +46,8 @@ pub held-bound : (h : ℕ) (C : List ℕ) → length (heldLine h C) ≤ 17411
 unfolding heldLine ended
 held-bound h C = go (ltb longest h)
   where
-    go : (c : Bool) → length (pick c (ended (refused 8)) (answerLine (take h C))) ≤ 17411
-    go true = simp length-append (omega (arith, length-digits (refused 8)))
+    go : (c : Bool) → length (pick c (ended (refused RefusalNumbers.badFrame)) (answerLine (take h C))) ≤ 17411
+    go true = simp length-append (omega (arith, length-digits (refused RefusalNumbers.badFrame)))
     go false = answer-bound (take h C)
 
 pub last-bound : (h : ℕ) (C : List ℕ) → length (lastLine h C) ≤ 17411

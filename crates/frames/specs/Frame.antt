@@ -21,9 +21,9 @@ tokenCount B = getD B (lineLength B + 1) 0
 unfoldable pub isFrame : List ℕ → Bool
 isFrame B = eqb (length B) (lineLength B + 4 * tokenCount B + 4)
 
--- what the call is lent and given: the parts of the frame, a node store of 255 records, a diagnostic list of 511 with none used
-unfoldable pub inputOf : List ℕ → Input
-inputOf B =
+-- the parts of a frame as the call takes them, with these stores and no diagnostic used
+abbrev pub lent : List ℕ → List ℕ → List ℕ → Input
+lent B N D =
     let n = lineLength B in
     let c = tokenCount B in
     record {
@@ -31,7 +31,11 @@ inputOf B =
       tokens = take (4 * c) (drop (n + 2) B);
       start = getD B (n + 4 * c + 2) 0;
       mark = getD B (n + 4 * c + 3) 0;
-      nodes = replicate nodeStore 0;
-      diagnostics = replicate diagnosticBytes 0;
+      nodes = N;
+      diagnostics = D;
       used = 0;
     }
+
+-- what the call is lent and given: the parts of the frame, a node store of 255 records, a diagnostic list of 511 with none used
+unfoldable pub inputOf : List ℕ → Input
+inputOf B = lent B (replicate nodeStore 0) (replicate diagnosticBytes 0)

@@ -6,7 +6,7 @@ use mathlib.Core.List.{List, _∷_, _++_}
 use Prim.Native.Nat.{ℕ, _+_, _*_, _/_, _%_, _≤_, _<_}
 use lib.ListN.{length, take}
 use Rattle.records.specs.Stores.{written}
-use Rattle.operand.specs.Layout.{bytesOf}
+use Rattle.operand.specs.Layout.{bytesOf, operandNumber, noOperandNumber}
 use Rattle.layout.specs.declared.answer.Answer.{Answer}
 use Rattle.layout.specs.declared.answer.Found.{Found}
 use Rattle.layout.specs.declared.answer.Missed.{Missed}
@@ -38,7 +38,7 @@ DecodedAs x S Decoded.Not = spells x ≡ false
 -- the node records and the diagnostic records are those at the beginning of the stores
 unfoldable pub foundBytes : Found → List ℕ → List ℕ → List ℕ
 foundBytes x N D =
-    0 ∷ x .cursor ∷ x .nodes ∷ x .diagnostics % 256 ∷ x .diagnostics / 256 ∷ (bytesOf (x .operand) ++ (take (14 * x .nodes) N ++ take (10 * x .diagnostics) D))
+    operandNumber ∷ x .cursor ∷ x .nodes ∷ x .diagnostics % 256 ∷ x .diagnostics / 256 ∷ (bytesOf (x .operand) ++ (take (14 * x .nodes) N ++ take (10 * x .diagnostics) D))
 
 pub record FoundAsks (O : List ℕ) (at : ℕ) (x : Found) (N D : List ℕ) : Type 0 where
   pub room : at + 17411 ≤ length O
@@ -49,7 +49,7 @@ pub record FoundAsks (O : List ℕ) (at : ℕ) (x : Found) (N D : List ℕ) : Ty
   pub diagnostics-long : length D ≡ 5110
 
 unfoldable pub missedBytes : Missed → List ℕ → List ℕ
-missedBytes x D = 1 ∷ x .cursor ∷ 0 ∷ x .diagnostics % 256 ∷ x .diagnostics / 256 ∷ take (10 * x .diagnostics) D
+missedBytes x D = noOperandNumber ∷ x .cursor ∷ 0 ∷ x .diagnostics % 256 ∷ x .diagnostics / 256 ∷ take (10 * x .diagnostics) D
 
 pub record MissedAsks (O : List ℕ) (at : ℕ) (x : Missed) (D : List ℕ) : Type 0 where
   pub room : at + 17411 ≤ length O

@@ -8,9 +8,11 @@ use native.Mathlib.Omega.{arith}
 use borrow.Author.Tests.{ltb-true, eqb-true}
 use lib.ListN.{length, getD, length-append}
 use Rattle.names.specs.Choice.{pick, both}
+use Rattle.names.specs.Laws.{both-first, both-second}
 use Rattle.expressions.specs.Reader.{Reading}
 use Rattle.records.specs.Nodes.{lowFirst}
 use Rattle.expressions.specs.Costs.{true-false}
+use Rattle.operand.specs.RefusalNumbers
 use Rattle.operand.specs.Operands.{Operand, Maybe, some, none}
 use Rattle.operand.specs.Records.{sizeM, nodesM}
 use Rattle.operand.specs.Forms.{recordOf}
@@ -59,39 +61,35 @@ answer-bound x = go (spells x) (isFrame (spelled x))
     line : (b : List ℕ) → length b ≤ 8705 → length (digits b ++ (10 ∷ [])) ≤ 17411
     line b h = simp length-append (omega (arith, length-digits b))
 
-    go : (b c : Bool) → length (digits (pick b (pick c (inputBytes (inputOf (spelled x))) (refused 8)) (refused 8)) ++ (10 ∷ [])) ≤ 17411
+    go : (b c : Bool) → length (digits (pick b (pick c (inputBytes (inputOf (spelled x))) (refused RefusalNumbers.badFrame)) (refused RefusalNumbers.badFrame)) ++ (10 ∷ [])) ≤ 17411
     go true true = line _ (input-short (inputOf (spelled x)))
-    go true false = line (refused 8) (omega arith)
-    go false c = line (refused 8) (omega arith)
+    go true false = line (refused RefusalNumbers.badFrame) (omega arith)
+    go false c = line (refused RefusalNumbers.badFrame) (omega arith)
 
 -- ---- a line longer than the longest frame
-
-both-true : (b c : Bool) → both b c ≡ true → (b ≡ true) × (c ≡ true)
-both-true true c h = (refl, h)
-both-true false c h = absurd (true-false (sym h))
 
 -- two digits a byte
 pub length-spelled : (x : List ℕ) → spells x ≡ true → length x ≡ 2 * length (spelled x)
 unfolding spells spelled
 length-spelled [] h = refl
 length-spelled (c ∷ []) h = absurd (true-false (sym h))
-length-spelled (c ∷ d ∷ cs) h = omega (arith, length-spelled cs (both-true (both (isDigit c) (isDigit d)) _ h .1))
+length-spelled (c ∷ d ∷ cs) h = omega (arith, length-spelled cs (both-second (both (isDigit c) (isDigit d)) _ h))
 
 spelled-small : (x : List ℕ) (i : ℕ) → spells x ≡ true → getD (spelled x) i 0 < 256
 unfolding spells spelled
 spelled-small [] i h = omega arith
 spelled-small (c ∷ []) i h = omega arith
 spelled-small (c ∷ d ∷ cs) zero h =
-    let p = both-true (both (isDigit c) (isDigit d)) _ h .0 in
-    omega (arith, ltb-true (value c) 16 (both-true (isDigit c) (isDigit d) p .0), ltb-true (value d) 16 (both-true (isDigit c) (isDigit d) p .1))
-spelled-small (c ∷ d ∷ cs) (suc i) h = spelled-small cs i (both-true (both (isDigit c) (isDigit d)) _ h .1)
+    let p = both-first (both (isDigit c) (isDigit d)) _ h in
+    omega (arith, ltb-true (value c) 16 (both-first (isDigit c) (isDigit d) p), ltb-true (value d) 16 (both-second (isDigit c) (isDigit d) p))
+spelled-small (c ∷ d ∷ cs) (suc i) h = spelled-small cs i (both-second (both (isDigit c) (isDigit d)) _ h)
 
 -- it is refused whatever it holds
-pub long-refused : (x : List ℕ) → longest < length x → answerLine x ≡ ended (refused 8)
+pub long-refused : (x : List ℕ) → longest < length x → answerLine x ≡ ended (refused RefusalNumbers.badFrame)
 unfolding answerLine lineBytes frameBytes longest isFrame
 long-refused x h = go (spells x) refl (isFrame (spelled x)) refl
   where
-    go : (b : Bool) → spells x ≡ b → (c : Bool) → isFrame (spelled x) ≡ c → ended (pick b (pick c (inputBytes (inputOf (spelled x))) (refused 8)) (refused 8)) ≡ ended (refused 8)
+    go : (b : Bool) → spells x ≡ b → (c : Bool) → isFrame (spelled x) ≡ c → ended (pick b (pick c (inputBytes (inputOf (spelled x))) (refused RefusalNumbers.badFrame)) (refused RefusalNumbers.badFrame)) ≡ ended (refused RefusalNumbers.badFrame)
     go true e true f =
         absurd (omega (arith, eqb-true (length (spelled x)) _ f, length-spelled x e, spelled-small x 0 e, spelled-small x (lineLength (spelled x) + 1) e))
     go true e false f = refl

@@ -2,26 +2,11 @@
 -- Assumes nothing.
 use mathlib.Core.Path.{_≡_, refl, sym, _∙_, ap}
 use mathlib.Core.List.{List}
-use Prim.Native.Nat.{ℕ, zero, suc, _+_, _*_}
-use lib.ListN.{length, take, drop, getD, replicate, length-replicate}
-use Rattle.operand.specs.Entry.{Input, nodeStore, conditions, refusal}
-use Rattle.frames.specs.Frame.{diagnosticBytes, lineLength, tokenCount, inputOf}
+use Prim.Native.Nat.{ℕ, zero, suc}
+use lib.ListN.{length, replicate, length-replicate}
+use Rattle.operand.specs.Entry.{nodeStore, conditions, refusal}
+use Rattle.frames.specs.Frame.{diagnosticBytes, lent, inputOf}
 use Rattle.frames.specs.Reply.{bytesAt, inputBytes}
-
--- a frame's input, with these stores
-abbrev pub lent : List ℕ → List ℕ → List ℕ → Input
-lent B N D =
-    let n = lineLength B in
-    let c = tokenCount B in
-    record {
-      line = take n (drop 1 B);
-      tokens = take (4 * c) (drop (n + 2) B);
-      start = getD B (n + 4 * c + 2) 0;
-      mark = getD B (n + 4 * c + 3) 0;
-      nodes = N;
-      diagnostics = D;
-      used = 0;
-    }
 
 node-zeros : length {A = ℕ} (replicate nodeStore 0) ≡ 3570
 unfolding nodeStore

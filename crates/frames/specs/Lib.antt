@@ -1,12 +1,15 @@
--- What the program answers, in reading order.
+-- What the program answers.
+-- the definition
 pub mod Hex
 pub mod Frame
 pub mod Reply
 pub mod Lines
+-- what is asked and told
 pub mod Machine
-pub mod Promise
+pub mod Batches
 pub mod Program
 pub mod Inner
+-- the laws
 pub mod Lent
 pub mod Outcome
 pub mod Lengths

@@ -6,6 +6,7 @@ use lib.Dec.{eqb, ltb}
 use lib.ListN.{length, take, set}
 use Rattle.names.specs.Choice.{pick}
 use Rattle.records.specs.Stores.{written}
+use Rattle.operand.specs.RefusalNumbers
 use Rattle.frames.specs.Reply.{refused, ended, answerLine}
 
 -- the digits of the longest frame: 2 * (1 + 255 + 1 + 4 * 255 + 2)
@@ -31,7 +32,7 @@ pub record State : Type 0 where
 
 -- the answer to a line that is held
 unfoldable pub heldLine : ℕ → List ℕ → List ℕ
-heldLine held carry = pick (ltb longest held) (ended (refused 8)) (answerLine (take held carry))
+heldLine held carry = pick (ltb longest held) (ended (refused RefusalNumbers.badFrame)) (answerLine (take held carry))
 
 -- a line feed: the answer, and nothing held
 abbrev pub fed : State → State

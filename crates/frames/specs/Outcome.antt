@@ -9,7 +9,7 @@ use Rattle.expressions.specs.Reader.{Reading}
 use Rattle.records.specs.Nodes.{lowFirst}
 use Rattle.operand.specs.Operands.{Operand, Maybe, some, none}
 use Rattle.operand.specs.Records.{sizeO, sizeM, nodesM}
-use Rattle.operand.specs.Layout.{nodesLaid, diagnosticsLaid, operandRecord, answerLine}
+use Rattle.operand.specs.Layout.{nodesLaid, diagnosticsLaid, operandRecord, operandNumber, noOperandNumber, answerLine}
 use Rattle.operand.specs.Entry.{Input, refusal, readingAt, answerOf, nodesAfter, diagnosticsAfter, outcomeOf, outcome}
 use Rattle.operand.specs.Entry as Entry
 use Rattle.operand.specs.Lengths.{length-node-bytes, length-laid}
@@ -17,8 +17,8 @@ use Rattle.layout.specs.Promise.{nesting}
 use Rattle.frames.specs.Reply.{refused, bytesAt, inputBytes}
 
 unfoldable pub outcomeBytes : Entry.Answer → List ℕ → List ℕ → List ℕ
-outcomeBytes (Entry.operand x cursor n d mask) N D = 0 ∷ cursor ∷ n ∷ (lowFirst 2 d ++ (x ++ (take (14 * n) N ++ take (10 * d) D)))
-outcomeBytes (Entry.noOperand cursor d) N D = 1 ∷ cursor ∷ 0 ∷ (lowFirst 2 d ++ take (10 * d) D)
+outcomeBytes (Entry.operand x cursor n d mask) N D = operandNumber ∷ cursor ∷ n ∷ (lowFirst 2 d ++ (x ++ (take (14 * n) N ++ take (10 * d) D)))
+outcomeBytes (Entry.noOperand cursor d) N D = noOperandNumber ∷ cursor ∷ 0 ∷ (lowFirst 2 d ++ take (10 * d) D)
 outcomeBytes (Entry.refused k) N D = refused k
 
 first-nodes : (v : Maybe Operand) (N : List ℕ) → take (14 * sizeM v) (nodesAfter v N) ≡ nodesLaid v
@@ -32,8 +32,8 @@ first-diagnostics r D = take-at (diagnosticsLaid (r .raised)) _ (10 * length (r 
 read-bytes : (r : Reading (Maybe Operand)) (v : Maybe Operand) (N D : List ℕ) → outcomeBytes (answerOf r v) (nodesAfter v N) (diagnosticsAfter r 0 D) ≡ answerLine r v
 unfolding outcomeBytes answerOf answerLine sizeM
 read-bytes r (some x) N D =
-    ap₂ (λ n d. 0 ∷ r .cursor ∷ sizeO x ∷ (lowFirst 2 (length (r .raised)) ++ (operandRecord x ++ (n ++ d)))) (first-nodes (some x) N) (first-diagnostics r D)
-read-bytes r none N D = ap (λ d. 1 ∷ r .cursor ∷ 0 ∷ (lowFirst 2 (length (r .raised)) ++ d)) (first-diagnostics r D)
+    ap₂ (λ n d. operandNumber ∷ r .cursor ∷ sizeO x ∷ (lowFirst 2 (length (r .raised)) ++ (operandRecord x ++ (n ++ d)))) (first-nodes (some x) N) (first-diagnostics r D)
+read-bytes r none N D = ap (λ d. noOperandNumber ∷ r .cursor ∷ 0 ∷ (lowFirst 2 (length (r .raised)) ++ d)) (first-diagnostics r D)
 
 pub from-outcome : (a : Input) → a .used ≡ 0 → outcomeBytes (outcome nesting a .answer) (outcome nesting a .nodes) (outcome nesting a .diagnostics) ≡ inputBytes a
 unfolding outcome outcomeOf inputBytes bytesAt outcomeBytes

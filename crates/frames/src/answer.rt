@@ -6,20 +6,22 @@ use entry::parse_operand;
 use layout::Answer;
 use layout::Found;
 use layout::Missed;
+use layout::NO_OPERAND;
+use layout::OPERAND;
+use layout::REFUSED;
 use layout::operand_bytes;
+use operand::refusal_numbers::BAD_FRAME;
 ghost use mathlib.Core.List.{[], _∷_, _++_};
 ghost use Prim.Native.Nat.{_+_, _*_, _≤_, _<_};
 ghost use lib.ListN.{length};
 ghost use Rattle.frames.specs.Reply.{refused, ended, frameBytes};
 ghost use Rattle.frames.specs.Machine.{heldLine};
 ghost use Rattle.layout.specs.Promise.{EntryPromise};
-ghost use Rattle.frames.specs.Lent.{lent};
+ghost use Rattle.frames.specs.Frame.{lent};
 ghost use Rattle.frames.specs.Inner.{Put, FoundAsks, foundBytes, MissedAsks, missedBytes, AnswerAsks, answerBytes, FrameAsks, ReadAsks, FramedAs, TurnAsks};
 
 // The digits of the longest frame: 2 * (1 + 255 + 1 + 4 * 255 + 2).
 pub(crate) const LONGEST: usize = 2558;
-// The number of the refusal of a line that is no frame.
-const BAD_FRAME: u8 = 8;
 
 fn end_line(out: &mut [u8], at: usize) -> usize
     requires { ⌜ at < length (now out) ⌝ }
@@ -33,7 +35,7 @@ fn refuse(out: &mut [u8], at: usize, number: u8) -> usize
     requires { ⌜ at + 5 ≤ length (now out) ⌝ }
     ensures { λ r. ⌜ Put (now (out .entry)) (now (out .exit)) at (ended (refused number)) r ⌝ }
 {
-    let bytes = [2, number];
+    let bytes = [REFUSED, number];
     let end = put(out, at, &bytes);
     end_line(out, end)
 }
@@ -64,7 +66,13 @@ fn put_found(out: &mut [u8], at: usize, x: Found, nodes: &[u8], diagnostics: &[u
     let n = x.nodes;
     let d = x.diagnostics;
     let operand = x.operand;
-    let head = [0, x.cursor as u8, n as u8, (d % 256) as u8, (d / 256) as u8];
+    let head = [
+        OPERAND,
+        x.cursor as u8,
+        n as u8,
+        (d % 256) as u8,
+        (d / 256) as u8,
+    ];
     let record = operand_bytes(operand);
     let node_end = 14 * n;
     let diagnostic_end = 10 * d;
@@ -82,9 +90,15 @@ fn put_missed(out: &mut [u8], at: usize, x: Missed, diagnostics: &[u8]) -> usize
     requires { ⌜ MissedAsks (now out) at x (now diagnostics) ⌝ }
     ensures { λ r. ⌜ Put (now (out .entry)) (now (out .exit)) at (ended (missedBytes x (now (diagnostics .entry)))) r ⌝ }
 {
-    let d = x.diagnostics;
-    let head = [1, x.cursor as u8, 0, (d % 256) as u8, (d / 256) as u8];
-    let diagnostic_end = 10 * d;
+    let added = x.diagnostics;
+    let head = [
+        NO_OPERAND,
+        x.cursor as u8,
+        0,
+        (added % 256) as u8,
+        (added / 256) as u8,
+    ];
+    let diagnostic_end = 10 * added;
     put_parts(
         out,
         at,

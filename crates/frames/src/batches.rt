@@ -3,7 +3,7 @@ use crate::answer::LONGEST;
 use crate::answer::answer;
 ghost use mathlib.Core.Path.{_≡_};
 ghost use lib.ListN.{length};
-ghost use Rattle.frames.specs.Promise.{BatchTold, FinishTold};
+ghost use Rattle.frames.specs.Batches.{BatchTold, FinishTold};
 ghost use Rattle.frames.specs.Inner.{HoldTold, TurnAsks, TurnTold, BatchAsks};
 
 // What may be filled of the output so that the longest answer has room: 65536 - (2 * (5 + 20 + 3570 + 5110) + 1).

@@ -1,5 +1,1 @@
--- Laws that the proofs share.
-pub mod Checks
-pub mod Decoding
-pub mod Encoding
-pub mod Parts
+-- What the proofs of a module share stands in the folder of that module.

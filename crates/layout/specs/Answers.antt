@@ -20,7 +20,8 @@ use Rattle.operand.specs.Layout.{nodeBytes, nodesLaid, lows, diagnosticsLaid}
 use Rattle.operand.specs.Entry.{Input, placeOf, nodeStore, lineAndList, startAndStores, conditions, firstOf, refusal, readingAt, nodesAfter, diagnosticsAfter, outcome, outcomeOf}
 use Rattle.layout.specs.Promise.{nesting, nesting-some, resultOf, resultAt, EntryPromise}
 use Rattle.operand.specs.Readings.{gap, ended}
-use Rattle.operand.specs.Conditions.{Valid, valid-bounds, valid-stores, AlikeThrough}
+use Rattle.operand.specs.Marks.{remarked, MarksAgree, MarksPast, marks-agree, refusal-same, reading-remarked, outcome-same}
+use Rattle.operand.specs.Conditions.{Valid, valid-bounds, valid-stores, AlikeThrough, recordAt, SameButPlus}
 use Rattle.operand.specs.Conditions as C
 use Rattle.operand.specs.Lengths.{length-node-bytes, length-laid}
 use Rattle.layout.specs.declared.answer.Answer.{Answer}
@@ -50,6 +51,12 @@ abbrev pub gapOf : Answer → ℕ
 gapOf (Answer.Operand x) = 0
 gapOf (Answer.NoOperand x) = 1
 gapOf (Answer.Refused n) = 0
+
+-- at most one place
+pub gap-small : (r : Answer) → gapOf r ≤ 1
+gap-small (Answer.Operand x) = omega arith
+gap-small (Answer.NoOperand x) = omega arith
+gap-small (Answer.Refused n) = omega arith
 
 -- ---- the refusals have the numbers 1 to 7
 
@@ -156,7 +163,7 @@ module _ (a : Input) (N′ D′ : List ℕ) (r : Answer) (p : EntryPromise a N�
 
     -- ---- condition 1
 
-    -- "the cursor neither goes back nor passes the end"
+    -- the cursor neither goes back nor passes the end
     pub cursor-bounds : (a .start ≤ cursorOf r) × (cursorOf r ≤ count (a .tokens))
     cursor-bounds = let h = C.cursor-bounds nesting nesting-some a v in (omega (arith, cursor-is), omega (arith, cursor-is))
 
@@ -164,7 +171,7 @@ module _ (a : Input) (N′ D′ : List ℕ) (r : Answer) (p : EntryPromise a N�
     pub cursor-small : cursorOf r < 256
     cursor-small = omega (arith, cursor-bounds, valid-bounds a v)
 
-    -- "No operand is never silent (unless the start is the end or an Error token stood from there on)."
+    -- no operand is never silent, unless the start is the end or an Error token stood from there on
     pub never-silent : (k : Token) (x : List ℕ) → placeOf a (a .start) ≡ stands k x
         → ((j : ℕ) (t : Token) (y : List ℕ) → a .start ≤ j → placeOf a j ≡ stands t y → eqb (t .kind) Kinds.error ≡ false)
         → (m : Missed) → r ≡ Answer.NoOperand m → 0 < m .diagnostics
@@ -264,7 +271,7 @@ pub record SameOutcome (a b : Input) (N′ D′ N″ D″ : List ℕ) (r q : Ans
   pub nodes : take (14 * nodesUsed r) N′ ≡ take (14 * nodesUsed q) N″
   pub diagnostics : take (10 * diagnosticsAdded r) (drop (10 * a .used) D′) ≡ take (10 * diagnosticsAdded q) (drop (10 * b .used) D″)
 
--- "Two valid inputs alike from the start through the cursor (one place further where there is no operand) have the same answer."
+-- two valid inputs alike from the start through the cursor (one place further where there is no operand) have the same answer, without exception
 pub local : (a b : Input) (N′ D′ N″ D″ : List ℕ) (r q : Answer) → EntryPromise a N′ D′ r → EntryPromise b N″ D″ q → Valid a → Valid b
     → AlikeThrough a b (cursorOf r + gapOf r) → SameOutcome a b N′ D′ N″ D″ r q
 local a b N′ D′ N″ D″ r q p h va vb alike =
@@ -274,3 +281,49 @@ local a b N′ D′ N″ D″ r q p h va vb alike =
       nodes = used-records a N′ D′ r p va ∙ ap (λ (t : Reading (Maybe Operand)). nodesLaid (t .value)) e ∙ sym (used-records b N″ D″ q h vb);
       diagnostics = added-records a N′ D′ r p va ∙ ap (λ (t : Reading (Maybe Operand)). diagnosticsLaid (t .raised)) e ∙ sym (added-records b N″ D″ q h vb);
     }
+
+-- but for a kind 13 with its plus at this place, which is the same in all but its kind
+pub record SameOutcomeButPlus (w : Place) (a b : Input) (N′ D′ N″ D″ : List ℕ) (r q : Answer) : Type 0 where
+  pub answer : r ≡ q
+  pub nodes : take (14 * nodesUsed r) N′ ≡ take (14 * nodesUsed q) N″
+  pub diagnostics : (i : ℕ)
+      → SameButPlus w (recordAt (take (10 * diagnosticsAdded r) (drop (10 * a .used) D′)) i) (recordAt (take (10 * diagnosticsAdded q) (drop (10 * b .used) D″)) i)
+
+-- condition 3 as it is asked for (operand `Conditions.two-readings`): alike through the cursor, the same but for such a plus at the cursor; alike one token
+-- further, the same without exception
+pub two-calls : (a b : Input) (N′ D′ N″ D″ : List ℕ) (r q : Answer) → EntryPromise a N′ D′ r → EntryPromise b N″ D″ q → Valid a → Valid b
+    → (AlikeThrough a b (cursorOf r + gapOf r) → SameOutcomeButPlus (placeOf a (cursorOf r)) a b N′ D′ N″ D″ r q)
+    × (AlikeThrough a b (cursorOf r + 1) → SameOutcome a b N′ D′ N″ D″ r q)
+two-calls a b N′ D′ N″ D″ r q p h va vb = (
+  (λ alike.
+      let s = local a b N′ D′ N″ D″ r q p h va vb alike in
+      record { answer = s .answer; nodes = s .nodes; diagnostics = λ i. SameButPlus.same (ap (λ D. recordAt D i) (s .diagnostics)) }),
+  λ alike. local a b N′ D′ N″ D″ r q p h va vb (C.alike-before (omega (arith, gap-small r)) alike),
+)
+
+-- ---- the mark
+
+-- the same answer, and the same bytes in both stores
+pub record SameCall (N′ D′ N″ D″ : List ℕ) (r q : Answer) : Type 0 where
+  pub answer : r ≡ q
+  pub nodes : N′ ≡ N″
+  pub diagnostics : D′ ≡ D″
+
+-- of two calls that differ in their marks alone, where these agree wherever a token stands
+pub marks-same : (a : Input) (n : ℕ) (N′ D′ N″ D″ : List ℕ) (r q : Answer) → EntryPromise a N′ D′ r → EntryPromise (remarked a n) N″ D″ q
+    → MarksAgree a n → SameCall N′ D′ N″ D″ r q
+unfolding resultAt
+marks-same a n N′ D′ N″ D″ r q p h agree = record {
+  answer = p .value ∙ result (refusal a) ∙ ap (resultAt nesting (remarked a n)) (refusal-same a n) ∙ sym (h .value);
+  nodes = p .nodes ∙ ap (λ x. x .nodes) (outcome-same nesting a n agree) ∙ sym (h .nodes);
+  diagnostics = p .diagnostics ∙ ap (λ x. x .diagnostics) (outcome-same nesting a n agree) ∙ sym (h .diagnostics);
+}
+  where
+    result : (k : ℕ) → resultAt nesting a k ≡ resultAt nesting (remarked a n) k
+    result zero = ap (λ (t : Reading (Maybe Operand)). resultOf t (t .value)) (reading-remarked nesting a n agree)
+    result (suc k) = refl
+
+-- "one at or past the token count means none": of any two such marks
+pub marks-past : (a : Input) (n : ℕ) (N′ D′ N″ D″ : List ℕ) (r q : Answer) → EntryPromise a N′ D′ r → EntryPromise (remarked a n) N″ D″ q
+    → MarksPast a n → SameCall N′ D′ N″ D″ r q
+marks-past a n N′ D′ N″ D″ r q p h past = marks-same a n N′ D′ N″ D″ r q p h (marks-agree a n past)

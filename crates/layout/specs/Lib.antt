@@ -1,6 +1,7 @@
--- Document 01's bytes: the entry's promise and what follows from it; how the lent bytes are read and written. In reading order.
+-- The bytes of docs/FORMAT.md: the entry's promise and what follows from it; how the lent bytes are read and written.
+-- what is told
 pub mod Promise
-pub mod Answers
-pub mod Refusals
 pub mod Coding
+-- the laws
+pub mod Answers
 pub mod Stored

@@ -1,4 +1,4 @@
--- What the entry promises: its answer and every byte of both stores are the definition's, at document 01's nesting limit.
+-- What the entry promises: its answer and every byte of both stores are the definition's, at the nesting limit 64.
 -- Assumes nothing.
 use mathlib.Core.Path.{_≡_, refl}
 use mathlib.Core.List.{List}
@@ -8,7 +8,7 @@ use lib.ListN.{length}
 use Rattle.expressions.specs.Reader.{Reading}
 use Rattle.operand.specs.Operands.{Operand, Maybe, some, none}
 use Rattle.operand.specs.Records.{sizeM}
-use Rattle.operand.specs.Entry.{Input, readingAt, refusal, answerOf, outcome}
+use Rattle.operand.specs.Entry.{Input, readingAt, refusal, answerOf, answerNumber, outcome, outcomeNumber}
 use Rattle.operand.specs.Entry as E
 use Rattle.operand.specs.Forms.{recordOf}
 use Rattle.operand.specs.Layout.{bytesOf}
@@ -52,9 +52,10 @@ given-result r none = refl
 
 -- ---- the promise
 
--- every byte. The fourth: the twenty bytes alone would leave open whether FF is an absent part
+-- every byte, and the number of the answer's case. The last: the twenty bytes alone would leave open whether FF is an absent part
 pub record EntryPromise (a : Input) (N′ D′ : List ℕ) (r : Answer) : Type 0 where
   pub answer : given r ≡ outcome nesting a .answer
+  pub number : answerNumber (given r) ≡ outcomeNumber nesting a
   pub nodes : N′ ≡ outcome nesting a .nodes
   pub diagnostics : D′ ≡ outcome nesting a .diagnostics
   pub value : r ≡ resultAt nesting a (refusal a)

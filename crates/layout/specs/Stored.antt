@@ -1,4 +1,4 @@
--- A reading's stores, decoded and encoded, are the definition's.
+-- A reading's stores, encoded, are the definition's.
 -- Assumes nothing.
 use mathlib.Core.Path.{_≡_, refl, sym, _∙_, ap, ap₂}
 use mathlib.Core.List.{List, [], _∷_, _++_, append-assoc}
@@ -7,8 +7,7 @@ use native.Mathlib.Nat.{add-zero}
 use native.Mathlib.Omega.{arith}
 use borrow.Author.Tests.{le-leb}
 use lib.ListN.{length, take, drop, getD, replicate, length-append, length-replicate, take-append-drop, List·getD-append}
-use lib.Seq.{take-at, take-length}
-use Rattle.names.specs.Tokens.{count}
+use lib.Seq.{take-at}
 use Rattle.records.specs.declared.diagnostics.Diagnostic.{Diagnostic}
 use Rattle.records.specs.Diagnostics.{diagnosticRecord}
 use Rattle.records.specs.Stores.{written, added}
@@ -18,17 +17,7 @@ use Rattle.operand.specs.Records.{sizeM, nodesM, diagnosticRecords}
 use Rattle.operand.specs.Layout.{nodeFrom, nodeBytes, nodesLaid, lows, diagnosticsLaid}
 use Rattle.operand.specs.Lengths.{length-nodes, length-node-bytes, length-diagnostic, length-diagnostics, length-laid}
 use Rattle.operand.specs.Entry.{nodeStore, nodesAfter}
-use Rattle.layout.specs.Coding.{decoded, nodesEncoded, diagnosticsEncoded}
-
--- ---- tokens
-
--- the numbers of a list without a rest are its bytes
-pub tokens-stored : (T M : List ℕ) → length T ≡ 4 * count T → 4 * count T ≤ length M → take (length T) (decoded T M) ≡ T
-unfolding decoded
-tokens-stored T M whole room =
-    let e : take (4 * count T) T ≡ T = ap (λ n. take n T) (sym whole) ∙ take-length T in
-    let n : length T ≡ 0 + length T = omega arith in
-    ap₂ (λ k b. take k (written M 0 b)) n e ∙ written-take M 0 T (omega arith)
+use Rattle.layout.specs.Coding.{nodesEncoded, diagnosticsEncoded}
 
 -- ---- nodes
 

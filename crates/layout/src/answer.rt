@@ -1,6 +1,13 @@
 // What a call answers.
 use operand::OperandRecord;
 
+// Document 01's number of each case of an answer.
+pub const OPERAND: u8 = 0;
+
+pub const NO_OPERAND: u8 = 1;
+
+pub const REFUSED: u8 = 2;
+
 // An operand, with the cursor, the nodes used and the diagnostics added.
 pub struct Found {
     pub operand: OperandRecord,

@@ -1,19 +1,17 @@
-// Everything between document 01's bytes and the reading's numbers.
+// The answer as bytes (docs/FORMAT.md): the reading's numbers encoded.
 mod answer;
 mod diagnostics;
 mod nodes;
 mod record;
-mod refusals;
 mod store;
-mod tokens;
 
 pub use answer::Answer;
 pub use answer::Found;
 pub use answer::Missed;
+pub use answer::NO_OPERAND;
+pub use answer::OPERAND;
+pub use answer::REFUSED;
 pub use diagnostics::encode_diagnostics;
 pub use nodes::encode_nodes;
 pub use record::operand_bytes;
-pub use refusals::refuse_line_and_list;
-pub use refusals::refuse_start_and_stores;
 pub use store::write;
-pub use tokens::decode_tokens;

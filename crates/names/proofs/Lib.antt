@@ -1,8 +1,2 @@
--- Laws that the proofs share, in the order of the code.
-pub mod Peeks
-pub mod Lists
-pub mod Spelling
-pub mod Coding
-pub mod Pairs
-pub mod Figures
-pub mod Quotes
+-- What the proofs of several modules share; what those of one share stands in its folder.
+pub mod Cases

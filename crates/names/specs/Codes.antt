@@ -11,6 +11,7 @@ use lib.Dec.{ltb, eqb}
 use lib.ListN.{length}
 use Rattle.names.specs.Choice.{pick, both}
 use Rattle.names.specs.Letters.{bytes, lowered, same}
+use Rattle.names.specs.Laws.{both-false, both-first, both-second}
 use Rattle.names.specs.Registers.{numbered, specialNames, specialOf}
 use Rattle.names.specs.declared.registers.SpecialRegister.{SpecialRegister}
 
@@ -34,19 +35,11 @@ small (c ∷ cs) = both (ltb c 256) (small cs)
 
 pub small-first : (c : ℕ) (cs : List ℕ) → small (c ∷ cs) ≡ true → c < 256
 unfolding small
-small-first c cs h = ltb-true c 256 (go (ltb c 256) h)
-  where
-    go : (b : Bool) → both b (small cs) ≡ true → b ≡ true
-    go true g = refl
-    go false g = g
+small-first c cs h = ltb-true c 256 (both-first (ltb c 256) (small cs) h)
 
 pub small-rest : (c : ℕ) (cs : List ℕ) → small (c ∷ cs) ≡ true → small cs ≡ true
 unfolding small
-small-rest c cs h = go (ltb c 256) h
-  where
-    go : (b : Bool) → both b (small cs) ≡ true → small cs ≡ true
-    go true g = g
-    go false g = let z : _≡_ {A = ℕ} 0 1 = cc in absurd (omega arith)
+small-rest c cs h = both-second (ltb c 256) (small cs) h
 
 positive : (l : List ℕ) → 0 < coded l
 unfolding coded
@@ -91,10 +84,6 @@ pub special-coded : (name : List ℕ) → small (lowered name) ≡ true → spec
 unfolding specialOf codedSpecial small
 special-coded name h = numbered-coded 1 specialNames (lowered name) refl h
 
-both-no : (b : Bool) → both b false ≡ false
-both-no true = refl
-both-no false = refl
-
 -- no special register has more than four letters
 pub special-long : (name : List ℕ) → 4 < length name → specialOf name ≡ SpecialRegister.Not
 unfolding specialOf numbered lowered same
@@ -103,7 +92,7 @@ special-long (c ∷ []) h = absurd (omega arith)
 special-long (c ∷ d ∷ []) h = absurd (omega arith)
 special-long (c ∷ d ∷ e ∷ []) h = absurd (omega arith)
 special-long (c ∷ d ∷ e ∷ f ∷ []) h = absurd (omega arith)
-special-long (c ∷ d ∷ e ∷ f ∷ g ∷ gs) h = simp both-no
+special-long (c ∷ d ∷ e ∷ f ∷ g ∷ gs) h = simp both-false
 
 -- what the code of three letters leaves room for
 pub coded-short : (l : List ℕ) → length l < 4 → small l ≡ true → coded l < 2 ^ 25

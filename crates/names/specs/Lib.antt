@@ -1,12 +1,17 @@
--- What the leaves mean, in reading order.
+-- What the leaves mean.
+-- the definition
 pub mod Choice
 pub mod Kinds
 pub mod Tokens
 pub mod Places
 pub mod Letters
 pub mod Registers
-pub mod Reserved
-pub mod Codes
 pub mod Sizes
 pub mod Numbers
 pub mod Literals
+-- what is told
+pub mod Cases
+-- the laws
+pub mod Laws
+pub mod Reserved
+pub mod Codes

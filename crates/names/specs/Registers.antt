@@ -1,8 +1,8 @@
 -- What a name spells: a register, the program counter, a special or a suppressed register, a reserved name.
 -- Assumes nothing.
-use mathlib.Core.Bool.{Bool, true, false}
+use mathlib.Core.Bool.{Bool, false}
 use mathlib.Core.List.{List, [], _∷_}
-use Prim.Native.Nat.{ℕ, suc, _+_, _-_}
+use Prim.Native.Nat.{ℕ, _+_, _-_}
 use Prim.Native.String.{String}
 use lib.Dec.{leb, eqb}
 use Rattle.names.specs.Choice.{pick, both, either}

@@ -6,11 +6,12 @@ use mathlib.Core.List.{List, [], _∷_, _++_}
 use Prim.Native.Nat.{ℕ, zero, suc, _+_, _-_, _<_, _≤_}
 use Prim.Native.String.{String}
 use native.Mathlib.Omega.{arith}
-use borrow.Author.Tests.{eqb-true, eqb-false, ne-eqb, eq-eqb, le-leb, lt-leb, leb-true, leb-false}
+use borrow.Author.Tests.{eqb-true, ne-eqb, leb-true, leb-false}
 use lib.Dec.{leb, eqb}
 use Rattle.names.specs.Choice.{pick, both, either}
 use Rattle.names.specs.Letters.{bytes, lowered, same, spelled}
-use Rattle.names.specs.Registers.{pair, register, registerOf, programCounter, numbered, specialNames, specialOf, oneOf, reservedNames, reserved}
+use Rattle.names.specs.Laws.{both-false, either-assoc}
+use Rattle.names.specs.Registers.{pair, register, registerOf, programCounter, numbered, specialNames, specialOf, oneOf, reserved}
 use Rattle.names.specs.declared.registers.Reg.{Reg}
 use Rattle.names.specs.declared.registers.SpecialRegister.{SpecialRegister}
 
@@ -23,10 +24,6 @@ isSpecial (SpecialRegister.Is r) = true
 isSpecial SpecialRegister.Not = false
 
 -- ---- a list of words
-
-either-assoc : (a b c : Bool) → either (either a b) c ≡ either a (either b c)
-either-assoc true b c = refl
-either-assoc false b c = refl
 
 oneOf-append : (xs ys : List String) (l : List ℕ) → oneOf (xs ++ ys) l ≡ either (oneOf xs l) (oneOf ys l)
 unfolding oneOf
@@ -49,10 +46,6 @@ oneOf-numbered n (w ∷ ws) l = go (same l (bytes w)) (oneOf-numbered (n + 1) ws
 abbrev registerNames : List String
 registerNames =
     "d0" ∷ "d1" ∷ "d2" ∷ "d3" ∷ "d4" ∷ "d5" ∷ "d6" ∷ "d7" ∷ "a0" ∷ "a1" ∷ "a2" ∷ "a3" ∷ "a4" ∷ "a5" ∷ "a6" ∷ "a7" ∷ "sp" ∷ []
-
-both-no : (b : Bool) → both b false ≡ false
-both-no true = refl
-both-no false = refl
 
 -- the second letter is one of the eight digits
 abbrev digits : ℕ → Bool
@@ -137,9 +130,9 @@ pairs c d = data-bank (eqb c 100) refl
 registers : (l : List ℕ) → oneOf registerNames l ≡ isRegister (register l)
 unfolding oneOf same register
 registers [] = refl
-registers (c ∷ []) = simp both-no
+registers (c ∷ []) = simp both-false
 registers (c ∷ d ∷ []) = pairs c d
-registers (c ∷ d ∷ e ∷ es) = simp both-no
+registers (c ∷ d ∷ e ∷ es) = simp both-false
 
 -- a name is reserved just where it is a register, the program counter or a special register
 pub reserved-rule : (name : List ℕ) → reserved name ≡ either (isRegister (registerOf name)) (either (programCounter name) (isSpecial (specialOf name)))

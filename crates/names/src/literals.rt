@@ -1,7 +1,6 @@
 // Quoted literals.
 use crate::tokens::first;
 ghost use mathlib.Core.Path.{_≡_};
-ghost use Prim.Native.Nat.{_≤_};
 ghost use lib.ListN.{length};
 ghost use Rattle.names.specs.Literals.{Inner-told, literalBytes, Stored};
 

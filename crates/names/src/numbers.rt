@@ -5,7 +5,8 @@ use crate::tokens::behind_first;
 ghost use mathlib.Core.Path.{_≡_};
 ghost use Prim.Native.Nat.{_+_, _*_, _^_, min};
 ghost use lib.ListN.{drop};
-ghost use Rattle.names.specs.Numbers.{radixOf, width, figure, NextAsks, digitsOf, baseOf, numberOf};
+ghost use Rattle.names.specs.Numbers.{radixOf, width, figure, NextAsks, digitsOf, baseOf};
+ghost use Rattle.names.specs.Cases.{NumberTold};
 
 // How many bases there are.
 const BASES: u16 = 4;
@@ -122,7 +123,7 @@ fn parse_digits(base: NumberBase, digits: &[u8]) -> Number
 
 // What a number token of this detail and text is worth.
 pub fn parse_number(detail: u16, text: &[u8]) -> Number
-    ensures { λ r. ⌜ r ≡ numberOf detail (now (text .entry)) ⌝ }
+    ensures { λ r. ⌜ NumberTold detail (now (text .entry)) r ⌝ }
 {
     if BASES <= detail {
         return Number::Invalid;

@@ -4,8 +4,9 @@ use crate::letters::spells;
 use crate::letters::wide;
 use crate::tokens::behind_first;
 ghost use mathlib.Core.Path.{_≡_};
-ghost use Rattle.names.specs.Registers.{registerOf, pair, programCounter, specialOf, suppressedOf, reserved};
+ghost use Rattle.names.specs.Registers.{pair, programCounter, reserved};
 ghost use Rattle.names.specs.Codes.{codedSpecial};
+ghost use Rattle.names.specs.Cases.{RegisterTold, SpecialTold, SuppressedTold};
 
 pub enum Reg {
     Is(u8),
@@ -50,7 +51,7 @@ fn of_pair(bank: u8, digit: u8) -> Reg
 
 impl Reg {
     pub fn parse(name: &[u8]) -> Reg
-        ensures { λ r. ⌜ r ≡ registerOf (now (name .entry)) ⌝ }
+        ensures { λ r. ⌜ RegisterTold (now (name .entry)) r ⌝ }
     {
         if name.len() != 2 {
             return Reg::Not;
@@ -87,7 +88,7 @@ fn of_code(code: u64) -> SpecialRegister
 impl SpecialRegister {
     // No special register has a longer name than four letters; a shorter name is told by its code in one step.
     pub fn parse(name: &[u8]) -> SpecialRegister
-        ensures { λ r. ⌜ r ≡ specialOf (now (name .entry)) ⌝ }
+        ensures { λ r. ⌜ SpecialTold (now (name .entry)) r ⌝ }
     {
         if 4 < name.len() {
             return SpecialRegister::Not;
@@ -103,7 +104,7 @@ impl SpecialRegister {
 }
 
 pub fn suppressed_register(name: &[u8]) -> Suppressed
-    ensures { λ r. ⌜ r ≡ suppressedOf (now (name .entry)) ⌝ }
+    ensures { λ r. ⌜ SuppressedTold (now (name .entry)) r ⌝ }
 {
     if name.len() == 0 {
         return Suppressed::Not;

@@ -2,7 +2,8 @@
 use crate::letters::lower;
 use crate::tokens::behind_first;
 ghost use mathlib.Core.Path.{_≡_};
-ghost use Rattle.names.specs.Sizes.{runOf, sizeOf};
+ghost use Rattle.names.specs.Sizes.{runOf};
+ghost use Rattle.names.specs.Cases.{SizeTold};
 
 // A size, 1 to 4 in the order of the Rust's `SizeSuffix`: byte, word, long, short.
 pub enum SizeSuffix {
@@ -19,7 +20,7 @@ pub fn suffix_run(suffix: &[u8]) -> &[u8]
 
 impl SizeSuffix {
     pub fn from_run(run: &[u8]) -> SizeSuffix
-        ensures { λ r. ⌜ r ≡ sizeOf (now (run .entry)) ⌝ }
+        ensures { λ r. ⌜ SizeTold (now (run .entry)) r ⌝ }
     {
         if run.len() != 1 {
             return SizeSuffix::Not;

@@ -64,7 +64,7 @@ pub fn lent_token_at(bytes: &[u8], i: usize) -> Peeked
     })
 }
 
-// Whether a token's kind and detail are ones that document 01 defines.
+// Whether a token's kind and detail are ones that are defined (docs/FORMAT.md).
 pub fn detail_defined(kind: u16, detail: u16) -> bool
     ensures { λ r. ⌜ r ≡ detailDefined kind detail ⌝ }
 {

@@ -1,30 +1,30 @@
--- The buyer's conditions, as theorems over the definition. Each stands under the buyer's words; what they lean on is in Readings.antt and Fuel.antt.
+-- The buyer's conditions, as theorems over the definition. Words in quotes are document 01's; what the theorems lean on is in Readings.antt and Fuel.antt.
 -- Assumes nothing.
-use mathlib.Core.Path.{_≡_, refl, sym, _∙_, ap, ap₂}
+use mathlib.Core.Path.{_≡_, refl, _∙_, ap, ap₂}
 use mathlib.Core.Bool.{Bool, true, false, not}
 use mathlib.Core.List.{List, [], _∷_}
-use Prim.Native.Nat.{ℕ, suc, _+_, _*_, _/_, _%_, _≤_, _<_, max}
+use Prim.Native.Nat.{ℕ, suc, _+_, _*_, _/_, _%_, _≤_, _<_}
 use native.Mathlib.Omega.{arith}
 use borrow.Author.Tests.{ltb-false, not-false}
-use lib.Dec.{eqb, ltb}
-use lib.ListN.{length, take}
+use Rattle.names.specs.Laws.{either-second}
+use lib.Dec.{eqb}
+use lib.ListN.{length, take, drop, getD}
 use lib.Seq.{take-at, length-take-le}
-use Rattle.names.specs.Choice.{pick, both, either}
+use Rattle.names.specs.Choice.{both, either}
 use Rattle.names.specs.Kinds
 use Rattle.names.specs.Tokens.{count}
 use Rattle.names.specs.Places.{Place, nothing, stands, below}
+use Rattle.records.specs.DiagnosticKinds
 use Rattle.names.specs.declared.tokens.Token.{Token}
 use Rattle.expressions.specs.Trees.{Expr}
-use Rattle.records.specs.declared.diagnostics.Diagnostic.{Diagnostic}
-use Rattle.expressions.specs.Reader.{Reading, run, _>>=_}
+use Rattle.expressions.specs.Reader.{Reading, run}
 use Rattle.expressions.specs.Expressions.{fuel, parsePrefix, parseExpressionFrom}
 use Rattle.expressions.specs.Laws.{Every, Fine}
-use Rattle.expressions.specs.Costs.{true-false}
 use Rattle.expressions.specs.Fuel.{turn, fuel-enough, climb-equation}
 use Rattle.operand.specs.Operands.{RegisterListItem, Operand, Maybe, some, none}
 use Rattle.operand.specs.declared.forms.Register.{Register}
 use Rattle.expressions.specs.declared.reading.Setting.{Setting}
-use Rattle.operand.specs.Operand.{readingOf, listItem, nextItem, listLoop}
+use Rattle.operand.specs.Operand.{_>>=?_, readingOf, listItem, nextItem, listLoop, parseRegisterList}
 use Rattle.operand.specs.Records.{sizeM}
 use Rattle.operand.specs.Layout.{nodesLaid, diagnosticsLaid, operandRecord}
 use Rattle.operand.specs.Entry.{Input, placeOf, longestLine, mostTokens, nodeStore, freeRecords, goodTokens, lineAndList, startAndStores, conditions, firstOf, refusal, readingAt, refused, diagnosticsAfter, outcomeOf, outcome}
@@ -32,7 +32,7 @@ use Rattle.operand.specs.Readings as R
 use Rattle.operand.specs.Readings.{gap}
 use Rattle.operand.specs.Fuel.{list-equation}
 
--- "An input is valid if no refusal of the table applies to it."
+-- "An input is what a call lends and gives; it is valid if no refusal of the table applies to it."
 abbrev pub Valid : Input → Type 0
 Valid a = refusal a ≡ 0
 
@@ -48,16 +48,12 @@ none-holds n [] p h = tt
 none-holds n (true ∷ bs) p h = absurd (omega arith)
 none-holds n (false ∷ bs) p h = (refl, none-holds (n + 1) bs (omega arith) h)
 
-right-false : (b c : Bool) → either b c ≡ false → c ≡ false
-right-false true c h = absurd (true-false h)
-right-false false c h = h
-
 -- a list of at most 255 tokens, and a start within it
 pub valid-bounds : (a : Input) → Valid a → (count (a .tokens) ≤ 255) × (a .start ≤ count (a .tokens))
 unfolding refusal conditions lineAndList startAndStores mostTokens
 valid-bounds a v =
     let h = none-holds 1 (conditions a) (omega arith) v in
-    (ltb-false 255 (count (a .tokens)) (right-false (not (eqb (length (a .tokens) % 4) 0)) _ (h .1 .1 .0)), ltb-false (count (a .tokens)) (a .start) (h .1 .1 .1 .1 .0))
+    (ltb-false 255 (count (a .tokens)) (either-second (not (eqb (length (a .tokens) % 4) 0)) _ (h .1 .1 .0)), ltb-false (count (a .tokens)) (a .start) (h .1 .1 .1 .1 .0))
 
 -- a line of at most 255 bytes, over which each token is good
 pub valid-tokens : (a : Input) → Valid a → (length (a .line) ≤ 255) × (goodTokens (a .line) 0 (a .tokens) ≡ true)
@@ -78,14 +74,14 @@ module _ (limit : ℕ) (lim : 1 ≤ limit) (a : Input) where
 
   -- ---- condition 1
 
-  -- "the cursor neither goes back nor passes the end"
+  -- the cursor neither goes back nor passes the end
   pub cursor-bounds : Valid a → (a .start ≤ answered .cursor) × (answered .cursor ≤ count (a .tokens))
   cursor-bounds v = (
     R.forward limit (a .mark) (placeOf a) (a .start),
     R.within limit (a .mark) (placeOf a) (count (a .tokens)) (a .start) (λ j k x h. below (a .line) (a .tokens) j k x h) (valid-bounds a v .1),
   )
 
-  -- "No operand is never silent (unless the start is the end or an Error token stood from there on)."
+  -- no operand is never silent, unless the start is the end or an Error token stood from there on
   pub never-silent : (k : Token) (x : List ℕ) → placeOf a (a .start) ≡ stands k x
       → ((j : ℕ) (t : Token) (y : List ℕ) → a .start ≤ j → placeOf a j ≡ stands t y → eqb (t .kind) Kinds.error ≡ false)
       → answered .value ≡ none → 0 < length (answered .raised)
@@ -156,30 +152,68 @@ same-reading limit lim a b h =
     R.local limit lim (a .mark) (placeOf a) (a .start) (placeOf b) (h .places)
     ∙ ap₂ (λ m i. readingOf limit m (placeOf b) i) (h .mark) (h .start)
 
--- "What stands behind the cursor's token changes nothing: two valid inputs alike from the start through the cursor (one place further where there is no
--- operand) have the same answer." There is no exception.
+-- What stands behind the cursor's token changes nothing: two valid inputs alike from the start through the cursor (one place further where there is no
+-- operand) have the same answer. There is no exception.
 pub local : (limit : ℕ) → 1 ≤ limit → (a b : Input) → Valid a → Valid b
     → AlikeThrough a b (readingAt limit a .cursor + gap (readingAt limit a .value))
     → SameAnswer (readingAt limit a) (readingAt limit b)
 local limit lim a b va vb h = same-answer (same-reading limit lim a b h)
 
--- a diagnostic of kind 13 whose plus is the token at this place
-unfoldable pub plusAt : Place → List Diagnostic → Bool
-plusAt p [] = false
-plusAt nothing (d ∷ ds) = false
-plusAt (stands t x) (d ∷ ds) =
-    either (both (eqb (d .kind) 13) (both (eqb (d .span .start) (t .start)) (eqb (d .span .end) (t .end)))) (plusAt (stands t x) ds)
+-- ---- condition 3 with its exception
 
--- how far two inputs must be alike as the condition was first written: one place further too where a plus that is no unary operator stands at the cursor
-unfoldable pub asWritten : Input → Reading (Maybe Operand) → ℕ
-asWritten a r = r .cursor + max (gap (r .value)) (pick (plusAt (placeOf a (r .cursor)) (r .raised)) 1 0)
+-- the i-th of some diagnostic records
+abbrev pub recordAt : List ℕ → ℕ → List ℕ
+recordAt D i = take 10 (drop (10 * i) D)
 
--- the condition with that exception, which is never needed
-pub local-as-written : (limit : ℕ) → 1 ≤ limit → (a b : Input) → Valid a → Valid b → AlikeThrough a b (asWritten a (readingAt limit a))
-    → SameAnswer (readingAt limit a) (readingAt limit b)
-unfolding asWritten
-local-as-written limit lim a b va vb h =
-    local limit lim a b va vb (record { start = h .start; mark = h .mark; places = λ j x y. h .places j x (omega arith) })
+-- a record of kind 13, PlusIsNotAUnaryOperator, whose plus is the token at this place
+unfoldable pub plusAt : Place → List ℕ → Bool
+plusAt nothing x = false
+plusAt (stands t y) x = both (eqb (getD x 0 0) DiagnosticKinds.plusIsNotAUnaryOperator) (both (eqb (getD x 3 0) (t .start)) (eqb (getD x 4 0) (t .end)))
+
+-- the same record; or, where one is such a plus, the same in all but the kind, which is its first byte
+pub data SameButPlus (p : Place) (x y : List ℕ) : Type 0 where
+  same : x ≡ y → SameButPlus p x y
+  plus : either (plusAt p x) (plusAt p y) ≡ true → drop 1 x ≡ drop 1 y → SameButPlus p x y
+
+-- the same answers but for a kind 13 with its plus at this place
+pub record SameAnswerButPlus (p : Place) (r q : Reading (Maybe Operand)) : Type 0 where
+  pub operand : recordM (r .value) ≡ recordM (q .value)
+  pub cursor : r .cursor ≡ q .cursor
+  pub nodesUsed : sizeM (r .value) ≡ sizeM (q .value)
+  pub nodes : nodesLaid (r .value) ≡ nodesLaid (q .value)
+  pub added : length (r .raised) ≡ length (q .raised)
+  pub diagnostics : (i : ℕ) → SameButPlus p (recordAt (diagnosticsLaid (r .raised)) i) (recordAt (diagnosticsLaid (q .raised)) i)
+
+but-plus : (p : Place) {r q : Reading (Maybe Operand)} → SameAnswer r q → SameAnswerButPlus p r q
+but-plus p h = record {
+  operand = h .operand;
+  cursor = h .cursor;
+  nodesUsed = h .nodesUsed;
+  nodes = h .nodes;
+  added = h .added;
+  diagnostics = λ i. SameButPlus.same (ap (λ D. recordAt D i) (h .diagnostics));
+}
+
+-- a reading looks at most one place past its cursor
+gap-one : (v : Maybe Operand) → gap v ≤ 1
+unfolding gap
+gap-one (some x) = omega arith
+gap-one none = omega arith
+
+-- what two inputs have in common through a place they have through every earlier one
+pub alike-before : {a b : Input} {m n : ℕ} → m ≤ n → AlikeThrough a b n → AlikeThrough a b m
+alike-before le h = record { start = h .start; mark = h .mark; places = λ j x y. h .places j x (omega arith) }
+
+-- Condition 3 as it is asked for: of two valid inputs alike through the cursor (one place further where there is no operand) the answers are the same but for
+-- a kind 13 with its plus at the cursor, which is the same in all but its kind; of two alike one token further they are the same without exception.
+-- `local` gives more: the exception is never needed, since such a plus stands before the cursor (`plus-before-cursor`).
+pub two-readings : (limit : ℕ) → 1 ≤ limit → (a b : Input) → Valid a → Valid b
+    → (AlikeThrough a b (readingAt limit a .cursor + gap (readingAt limit a .value)) → SameAnswerButPlus (placeOf a (readingAt limit a .cursor)) (readingAt limit a) (readingAt limit b))
+    × (AlikeThrough a b (readingAt limit a .cursor + 1) → SameAnswer (readingAt limit a) (readingAt limit b))
+two-readings limit lim a b va vb = (
+  (λ h. but-plus _ (local limit lim a b va vb h)),
+  λ h. local limit lim a b va vb (alike-before (omega (arith, gap-one (readingAt limit a .value))) h),
+)
 
 -- ---- what stays
 
@@ -205,6 +239,12 @@ fuel-never-decides a v room min left i l =
     climb-equation (placeOf a) (count (a .tokens)) (λ j k x h. below (a .line) (a .tokens) j k x h) (omega (arith, valid-bounds a v .0, fuel-enough)) room min left i l
 
 pub list-fuel-never-decides : (a : Input) → Valid a → (s : Setting) (items : List RegisterListItem) (r : Register) (i l : ℕ)
-    → run (listLoop fuel s items r) (placeOf a) i l ≡ run (listItem r >>= nextItem (listLoop fuel s) s items) (placeOf a) i l
+    → run (listLoop fuel s items r) (placeOf a) i l ≡ run (listItem r >>=? nextItem (listLoop fuel s) s items) (placeOf a) i l
 list-fuel-never-decides a v s items r i l =
     list-equation (placeOf a) (count (a .tokens)) (λ j k x h. below (a .line) (a .tokens) j k x h) (omega (arith, valid-bounds a v .0, fuel-enough)) s items r i l
+
+-- so a list is read as its loop says, however long it is
+pub list-loops : (a : Input) → Valid a → (s : Setting) (r : Register) (i l : ℕ)
+    → run (parseRegisterList s r) (placeOf a) i l ≡ run (listItem r >>=? nextItem (listLoop fuel s) s []) (placeOf a) i l
+unfolding parseRegisterList
+list-loops a v s r i l = list-fuel-never-decides a v s [] r i l

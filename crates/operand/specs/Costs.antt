@@ -7,8 +7,8 @@ pub mod Indexes
 pub mod Bases
 pub mod Full
 pub mod Memory
-pub mod Expressions
-pub mod Parenthesised
+pub mod Absolutes
+pub mod Parentheses
 use mathlib.Core.Path.{_≡_}
 use mathlib.Core.Bool.{true}
 use mathlib.Core.List.{List}
@@ -32,8 +32,8 @@ pub use Indexes.{index-cost}
 use Bases.{predecrement-cost}
 pub use Full.{registers-cost}
 pub use Memory.{displacement-cost, inner-cost, outer-cost}
-use Expressions.{expression-operand-cost, signed-operand-cost}
-use Parenthesised.{parenthesised-operand-cost}
+use Absolutes.{expression-operand-cost, signed-operand-cost}
+use Parentheses.{parenthesised-operand-cost}
 
 module _ (at : ℕ → Place) (w : ℕ) (clean : Clean at w) where
   minus-cost : (z : Setting) (a : Token) (x : List ℕ) (i l d r : ℕ) → 1 ≤ z .limit → at i ≡ stands a x → eqb (a .kind) Kinds.minus ≡ true → r ≤ i

@@ -1,10 +1,12 @@
--- The call of document 01: what is lent and given, the refusals, and what comes back, with every byte of both stores.
+-- The call: what is lent and given, the refusals, and what comes back, with every byte of both stores.
 -- Assumes nothing.
 use mathlib.Core.Path.{_≡_, refl}
 use mathlib.Core.Bool.{Bool, true, false, not}
 use mathlib.Core.List.{List, [], _∷_, _++_}
 use Prim.Native.Nat.{ℕ, zero, suc, _+_, _-_, _*_, _/_, _%_}
 use Prim.Native.String.{String}
+use native.Mathlib.Omega.{arith}
+use borrow.Author.Tests.{ne-eqb}
 use lib.Dec.{eqb, leb, ltb}
 use lib.ListN.{length, take, drop, replicate}
 use Rattle.names.specs.Choice.{pick, both, either}
@@ -13,11 +15,12 @@ use Rattle.names.specs.Tokens.{count, detailDefined}
 use Rattle.names.specs.Places.{Place, place, textOf}
 use Rattle.names.specs.Letters.{bytes, same}
 use Rattle.expressions.specs.Reader.{Reading}
+use Rattle.operand.specs.RefusalNumbers
 use Rattle.operand.specs.Operands.{Operand, Maybe, some, none}
 use Rattle.operand.specs.Operand.{readingOf}
 use Rattle.operand.specs.Records.{sizeM}
 use Rattle.operand.specs.Forms.{maskO}
-use Rattle.operand.specs.Layout.{nodesLaid, diagnosticsLaid, operandRecord}
+use Rattle.operand.specs.Layout.{nodesLaid, diagnosticsLaid, operandRecord, operandNumber, noOperandNumber, refusedNumber}
 
 -- what a call lends and gives: a line, four-byte tokens, a start, a symbol mark, a node store, a diagnostic list with its used count
 pub record Input : Type 0 where
@@ -143,7 +146,20 @@ firstOf n (b ∷ bs) = pick b n (firstOf (n + 1) bs)
 
 -- the number of the refusal, 0 for none
 unfoldable pub refusal : Input → ℕ
-refusal a = firstOf 1 (conditions a)
+refusal a = firstOf RefusalNumbers.longLine (conditions a)
+
+-- the table: each refusal by its name
+pub refusal-named : (a : Input)
+    → refusal a
+    ≡ pick (ltb longestLine (length (a .line))) RefusalNumbers.longLine
+    (pick (foreign (a .line)) RefusalNumbers.foreignByte
+    (pick (either (not (eqb (length (a .tokens) % 4) 0)) (ltb mostTokens (count (a .tokens)))) RefusalNumbers.badList
+    (pick (not (goodTokens (a .line) 0 (a .tokens))) RefusalNumbers.badToken
+    (pick (ltb (count (a .tokens)) (a .start)) RefusalNumbers.badStart
+    (pick (ltb (length (a .nodes)) nodeStore) RefusalNumbers.shortNodes
+    (pick (ltb (length (a .diagnostics) / 10) (a .used + freeRecords)) RefusalNumbers.shortDiagnostics 0))))))
+unfolding refusal conditions lineAndList startAndStores firstOf
+refusal-named a = refl
 
 -- ---- the answer
 
@@ -152,6 +168,12 @@ pub data Answer : Type 0 where
   operand : List ℕ → ℕ → ℕ → ℕ → ℕ → Answer
   noOperand : ℕ → ℕ → Answer
   refused : ℕ → Answer
+
+-- document 01's number of each case
+unfoldable pub answerNumber : Answer → ℕ
+answerNumber (operand x cursor n d mask) = operandNumber
+answerNumber (noOperand cursor d) = noOperandNumber
+answerNumber (refused k) = refusedNumber
 
 -- the answer, and both stores afterwards
 pub record Outcome : Type 0 where
@@ -184,3 +206,23 @@ outcomeOf limit a (suc k) = record { answer = refused (suc k); nodes = a .nodes;
 
 unfoldable pub outcome : ℕ → Input → Outcome
 outcome limit a = outcomeOf limit a (refusal a)
+
+-- the number of the case, by the refusal and by what is read
+unfoldable pub readNumber : Maybe Operand → ℕ
+readNumber (some x) = operandNumber
+readNumber none = noOperandNumber
+
+unfoldable pub outcomeNumber : ℕ → Input → ℕ
+outcomeNumber limit a = pick (eqb (refusal a) 0) (readNumber (readingAt limit a .value)) refusedNumber
+
+pub outcome-number : (limit : ℕ) (a : Input) → answerNumber (outcome limit a .answer) ≡ outcomeNumber limit a
+unfolding answerNumber answerOf outcome outcomeOf readNumber outcomeNumber
+outcome-number limit a = go (refusal a)
+  where
+    at : (r : Reading (Maybe Operand)) (v : Maybe Operand) → answerNumber (answerOf r v) ≡ readNumber v
+    at r (some x) = refl
+    at r none = refl
+
+    go : (k : ℕ) → answerNumber (outcomeOf limit a k .answer) ≡ pick (eqb k 0) (readNumber (readingAt limit a .value)) refusedNumber
+    go zero = at (readingAt limit a) (readingAt limit a .value)
+    go (suc k) = rw (ne-eqb (suc k) 0 (λ e. omega arith))

@@ -1,18 +1,18 @@
 -- The fuel of the register list never decides.
 -- Assumes nothing.
-use mathlib.Core.Path.{_≡_, refl, _∙_, ap}
+use mathlib.Core.Path.{_≡_, _∙_, ap}
 use mathlib.Core.List.{List, [], _∷_, _++_}
 use Prim.Native.Nat.{ℕ, zero, suc, _+_, _≤_, _<_}
 use native.Mathlib.Omega.{arith}
 use Rattle.names.specs.Places.{Place, stands}
 use Rattle.names.specs.declared.tokens.Token.{Token}
 use Rattle.expressions.specs.declared.reading.Setting.{Setting}
-use Rattle.expressions.specs.Reader.{Reader, Reading, after, answer, bind, _>>=_, run}
+use Rattle.expressions.specs.Reader.{Reader, after, answer, bind, run}
 use Rattle.expressions.specs.Expressions.{fuel}
 use Rattle.expressions.specs.Fuel.{Alike, same-alike, flip, bind-alike, bump-alike, bump-past}
-use Rattle.operand.specs.Operands.{RegisterListItem, single, Operand, Maybe, some, none}
+use Rattle.operand.specs.Operands.{RegisterListItem, single, some, none}
 use Rattle.operand.specs.declared.forms.Register.{Register}
-use Rattle.operand.specs.Operand.{registerFrom, listItem, listed, nextItem, listLoop}
+use Rattle.operand.specs.Operand.{orNone, _>>=?_, listItem, listed, nextItem, listLoop}
 
 then : {A : Type 0} {at : ℕ → Place} {i l : ℕ} {p q r : Reader A} → Alike at i l p q → Alike at i l q r → Alike at i l p r
 then f g = record { same = f .same ∙ g .same }
@@ -25,14 +25,14 @@ answer-bind {at = at} {i = i} {l = l} {f = f} b h = record { same = ap (λ r. af
 module _ (at : ℕ → Place) (count : ℕ) (ends : (j : ℕ) (k : Token) (x : List ℕ) → at j ≡ stands k x → j < count) (s : Setting) where
   -- past the tokens the list ends
   list-past : (g : ℕ) (items : List RegisterListItem) (r : Register) (i l : ℕ) → count ≤ i
-      → Alike at i l (listItem r >>= nextItem (listLoop g s) s items) (listed s (items ++ (single r ∷ [])))
-  unfolding listItem nextItem
+      → Alike at i l (listItem r >>=? nextItem (listLoop g s) s items) (listed s (items ++ (single r ∷ [])))
+  unfolding listItem nextItem orNone
   list-past g items r i l h =
       then (answer-bind (some (single r)) (bump-past (λ k x e. omega (arith, ends i k x e)))) (bump-past (λ k x e. omega (arith, ends i k x e)))
 
   list-fuel : (f g : ℕ) (items : List RegisterListItem) (r : Register) (i l : ℕ) → count ≤ f + i → count ≤ g + i
       → Alike at i l (listLoop f s items r) (listLoop g s items r)
-  unfolding listLoop nextItem
+  unfolding listLoop nextItem orNone
   list-fuel zero zero items r i l a b = same-alike
   list-fuel zero (suc g) items r i l a b = flip (list-past g items r i l (omega arith))
   list-fuel (suc f) zero items r i l a b = list-past f items r i l (omega arith)
@@ -46,6 +46,6 @@ module _ (at : ℕ → Place) (count : ℕ) (ends : (j : ℕ) (k : Token) (x : L
 -- the list loop satisfies its own equation, for every list that has no more tokens than the fuel
 pub list-equation : (at : ℕ → Place) (count : ℕ) → ((j : ℕ) (k : Token) (x : List ℕ) → at j ≡ stands k x → j < count) → count ≤ fuel
     → (s : Setting) (items : List RegisterListItem) (r : Register) (i l : ℕ)
-    → run (listLoop fuel s items r) at i l ≡ run (listItem r >>= nextItem (listLoop fuel s) s items) at i l
+    → run (listLoop fuel s items r) at i l ≡ run (listItem r >>=? nextItem (listLoop fuel s) s items) at i l
 unfolding listLoop
 list-equation at count ends few s items r i l = list-fuel at count ends s fuel (suc fuel) items r i l (omega arith) (omega arith) .same

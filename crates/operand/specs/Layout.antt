@@ -1,4 +1,4 @@
--- Document 01's bytes: how the numbers of a reading are laid out.
+-- The bytes of docs/FORMAT.md: how the numbers of a reading are laid out.
 -- Assumes nothing.
 use mathlib.Core.List.{List, [], _∷_, _++_}
 use Prim.Native.Nat.{ℕ, zero, suc, _+_, _*_, _%_}
@@ -88,8 +88,18 @@ operandRecord x = bytesOf (recordOf x)
 
 -- ---- the program's answer
 
--- 0 for an operand or 1 for none, the cursor, the nodes used, the diagnostics (two bytes, low first), and the records
+-- its first byte, by the case: "00 operand or 01 none .. or 02 and the refusal"
+abbrev pub operandNumber : ℕ
+operandNumber = 0
+
+abbrev pub noOperandNumber : ℕ
+noOperandNumber = 1
+
+abbrev pub refusedNumber : ℕ
+refusedNumber = 2
+
+-- the case's number, the cursor, the nodes used, the diagnostics (two bytes, low first), and the records
 unfoldable pub answerLine : Reading (Maybe Operand) → Maybe Operand → List ℕ
 answerLine r (some x) =
-    0 ∷ r .cursor ∷ sizeO x ∷ (lowFirst 2 (length (r .raised)) ++ (operandRecord x ++ (nodesLaid (some x) ++ diagnosticsLaid (r .raised))))
-answerLine r none = 1 ∷ r .cursor ∷ 0 ∷ (lowFirst 2 (length (r .raised)) ++ diagnosticsLaid (r .raised))
+    operandNumber ∷ r .cursor ∷ sizeO x ∷ (lowFirst 2 (length (r .raised)) ++ (operandRecord x ++ (nodesLaid (some x) ++ diagnosticsLaid (r .raised))))
+answerLine r none = noOperandNumber ∷ r .cursor ∷ 0 ∷ (lowFirst 2 (length (r .raised)) ++ diagnosticsLaid (r .raised))

@@ -1,18 +1,23 @@
--- What reading an operand means, in reading order.
+-- What reading an operand means.
+-- the definition
 pub mod Operands
 pub mod Operand
 pub mod Records
 pub mod Mask
+pub mod FormNumbers
 pub mod Forms
 pub mod Layout
+pub mod RefusalNumbers
 pub mod Entry
+-- the laws
+pub mod Conditions
+pub mod Trials
+pub mod Readings
 pub mod Listed
 pub mod Costs
-pub mod Readings
 pub mod Fuel
 pub mod Marks
-pub mod Conditions
 pub mod Offsets
 pub mod Numbering
 pub mod Lengths
-pub mod Trials
+pub mod MaskRule

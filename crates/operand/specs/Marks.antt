@@ -13,10 +13,11 @@ use Rattle.names.specs.Places.{Place, nothing, stands, place, below}
 use Rattle.names.specs.Registers.{suppressedOf}
 use Rattle.names.specs.declared.tokens.Token.{Token}
 use Rattle.names.specs.declared.registers.Suppressed.{Suppressed}
+use Rattle.records.specs.Shapes
 use Rattle.records.specs.declared.spans.Span.{Span}
 use Rattle.expressions.specs.Trees.{Expr}
-use Rattle.expressions.specs.Reader.{Test, Reading, Reader, bind, here, bump, peek, run}
-use Rattle.expressions.specs.Expressions.{Term, read, reported, absent, Suffix, suffixed, bare, fuel}
+use Rattle.expressions.specs.Reader.{Test, Reading, Reader, bind, _>>=_, here, bump, peek, run}
+use Rattle.expressions.specs.Expressions.{Term, read, reported, absent, Suffix, suffixed, bare}
 use Rattle.expressions.specs.Laws.{holds, met-one, met-yes, met-no}
 use Rattle.expressions.specs.Fuel.{Alike, same-alike, bind-alike, bump-alike}
 use Rattle.expressions.specs.declared.reading.Setting.{Setting}
@@ -26,6 +27,8 @@ use Rattle.operand.specs.declared.forms.IndexRegister.{IndexRegister}
 use Rattle.operand.specs.declared.forms.BaseRegister.{BaseRegister}
 use Rattle.operand.specs.declared.forms.Index.{Index}
 use Rattle.operand.specs.Operand
+use Rattle.operand.specs.Entry.{Input, call, placeOf, conditions, refusal, readingAt, answerOf, nodesAfter, diagnosticsAfter, outcomeOf, outcome}
+use Rattle.operand.specs.Operand.{_>>=?_}
 
 -- ---- two tests that agree on what stands there
 
@@ -72,22 +75,22 @@ here-same h = record { same = h .same }
 path-alike : {A : Type 0} {at : ℕ → Place} {i l : ℕ} {p q : Reader A} → p ≡ q → Alike at i l p q
 path-alike {at = at} {i = i} {l = l} e = record { same = ap (λ r. run r at i l) e }
 
--- ---- what goes on with an answer: with an option, a size, a term
+-- ---- what goes on with an answer: with what was read, a size, an expression
 
-maybe-alike : {A B : Type 0} {at : ℕ → Place} {i l : ℕ} {p q : Reader (Maybe B)} {f g : Maybe B → Reader A}
-    → Alike at i l p q → ((j m : ℕ) (b : B) → Alike at j m (f (some b)) (g (some b))) → f none ≡ g none
-    → Alike at i l (bind p f) (bind q g)
-maybe-alike h k z = bind-alike h λ j m. elim [ some b ↦ λ e. k j m b | none ↦ λ e. path-alike z ]
+try-alike : {A B : Type 0} {at : ℕ → Place} {i l : ℕ} {p q : Reader (Maybe B)} {f g : B → Reader (Maybe A)}
+    → Alike at i l p q → ((j m : ℕ) (b : B) → Alike at j m (f b) (g b)) → Alike at i l (p >>=? f) (q >>=? g)
+unfolding Operand.orNone
+try-alike h k = bind-alike h λ j m. elim [ some b ↦ λ e. k j m b | none ↦ λ e. same-alike ]
 
 size-alike : {A : Type 0} {at : ℕ → Place} {i l : ℕ} {p : Reader Suffix} {f g : Suffix → Reader A}
     → ((n : ℕ) (w : Span) → f (suffixed n w) ≡ g (suffixed n w)) → f bare ≡ g bare
     → Alike at i l (bind p f) (bind p g)
 size-alike h z = bind-alike same-alike λ j m. elim [ suffixed n w ↦ λ e. path-alike (h n w) | bare ↦ λ e. path-alike z ]
 
-term-alike : {A : Type 0} {at : ℕ → Place} {i l : ℕ} {p : Reader Term} {f g : Term → Reader A}
-    → ((j m : ℕ) (e : Expr) → Alike at j m (f (read e)) (g (read e))) → f reported ≡ g reported → f absent ≡ g absent
-    → Alike at i l (bind p f) (bind p g)
-term-alike h y z = bind-alike same-alike λ j m. elim [ read e ↦ λ q. h j m e | reported ↦ λ q. path-alike y | absent ↦ λ q. path-alike z ]
+expression-alike : {A : Type 0} {at : ℕ → Place} {i l : ℕ} {r : Reader Term} {p q : Reader (Maybe A)} {f g : Expr → Reader (Maybe A)}
+    → ((j m : ℕ) (e : Expr) → Alike at j m (f e) (g e)) → p ≡ q → Alike at i l (r >>= Operand.orAbsent p f) (r >>= Operand.orAbsent q g)
+unfolding Operand.orAbsent
+expression-alike h z = bind-alike same-alike λ j m. elim [ read e ↦ λ b. h j m e | reported ↦ λ b. same-alike | absent ↦ λ b. path-alike z ]
 
 -- ---- two marks that agree wherever a token stands
 
@@ -119,18 +122,18 @@ module _ (at : ℕ → Place) (limit start m n : ℕ) (agree : (i : ℕ) (k : To
   -- ---- immediates and lists, which never look at the mark
 
   immediate : (k : Token) (i l : ℕ) → Alike at i l (Operand.parseImmediate s k) (Operand.parseImmediate t k)
-  unfolding Operand.parseImmediate Operand.immediateValue Operand.immediateSize Operand.malformed
-  immediate k i l = term-alike (λ j m e. size-alike (λ z w. refl) refl) refl refl
+  unfolding Operand.parseImmediate Operand.immediateSize Operand.malformed
+  immediate k i l = expression-alike (λ j m e. size-alike (λ z w. refl) refl) refl
 
   list-loop : (f : ℕ) (items : List RegisterListItem) (r : Register) (i l : ℕ) → Alike at i l (Operand.listLoop f s items r) (Operand.listLoop f t items r)
   unfolding Operand.listLoop Operand.nextItem Operand.listed
   list-loop zero items r i l = same-alike
   list-loop (suc f) items r i l =
-      maybe-alike same-alike (λ j m x. bump-alike (λ k y e q. bump-alike (λ c z e₂ q₂. list-loop f (items ++ (x ∷ [])) (Operand.registerFrom c z) _ _) same-alike) same-alike) refl
+      try-alike same-alike λ j m x. bump-alike (λ k y e q. bump-alike (λ c z e₂ q₂. list-loop f (items ++ (x ∷ [])) (Operand.registerFrom c z) _ _) same-alike) same-alike
 
   register-operand : (r : Register) (i l : ℕ) → Alike at i l (Operand.parseRegisterOperand s r) (Operand.parseRegisterOperand t r)
   unfolding Operand.parseRegisterOperand Operand.parseRegisterList
-  register-operand r i l = peek-alike (λ k x. list-loop fuel [] r i l) same-alike
+  register-operand r i l = peek-alike (λ k x. list-loop _ [] r i l) same-alike
 
   -- ---- indexes
 
@@ -152,8 +155,8 @@ module _ (at : ℕ → Place) (limit start m n : ℕ) (agree : (i : ℕ) (k : To
 
   comma-index : (k : Token) (shape : ℕ) (b : BaseRegister) (d : Displacement) (f : IndexRegister → Span → Operand) (i l : ℕ)
       → Alike at i l (Operand.baseAndIndex s k shape b d f) (Operand.baseAndIndex t k shape b d f)
-  unfolding Operand.closedIndex Operand.indexedOperand Operand.expectClose Operand.unclosed
-  comma-index k shape b d f i l = maybe-alike (index-register shape i l) (λ j m x. maybe-alike same-alike (λ j₂ m₂ e. same-alike) refl) refl
+  unfolding Operand.expectClose Operand.unclosed
+  comma-index k shape b d f i l = try-alike (index-register shape i l) λ j m x. same-alike
 
   closed-base : (r : Register) (d : Displacement) (k : Token) (i l : ℕ) → Alike at i l (Operand.closedBase s r d k) (Operand.closedBase t r d k)
   unfolding Operand.closedBase
@@ -168,8 +171,8 @@ module _ (at : ℕ → Place) (limit start m n : ℕ) (agree : (i : ℕ) (k : To
   base-and-index : (p : Token) (d : Displacement) (i l : ℕ) → Alike at i l (Operand.parseBaseAndIndex s p d) (Operand.parseBaseAndIndex t p d)
   unfolding Operand.parseBaseAndIndex Operand.afterBase Operand.afterCounter Operand.unclosed Operand.notAnAddressRegister
   base-and-index p d i l =
-      bump-alike (λ k x e q. bump-alike (λ c y e₂ q₂. closed-base _ d c _ _) (bump-alike (λ c y e₂ q₂. comma-index p 6 _ d _ _ _) same-alike))
-      (bump-alike (λ k x e q. bump-alike (λ c y e₂ q₂. closed-counter d c _ _) (bump-alike (λ c y e₂ q₂. comma-index p 8 _ d _ _ _) same-alike))
+      bump-alike (λ k x e q. bump-alike (λ c y e₂ q₂. closed-base _ d c _ _) (bump-alike (λ c y e₂ q₂. comma-index p Shapes.index _ d _ _ _) same-alike))
+      (bump-alike (λ k x e q. bump-alike (λ c y e₂ q₂. closed-counter d c _ _) (bump-alike (λ c y e₂ q₂. comma-index p Shapes.pcIndex _ d _ _ _) same-alike))
       same-alike)
 
   -- ---- the full index
@@ -203,24 +206,24 @@ module _ (at : ℕ → Place) (limit start m n : ℕ) (agree : (i : ℕ) (k : To
       (peek-alike (λ k x. peek-alike (λ k x. hit) miss) (peek-alike (λ k x. peek-alike (λ k x. hit) miss) miss)))
 
   full-index : (p : Token) (d : Displacement) (i l : ℕ) → Alike at i l (Operand.parseFullIndex s p d) (Operand.parseFullIndex t p d)
-  unfolding Operand.parseFullIndex Operand.closedRegisters Operand.fullIndexed Operand.expectClose Operand.unclosed
-  full-index p d i l = maybe-alike (base-and-index-registers 6 i l) (λ j m r. maybe-alike same-alike (λ j₂ m₂ e. same-alike) refl) refl
+  unfolding Operand.parseFullIndex Operand.expectClose Operand.unclosed
+  full-index p d i l = try-alike (base-and-index-registers Shapes.index i l) λ j m r. same-alike
 
   -- ---- memory indirect
 
   sized-displacement : (i l : ℕ) → Alike at i l (Operand.parseSizedDisplacement s) (Operand.parseSizedDisplacement t)
-  unfolding Operand.parseSizedDisplacement Operand.displacementValue Operand.steppedOver Operand.malformed
-  sized-displacement i l = term-alike (λ j m e. same-alike) refl refl
+  unfolding Operand.parseSizedDisplacement Operand.steppedOver Operand.malformed
+  sized-displacement i l = expression-alike (λ j m e. same-alike) refl
 
   with-registers : (d : Displacement) (i l : ℕ) → Alike at i l (Operand.withRegisters s d) (Operand.withRegisters t d)
-  with-registers d i l = bind-alike (base-and-index-registers 9 i l) λ j m z h. same-alike
+  with-registers d i l = bind-alike (base-and-index-registers Shapes.memoryIndirect i l) λ j m z h. same-alike
 
   inner : (i l : ℕ) → Alike at i l (Operand.parseInner s) (Operand.parseInner t)
   unfolding Operand.parseInner Operand.innerDisplaced
   inner i l =
       here-same (peek-alike (λ k x. same-alike)
       (peek-same 0 (λ k x h. base-or-index-same i k x (sym (at-zero i) ∙ h)) (λ k x. with-registers _ i l)
-      (maybe-alike (sized-displacement i l) (λ j m d. bump-alike (λ c x e q. with-registers d _ _) same-alike) refl)))
+      (try-alike (sized-displacement i l) λ j m d. bump-alike (λ c x e q. with-registers d _ _) same-alike)))
 
   outer-displacement : (x : Index) (z i l : ℕ) → Alike at i l (Operand.outerDisplacement s x z) (Operand.outerDisplacement t x z)
   outer-displacement x z i l = bind-alike (sized-displacement i l) λ j m d h. same-alike
@@ -228,8 +231,7 @@ module _ (at : ℕ → Place) (limit start m n : ℕ) (agree : (i : ℕ) (k : To
   outer-index : (x : Index) (i l : ℕ) → Alike at i l (Operand.outerIndex s x) (Operand.outerIndex t x)
   unfolding Operand.outerIndex Operand.outerIndexed Operand.steppedOver Operand.malformed
   outer-index (Index.Indexed x) i l = same-alike
-  outer-index Index.Unindexed i l =
-      maybe-alike (index-register 9 i l) (λ j m x. bump-alike (λ c y e q. outer-displacement _ 2 _ _) same-alike) refl
+  outer-index Index.Unindexed i l = try-alike (index-register Shapes.memoryIndirect i l) λ j m x. bump-alike (λ c y e q. outer-displacement _ 2 _ _) same-alike
 
   outer : (x : Index) (i l : ℕ) → Alike at i l (Operand.parseOuter s x) (Operand.parseOuter t x)
   unfolding Operand.parseOuter
@@ -238,11 +240,9 @@ module _ (at : ℕ → Place) (limit start m n : ℕ) (agree : (i : ℕ) (k : To
       same-alike
 
   memory-indirect : (p : Token) (i l : ℕ) → Alike at i l (Operand.parseMemoryIndirect s p) (Operand.parseMemoryIndirect t p)
-  unfolding Operand.parseMemoryIndirect Operand.innerClosed Operand.outerClosed Operand.memoryIndirect Operand.expectClose Operand.unclosed
+  unfolding Operand.parseMemoryIndirect Operand.expectClose Operand.unclosed
   memory-indirect p i l =
-      maybe-alike (inner i l)
-      (λ j m x. bump-alike (λ c y e q. maybe-alike (outer _ _ _) (λ j₂ m₂ u. maybe-alike same-alike (λ j₃ m₃ e. same-alike) refl) refl) same-alike)
-      refl
+      try-alike (inner i l) λ j m x. bump-alike (λ c y e q. try-alike (outer _ _ _) λ j₂ m₂ u. same-alike) same-alike
 
   -- ---- expressions
 
@@ -256,8 +256,8 @@ module _ (at : ℕ → Place) (limit start m n : ℕ) (agree : (i : ℕ) (k : To
   tail e i l f g h = bump-alike (λ k x c q. base-and-index k _ _ _) h
 
   expression-operand : (i l : ℕ) → Alike at i l (Operand.parseExpressionOperand s) (Operand.parseExpressionOperand t)
-  unfolding Operand.parseExpressionOperand Operand.expressionOperand Operand.noExpression
-  expression-operand i l = term-alike (λ j m e. tail e j m _ _ (finish e j m)) refl refl
+  unfolding Operand.parseExpressionOperand Operand.noExpression
+  expression-operand i l = expression-alike (λ j m e. tail e j m _ _ (finish e j m)) refl
 
   -- ---- parentheses
 
@@ -274,8 +274,8 @@ module _ (at : ℕ → Place) (limit start m n : ℕ) (agree : (i : ℕ) (k : To
       (peek-alike (λ k x. peek-alike (λ c y. bind-alike same-alike λ j m z h. sized-base p e z j m) same-alike) same-alike))
 
   parenthesised : (p : Token) (i l : ℕ) → Alike at i l (Operand.parenthesised s p) (Operand.parenthesised t p)
-  unfolding Operand.parenthesised Operand.parenthesisedExpression
-  parenthesised p i l = term-alike (λ j m e. after-expression p e j m) refl refl
+  unfolding Operand.parenthesised
+  parenthesised p i l = expression-alike (λ j m e. after-expression p e j m) refl
 
   parenthesised-operand : (p : Token) (i l : ℕ) → Alike at i l (Operand.parseParenthesisedOperand s p) (Operand.parseParenthesisedOperand t p)
   unfolding Operand.parseParenthesisedOperand Operand.startsABase
@@ -302,10 +302,54 @@ pub reading-same : (at : ℕ → Place) (limit m n : ℕ) → ((i : ℕ) (k : To
 unfolding Operand.readingOf Operand.parseOperand
 reading-same at limit m n agree i = peek-alike {at = at} {i = i} {l = 0} (λ k x. operand-from at limit (k .start) m n agree i 0) same-alike .same
 
+-- two marks at or past the token count agree so
+past-agree : (L T : List ℕ) (m n : ℕ) → count T ≤ m → count T ≤ n → (i : ℕ) (k : Token) (x : List ℕ) → place L T i ≡ stands k x → eqb m i ≡ eqb n i
+past-agree L T m n past past′ i k x e = go (below L T i k x e)
+  where
+    go : i < count T → eqb m i ≡ eqb n i
+    go less = ne-eqb m i (omega arith) ∙ sym (ne-eqb n i (omega arith))
+
 -- "one at or past the token count means none": any two such marks give the same reading
 pub marks-past : (limit : ℕ) (L T : List ℕ) (m n : ℕ) → count T ≤ m → count T ≤ n
     → (i : ℕ) → Operand.readingOf limit m (place L T) i ≡ Operand.readingOf limit n (place L T) i
-marks-past limit L T m n past past′ i = reading-same (place L T) limit m n (λ j k x e. go j (below L T j k x e)) i
+marks-past limit L T m n past past′ i = reading-same (place L T) limit m n (past-agree L T m n past past′) i
+
+-- ---- of a whole call
+
+-- the same input with another mark
+abbrev pub remarked : Input → ℕ → Input
+remarked a n = call (a .line) (a .tokens) (a .start) n (a .nodes) (a .diagnostics) (a .used)
+
+-- both marks agree wherever a token stands
+abbrev pub MarksAgree : Input → ℕ → Type 0
+MarksAgree a n = (i : ℕ) (k : Token) (x : List ℕ) → placeOf a i ≡ stands k x → eqb (a .mark) i ≡ eqb n i
+
+-- both are at or past the token count
+abbrev pub MarksPast : Input → ℕ → Type 0
+MarksPast a n = (count (a .tokens) ≤ a .mark) × (count (a .tokens) ≤ n)
+
+pub marks-agree : (a : Input) (n : ℕ) → MarksPast a n → MarksAgree a n
+marks-agree a n h = past-agree (a .line) (a .tokens) (a .mark) n (h .0) (h .1)
+
+-- no refusal looks at the mark
+pub refusal-same : (a : Input) (n : ℕ) → refusal a ≡ refusal (remarked a n)
+unfolding refusal conditions
+refusal-same a n = refl
+
+pub reading-remarked : (limit : ℕ) (a : Input) (n : ℕ) → MarksAgree a n → readingAt limit a ≡ readingAt limit (remarked a n)
+reading-remarked limit a n agree = reading-same (placeOf a) limit (a .mark) n agree (a .start)
+
+-- the answer and every byte of both stores are the same
+pub outcome-same : (limit : ℕ) (a : Input) (n : ℕ) → MarksAgree a n → outcome limit a ≡ outcome limit (remarked a n)
+unfolding outcome outcomeOf refusal conditions
+outcome-same limit a n agree = go (refusal a)
   where
-    go : (j : ℕ) → j < count T → eqb m j ≡ eqb n j
-    go j less = ne-eqb m j (omega arith) ∙ sym (ne-eqb n j (omega arith))
+    go : (k : ℕ) → outcomeOf limit a k ≡ outcomeOf limit (remarked a n) k
+    go zero =
+        ap (λ (r : Reading (Maybe Operand)). record { answer = answerOf r (r .value); nodes = nodesAfter (r .value) (a .nodes); diagnostics = diagnosticsAfter r (a .used) (a .diagnostics) })
+        (reading-remarked limit a n agree)
+    go (suc k) = refl
+
+-- "one at or past the token count means none", of the whole outcome
+pub outcome-past : (limit : ℕ) (a : Input) (n : ℕ) → MarksPast a n → outcome limit a ≡ outcome limit (remarked a n)
+outcome-past limit a n h = outcome-same limit a n (marks-agree a n h)

@@ -2,7 +2,7 @@
 -- Assumes nothing.
 pub mod Operands
 pub mod Readers
-use mathlib.Core.Path.{_≡_, refl, sym}
+use mathlib.Core.Path.{_≡_, refl}
 use mathlib.Core.Bool.{Bool, true, false}
 use mathlib.Core.List.{List, [], _∷_}
 use Prim.Native.Nat.{ℕ, zero, suc, _+_, _*_, _%_, _≤_, _<_}
@@ -10,7 +10,8 @@ use native.Mathlib.Omega.{arith}
 use borrow.Author.Tests.{leb-true, leb-false}
 use lib.Dec.{leb}
 use lib.ListN.{length, getD}
-use Rattle.names.specs.Choice.{pick, both}
+use Rattle.names.specs.Choice.{pick}
+use Rattle.names.specs.Laws.{both-first, both-second}
 use Rattle.names.specs.Tokens.{count, tokenFrom, tokenAt, detailDefined}
 use Rattle.names.specs.Places.{Place, stands, placed, place}
 use Rattle.names.specs.declared.tokens.Token.{Token}
@@ -19,7 +20,6 @@ use Rattle.records.specs.Spans.{spanOf}
 use Rattle.records.specs.declared.spans.Span.{Span}
 use Rattle.expressions.specs.Reader.{Reading}
 use Rattle.expressions.specs.Laws.{Every}
-use Rattle.expressions.specs.Costs.{true-false}
 use Rattle.expressions.specs.Offsets.{SpanIn, DiagnosticIn, TokensIn, Fits, answers, sees}
 use Rattle.operand.specs.Operands.{Operand, Maybe}
 use Rattle.operand.specs.Operand.{parseOperand, readingOf}
@@ -45,16 +45,12 @@ reading-in m limit mark at i w = let h = operand-fits m limit mark .all at w i 0
 
 -- ---- good tokens lie within the line
 
-both-true : (b c : Bool) → both b c ≡ true → (b ≡ true) × (c ≡ true)
-both-true true c h = (refl, h)
-both-true false c h = absurd (true-false (sym h))
-
 good-in : (L : List ℕ) (p k d s e : ℕ) → goodToken L p k d s e ≡ true → (s ≤ length L) × (e ≤ length L)
 unfolding goodToken
 good-in L p k d s e h =
-    let g = both-true (leb s e) _ (both-true (detailDefined k d) _ h .1) in
-    let f = both-true (leb e (length L)) _ (g .1) in
-    omega (arith, leb-true s e (g .0), leb-true e (length L) (f .0))
+    let g = both-second (detailDefined k d) _ h in
+    let f = both-second (leb s e) _ g in
+    omega (arith, leb-true s e (both-first (leb s e) _ g), leb-true e (length L) (both-first (leb e (length L)) _ f))
 
 all-good-in : (L : List ℕ) (p : ℕ) (T : List ℕ) → goodTokens L p T ≡ true → (j : ℕ) → j < count T → (getD T (4 * j + 2) 0 ≤ length L) × (getD T (4 * j + 3) 0 ≤ length L)
 unfolding goodTokens
@@ -62,11 +58,11 @@ all-good-in L p [] h j b = absurd (omega arith)
 all-good-in L p (k ∷ []) h j b = absurd (omega arith)
 all-good-in L p (k ∷ d ∷ []) h j b = absurd (omega arith)
 all-good-in L p (k ∷ d ∷ s ∷ []) h j b = absurd (omega arith)
-all-good-in L p (k ∷ d ∷ s ∷ e ∷ ts) h zero b = good-in L p k d s e (both-true (goodToken L p k d s e) _ h .0)
+all-good-in L p (k ∷ d ∷ s ∷ e ∷ ts) h zero b = good-in L p k d s e (both-first (goodToken L p k d s e) _ h)
 all-good-in L p (k ∷ d ∷ s ∷ e ∷ ts) h (suc j) b =
     let two : 4 * suc j + 2 ≡ suc (suc (suc (suc (4 * j + 2)))) = omega arith in
     let three : 4 * suc j + 3 ≡ suc (suc (suc (suc (4 * j + 3)))) = omega arith in
-    rw (two, three) (all-good-in L e ts (both-true (goodToken L p k d s e) _ h .1) j (omega arith))
+    rw (two, three) (all-good-in L e ts (both-second (goodToken L p k d s e) _ h) j (omega arith))
 
 pub tokens-in : (m : ℕ) (L T : List ℕ) → length L ≤ m → goodTokens L 0 T ≡ true → TokensIn m (place L T)
 unfolding place placed tokenAt

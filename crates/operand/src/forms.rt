@@ -48,7 +48,7 @@ pub enum SizedDisplacement {
     Not,
 }
 
-// The fields of document 01's record, and the mask of a register list, which has sixteen bits. Order and widths are such that the pieces
+// The fields of the operand's record (docs/FORMAT.md), and the mask of a register list, which has sixteen bits. Order and widths are such that the pieces
 // in which a record is copied do not overlap.
 pub struct OperandRecord {
     pub base: BaseRegister,

@@ -1,5 +1,7 @@
 // Operands: the definition of a reading in specs/, and the types that the code and it share.
+pub mod form_numbers;
 mod forms;
+pub mod refusal_numbers;
 
 pub use forms::BaseRegister;
 pub use forms::Close;

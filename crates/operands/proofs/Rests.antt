@@ -1,18 +1,28 @@
 -- What is left of a part of the input.
 -- Assumes nothing.
-use mathlib.Core.Path.{_≡_, refl, sym, _∙_, ap, ap₂}
+use mathlib.Core.Path.{_≡_, refl, sym, _∙_, ap, ap₂, subst}
 use mathlib.Core.Bool.{Bool, true, false}
 use mathlib.Core.List.{List, [], _∷_}
 use Prim.Native.Nat.{ℕ, zero, suc, _+_, _-_, _≤_, _<_}
-use native.Mathlib.Nat.{sub-zero}
+use native.Mathlib.Nat.{sub-zero, min-eq-left}
 use native.Mathlib.Omega.{arith}
+use borrow.Author.Tests.{ltb-true}
+use lib.IntN.{ℤ, pos, negsuc}
+use lib.Signed.{ltZ}
+use mir.Syntax.{w64}
+use mir.Val.{ofZ, toZ, SFits}
+use mir.Facts.{toZ-ofZ}
 use lib.ListN.{length, take, drop, length-take, length-drop, drop-of-length-le}
 use lib.Seq.{take-all, drop-drop}
 use Rattle.frames.specs.Machine.{State, steps, fresh}
-use Rattle.frames.specs.Promise.{BatchTold}
+use Rattle.frames.specs.Batches.{BatchTold}
 use Rattle.frames.specs.Program.{Run, drained, Leaves}
 use Rattle.frames.specs.Bounds.{progress, batch-bounds, batch-progress}
 use Rattle.frames.specs.declared.batches.Batched.{Batched}
+use Rattle.libc.specs.Io.{Moved}
+use Rattle.io.specs.Counts.{clamped}
+use Rattle.operands.specs.Passing.{PartTold, LastTold, ReadTold}
+use Rattle.operands.specs.declared.Passed.{Passed}
 
 length-rest : (l : List ℕ) (k : ℕ) → length (take (length l - k) (drop k l)) ≡ length l - k
 length-rest l k = simp (length-take, length-drop) (omega arith)
@@ -104,3 +114,38 @@ rest-end I at h C O h₀ C₀ O₀ on q =
 -- a call that goes on leaves it
 pub nothing-said : {b : Bool} {A : Type 0} → b ≡ false → b ≡ true → A
 nothing-said e f = let z : _≡_ {A = ℕ} 0 1 = cc in absurd (omega arith)
+
+-- ---- by what a read gave
+
+-- a number is handed on through its bits
+through : (got : ℤ) → SFits w64 got → toZ w64 (ofZ w64 got) ≡ got
+through got f = toZ-ofZ {w = w64} {z = got} f
+
+pub moved-on : (got : ℤ) (n m : ℕ) → SFits w64 got → n ≡ m → Moved n got → Moved m (toZ w64 (ofZ w64 got))
+moved-on got n m f e h = subst (λ k. Moved k (toZ w64 (ofZ w64 got))) e (subst (λ z. Moved n z) (sym (through got f)) h)
+
+pub tested : (got : ℤ) (b : Bool) → SFits w64 got → ltZ (toZ w64 (ofZ w64 got)) (pos 0) ≡ b → ltZ got (pos 0) ≡ b
+tested got b f e = ap (λ z. ltZ z (pos 0)) (sym (through got f)) ∙ e
+
+pub counted-by : (got : ℤ) (n m : ℕ) → SFits w64 got → n ≡ clamped (toZ w64 (ofZ w64 got)) m → n ≡ clamped got m
+counted-by got n m f e = e ∙ ap (λ z. clamped z m) (through got f)
+
+pub read-failed : (got : ℤ) (I : List ℕ) (h : ℕ) (C O : List ℕ) (r : Passed) → ltZ got (pos 0) ≡ true → r .more ≡ false → ReadTold got I h C O C O r
+read-failed (pos k) I h C O r t e = absurd (omega (arith, ltb-true k 0 t))
+read-failed (negsuc k) I h C O r t e = (e, refl, refl)
+
+-- a read that gave k bytes has room for them
+counted : (k n : ℕ) (I : List ℕ) → k ≤ length I → n ≡ clamped (pos k) (length I) → n ≡ k
+counted k n I h e = e ∙ min-eq-left h
+
+pub read-ended : (got : ℤ) (I : List ℕ) (n h : ℕ) (C O O′ : List ℕ) (r : Passed) → ltZ got (pos 0) ≡ false → Moved (length I) got
+    → n ≡ clamped got (length I) → n ≡ 0 → r .more ≡ false → LastTold h C O O′ → ReadTold got I h C O C O′ r
+read-ended (pos zero) I n h C O O′ r t m e z f l = (f, refl, l)
+read-ended (pos (suc k)) I n h C O O′ r t m e z f l = absurd (omega (arith, counted (suc k) n I m e))
+read-ended (negsuc k) I n h C O O′ r t m e z f l = nothing-said refl (sym t)
+
+pub read-part : (got : ℤ) (I : List ℕ) (n h : ℕ) (C O C′ O′ : List ℕ) (r : Passed) → ltZ got (pos 0) ≡ false → Moved (length I) got
+    → n ≡ clamped got (length I) → (n ≡ 0 → ⊥) → PartTold (take n I) h C O C′ O′ r → ReadTold got I h C O C′ O′ r
+read-part (pos zero) I n h C O C′ O′ r t m e z p = absurd (z (counted 0 n I m e))
+read-part (pos (suc k)) I n h C O C′ O′ r t m e z p = subst (λ j. PartTold (take j I) h C O C′ O′ r) (counted (suc k) n I m e) p
+read-part (negsuc k) I n h C O C′ O′ r t m e z p = nothing-said refl (sym t)

@@ -1,2 +1,3 @@
--- What the program's functions tell each other.
+-- The program.
+-- what is told
 pub mod Passing

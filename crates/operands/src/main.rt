@@ -5,7 +5,8 @@ use libc::STDIN_FILENO;
 use libc::STDOUT_FILENO;
 ghost use Prim.Native.Nat.{_≤_};
 ghost use lib.ListN.{length};
-ghost use Rattle.operands.specs.Passing.{PartTold, ReadTold};
+ghost use Rattle.libc.specs.Io.{Moved};
+ghost use Rattle.operands.specs.Passing.{PartTold, LastTold, ReadTold};
 
 // How much of the unfinished line is held, and whether to go on.
 struct Passed {
@@ -46,16 +47,24 @@ fn answer_part(input: &[u8], held: usize, carry: &mut [u8; 2558], out: &mut [u8;
 }
 
 // Answers the last line, if it lacks its line feed.
-fn answer_last(held: usize, carry: &[u8; 2558], out: &mut [u8; 65536]) {
+fn answer_last(held: usize, carry: &[u8; 2558], out: &mut [u8; 65536])
+    ensures { λ _. ⌜ LastTold held (now (carry .entry)) (now (out .entry)) (now (out .exit)) ⌝ }
+{
     let n = finish(held, carry, out);
     write(out, n);
 }
 
-// Reads once, and answers what came. A read that fails ends it.
-fn read_part(held: usize, input: &mut [u8], carry: &mut [u8; 2558], out: &mut [u8; 65536]) -> Passed
-    ensures { λ r. ⌜ ReadTold (now (input .exit)) held (now (carry .entry)) (now (out .entry)) (now (carry .exit)) (now (out .exit)) r ⌝ }
+// Answers what a read gave: so many bytes at the beginning of the store that it was lent, none at the input's end, -1 where it failed.
+fn answer_read(
+    got: isize,
+    input: &[u8],
+    held: usize,
+    carry: &mut [u8; 2558],
+    out: &mut [u8; 65536],
+) -> Passed
+    requires { ⌜ Moved (length (now input)) got ⌝ }
+    ensures { λ r. ⌜ ReadTold got (now (input .entry)) held (now (carry .entry)) (now (out .entry)) (now (carry .exit)) (now (out .exit)) r ⌝ }
 {
-    let got = libc::read(STDIN_FILENO, input);
     if got < 0 {
         return Passed {
             held: 0,
@@ -73,7 +82,9 @@ fn read_part(held: usize, input: &mut [u8], carry: &mut [u8; 2558], out: &mut [u
     answer_part(&input[..n], held, carry, out)
 }
 
-// A proved loop has to end, and nothing says that the input does. So it counts its turns down, from a number that no run uses up.
+// Which bytes a read puts into the store, and which a write takes from one, no contract says: that they are the input's and the output's is
+// read here and in `write`. A proved loop has to end, and nothing says that the input does. So it counts its turns down, from a number that
+// no run uses up.
 fn main() {
     let mut input = io::large_buffer();
     let mut out = io::large_buffer();
@@ -81,7 +92,8 @@ fn main() {
     let mut held = 0;
     let mut turns = u64::MAX;
     while turns > 0 {
-        let p = read_part(held, &mut input, &mut carry, &mut out);
+        let got = libc::read(STDIN_FILENO, &mut input);
+        let p = answer_read(got, &input, held, &mut carry, &mut out);
         if p.more {
             held = p.held;
             turns -= 1;

@@ -1,2 +1,3 @@
--- What the reader gives, in reading order.
+-- What the reader struct gives.
+-- the definition, and its laws
 pub mod Cursor

@@ -16,7 +16,8 @@ pub struct Reader<'a, 'b> {
 pub fn text_at<'a, 'b>(line: &'a [u8], tokens: &'b [u8], place: usize) -> &'a [u8]
     ensures { λ r. ⌜ now r ≡ textAt (now (line .entry)) (now (tokens .entry)) place ⌝ }
 {
-    match lent_token_at(tokens, place) {
+    let p = lent_token_at(tokens, place);
+    match p {
         Peeked::Is(token) => text_of(line, token),
         Peeked::End => &line[0..0],
     }

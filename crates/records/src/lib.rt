@@ -1,10 +1,13 @@
 // Records of numbers in stores: spans, counters, diagnostics and nodes.
 mod counters;
+pub mod diagnostic_kinds;
 mod diagnostics;
 mod nodes;
+pub mod problems;
 mod reports;
+pub mod shapes;
 mod spans;
-mod store;
+mod stores;
 
 pub use counters::Counters;
 pub use counters::MOST_COUNTED;

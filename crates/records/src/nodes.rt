@@ -1,6 +1,6 @@
 // Node records.
 use crate::spans::Span;
-use crate::store::write;
+use crate::stores::write;
 ghost use mathlib.Core.Path.{_≡_};
 ghost use mathlib.Core.List.{[], _∷_};
 ghost use Prim.Native.Nat.{_+_, _*_};

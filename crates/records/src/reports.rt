@@ -1,7 +1,7 @@
 // A diagnostic made, and its record written.
 use crate::diagnostics::Diagnostic;
 use crate::spans::Span;
-use crate::store::write;
+use crate::stores::write;
 ghost use mathlib.Core.Path.{_≡_};
 ghost use Prim.Native.Nat.{_*_};
 ghost use Rattle.records.specs.Diagnostics.{diagnostic, diagnosticRecord};

@@ -18,6 +18,7 @@ use Rattle.names.specs.Letters.{lower}
 use Rattle.names.specs.declared.tokens.Token.{Token}
 use Rattle.names.specs.declared.registers.SpecialRegister.{SpecialRegister}
 use Rattle.names.specs.declared.sizes.SizeSuffix.{SizeSuffix}
+use Rattle.records.specs.Shapes
 use Rattle.records.specs.Spans.{span, spanOf}
 use Rattle.expressions.specs.Trees.{Expr}
 use Rattle.expressions.specs.declared.reading.Setting.{Setting}
@@ -80,7 +81,7 @@ module _ (s : Setting) (at : ℕ → Place) (count : ℕ) (ends : (j : ℕ) (k :
   immediate-sized m t h (no-suffix q) = record { all = Spelling.immediate t h }
 
   immediate-sound : (t : Sign at Kinds.hash own) (l : ℕ) → Quiet (Operand.parseImmediate s (t .token)) at (Found s at count ends few own) (own + 1) l
-  unfolding Silent Operand.parseImmediate Operand.immediateValue
+  unfolding Silent Operand.parseImmediate Operand.orAbsent
   immediate-sound t l = record {
     all = call (expression-spelled at count ends own few (s .limit) (own + 1) l (omega arith, λ z. absurd (omega arith))) λ j m. elim [
       | read e ↦ λ a h. call (suffix-sound at _ j m) λ n m₂ z b g. immediate-sized m₂ t (h .1) g .all
@@ -127,13 +128,13 @@ module _ (s : Setting) (at : ℕ → Place) (count : ℕ) (ends : (j : ℕ) (k :
 
   predecrement-sound : {x : List ℕ} {r : Token} (t : Sign at Kinds.minus own) (p : Sign at Kinds.leftParen (own + 1)) → at (own + 1 + 1) ≡ stands r x → aRegister r x ≡ true → (l : ℕ)
       → Quiet (Operand.parsePredecrement s (t .token) (p .token) r x) at (Found s at count ends few own) own l
-  unfolding Silent Operand.parsePredecrement Operand.over Operand.predecrementClose Operand.predecremented Operand.notAnAddressRegister
+  unfolding Silent Operand.parsePredecrement Operand.over Operand.predecrementClose Operand.orNone Operand.notAnAddressRegister
   predecrement-sound {x} {r} t p e q l = record {
     all = (
       (λ k₁ x₁ e₁ q₁ w₁. (
         (λ k₂ x₂ e₂ q₂ w₂. (
           (λ k₃ x₃ e₃ q₃ w₃. silent-choose (leb 8 (registerFrom r x .index)) _ _ _ _ _ _
-              (λ f. call (close-sound s at count ends few own (p .token) 4 _ _) λ n m. elim [ some z ↦ λ a g. predecrement-closed t p (an-address (found-register e q) (leb-true 8 _ f)) g | none ↦ λ a g. tt ])
+              (λ f. call (close-sound s at count ends few own (p .token) Shapes.predecrement _ _) λ n m. elim [ some z ↦ λ a g. predecrement-closed t p (an-address (found-register e q) (leb-true 8 _ f)) g | none ↦ λ a g. tt ])
               λ f. tt),
           λ q₃. absurd (stood s at count ends few own e q₃),
         )),
@@ -153,7 +154,7 @@ module _ (s : Setting) (at : ℕ → Place) (count : ℕ) (ends : (j : ℕ) (k :
     not-paren p z = true-false (sym (comes {at = at} {i = own} (is Kinds.leftParen) first (ap (λ k. eqb k Kinds.leftParen) z)) ∙ p)
 
     expression-operand-sound : holds (is Kinds.leftParen) (at own) ≡ false → (l : ℕ) → Quiet (Operand.parseExpressionOperand s) at (Found s at count ends few own) own l
-    unfolding Silent Operand.parseExpressionOperand Operand.expressionOperand Operand.noExpression Operand.displacementTail
+    unfolding Silent Operand.parseExpressionOperand Operand.orAbsent Operand.noExpression Operand.displacementTail
     expression-operand-sound p l = record {
       all = call (expression-spelled at count ends own few (s .limit) own l (omega arith, λ z. p)) λ j m. elim [
         | read e ↦ λ a h. (

@@ -51,12 +51,12 @@ module _ (a : Input) (N′ D′ : List ℕ) (r : Answer) (p : EntryPromise a N�
     diagnostics = p .diagnostics ∙ ap (λ k. outcomeOf nesting a k .diagnostics) valid ∙ rw (z .raised, add-zero) (take-append-drop (10 * a .used) (a .diagnostics));
   }
 
-  -- "Each addressing mode of Motorola's manual, spelled and closed as document 01 says, is read as that mode without diagnostic"
+  -- each addressing mode of Motorola's manual, spelled and closed as document 01 says, is read as that mode without diagnostic
   pub spelled-is-answered : {j : ℕ} {y : Operand} → Spelled nesting (a .mark) (placeOf a) (ordinary (a .mark)) (a .start) j y → Closed (placeOf a) j
       → Returns a N′ D′ r y j
   spelled-is-answered h c = returned (spelled-is-read nesting a valid h c)
 
-  -- "and an operand read without diagnostic has such a spelling up to the cursor"
+  -- and an operand read without diagnostic has such a spelling up to the cursor
   pub record Spelt (j : ℕ) : Type 0 where
     pub operand : Operand
     pub returns : Returns a N′ D′ r operand j

@@ -8,7 +8,6 @@ use Prim.Native.Nat.{ℕ, zero, suc, _+_, _≤_, _<_}
 use native.Mathlib.Omega.{arith}
 use borrow.Author.Tests.{le-leb, lt-leb}
 use lib.Dec.{eqb}
-use Rattle.names.specs.Choice.{pick, either}
 use Rattle.names.specs.Kinds
 use Rattle.names.specs.Places.{Place, nothing, stands}
 use Rattle.names.specs.Registers.{reserved}
@@ -16,6 +15,7 @@ use Rattle.names.specs.Numbers.{numberOf}
 use Rattle.names.specs.declared.tokens.Token.{Token}
 use Rattle.names.specs.declared.numbers.Number.{Number}
 use Rattle.records.specs.Spans.{span, spanOf}
+use Rattle.expressions.specs.Levels.{precedence-most}
 use Rattle.expressions.specs.Trees.{Expr, number, characterLiteral, symbol, currentAddress, unary, binary, spanE, withSpan}
 use Rattle.expressions.specs.Reader.{is, Reader}
 use Rattle.expressions.specs.Expressions.{Term, read, precedence, binaryOperator, operator, operated, parseExpressionFrom, climbed, parseExpressionOf, isUnary, unaryOperator, negated, valued, named, grouped, numberTerm, leafTerm, parsePrefixTerm, parsePrefix, fuel, parseExpression}
@@ -70,20 +70,6 @@ unary-sign E.complement = refl
 -- no operator of level m or more stands at j
 pub record Ends (at : ℕ → Place) (m j : ℕ) : Type 0 where
   pub less : (k : Token) (x : List ℕ) → at j ≡ stands k x → precedence (k .kind) < m
-
-pub precedence-most : (k : ℕ) → precedence k ≤ 4
-unfolding precedence
-precedence-most k =
-    go (either (eqb k Kinds.shiftLeft) (eqb k Kinds.shiftRight))
-    (either (eqb k Kinds.ampersand) (either (eqb k Kinds.bang) (either (eqb k Kinds.pipe) (eqb k Kinds.caret))))
-    (either (eqb k Kinds.star) (either (eqb k Kinds.slash) (eqb k Kinds.backslash))) (either (eqb k Kinds.plus) (eqb k Kinds.minus))
-  where
-    go : (a b c d : Bool) → pick a 4 (pick b 3 (pick c 2 (pick d 1 0))) ≤ 4
-    go true b c d = omega arith
-    go false true c d = omega arith
-    go false false true d = omega arith
-    go false false false true = omega arith
-    go false false false false = omega arith
 
 pub ends-no : {at : ℕ → Place} {m j : ℕ} → Ends at m j → holds (operator m) (at j) ≡ false
 unfolding holds operator

@@ -64,13 +64,13 @@ module _ (limit : ℕ) (a : Input) (valid : Valid a) where
   few : count (a .tokens) ≤ fuel
   few = omega (arith, valid-bounds a valid .0, fuel-enough)
 
-  -- "Each addressing mode of Motorola's manual, spelled and closed as document 01 says, is read as that mode without diagnostic": no name in E is reserved or
+  -- Each addressing mode of Motorola's manual, spelled and closed as document 01 says, is read as that mode without diagnostic: no name in E is reserved or
   -- spells Z (`ordinary`), no number is too large and no more terms are open than the limit (`Spells`); the list's end, a comma or EndOfLine follows (`Closed`)
   pub spelled-is-read : {j : ℕ} {y : Operand} → Spelled limit (a .mark) (placeOf a) (ordinary (a .mark)) (a .start) j y → Closed (placeOf a) j
       → Answers (readingAt limit a) y j
   spelled-is-read h c = closed-is-read limit (a .mark) (placeOf a) (count (a .tokens)) inside few (a .start) h c
 
-  -- "and an operand read without diagnostic has such a spelling up to the cursor", where no Error token stands before it
+  -- And an operand read without diagnostic has such a spelling up to the cursor, where no Error token stands before it
   pub read-is-spelled : {y : Operand} → readingAt limit a .value ≡ some y → readingAt limit a .raised ≡ []
       → Unerring (placeOf a) (a .start) (readingAt limit a .cursor) → Spelled limit (a .mark) (placeOf a) unreserved (a .start) (readingAt limit a .cursor) y
   read-is-spelled e q u = silent-is-spelled limit (a .mark) (placeOf a) (count (a .tokens)) inside few (a .start) e q u

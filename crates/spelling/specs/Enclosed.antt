@@ -11,6 +11,7 @@ use Rattle.names.specs.Choice.{either}
 use Rattle.names.specs.Kinds
 use Rattle.names.specs.Places.{Place, nothing, stands}
 use Rattle.names.specs.declared.tokens.Token.{Token}
+use Rattle.records.specs.Shapes
 use Rattle.records.specs.Spans.{span}
 use Rattle.expressions.specs.Trees.{Expr}
 use Rattle.expressions.specs.declared.reading.Setting.{Setting}
@@ -49,7 +50,7 @@ module _ (s : Setting) (at : ℕ → Place) (count : ℕ) (ends : (j : ℕ) (k :
   displacement-sized m h (no-suffix q) = record { all = displacement-at h no-size }
 
   displacement-sound : (i l : ℕ) → own < i → Quiet (Operand.parseSizedDisplacement s) at (λ j m v. DisplacementFound i j v) i l
-  unfolding Silent Operand.parseSizedDisplacement Operand.displacementValue Operand.steppedOver Operand.malformed
+  unfolding Silent Operand.parseSizedDisplacement Operand.orAbsent Operand.steppedOver Operand.malformed
   displacement-sound i l low = record {
     all = call (expression-spelled at count ends own few (s .limit) i l (omega arith, λ e. absurd (omega arith))) λ j m. elim [
       | read e ↦ λ a h. call (suffix-sound at _ j m) λ n m₂ z b g. displacement-sized m₂ (h .1) g .all
@@ -63,22 +64,22 @@ module _ (s : Setting) (at : ℕ → Place) (count : ℕ) (ends : (j : ℕ) (k :
   InsideFound i j (some v) = Inside s at unreserved own i j (v .displacement) (v .registers)
   InsideFound i j none = Unit {0}
 
-  inside-displaced : (i j m : ℕ) {d : Displacement} → DisplacementAt i j d → Quiet (Operand.innerDisplaced s (some d)) at (λ j m v. InsideFound i j v) j m
-  unfolding Silent Operand.innerDisplaced Operand.innerRegisters
+  inside-displaced : (i j m : ℕ) {d : Displacement} → DisplacementAt i j d → Quiet (Operand.innerDisplaced s d) at (λ j m v. InsideFound i j v) j m
+  unfolding Silent Operand.innerDisplaced Operand.orNone
   inside-displaced i j m (displacement-at h sz) = record {
     all = (
-      (λ k x e q w. call (bases-sound s at 9 (j + 1) (k .end)) λ n m₂. elim [ some r ↦ λ a g. Spelling.both h sz (signed Kinds.comma e q) g | none ↦ λ a g. tt ]),
+      (λ k x e q w. call (bases-sound s at Shapes.memoryIndirect (j + 1) (k .end)) λ n m₂. elim [ some r ↦ λ a g. Spelling.both h sz (signed Kinds.comma e q) g | none ↦ λ a g. tt ]),
       λ q. Spelling.displacement h sz,
     );
   }
 
   pub inside-sound : (i l : ℕ) → own < i → Quiet (Operand.parseInner s) at (λ j m v. InsideFound i j v) i l
-  unfolding Silent Operand.parseInner Operand.innerRegisters Operand.innerDisplaced
+  unfolding Silent Operand.parseInner Operand.orNone Operand.innerDisplaced
   inside-sound i l low = record {
     all = (
       (λ k x e q. Spelling.empty),
       λ _. (
-        (λ k x e q. call (bases-sound s at 9 i l) λ n m. elim [ some r ↦ λ a g. Spelling.bases g | none ↦ λ a g. tt ]),
+        (λ k x e q. call (bases-sound s at Shapes.memoryIndirect i l) λ n m. elim [ some r ↦ λ a g. Spelling.bases g | none ↦ λ a g. tt ]),
         λ _. call (displacement-sound i l low) λ n m. elim [ some d ↦ λ a g. inside-displaced i n m g .all | none ↦ λ a g. tt ],
       ),
     );
@@ -90,10 +91,10 @@ module _ (s : Setting) (at : ℕ → Place) (count : ℕ) (ends : (j : ℕ) (k :
   BehindFound x i j none = Unit {0}
 
   behind-index : (i l : ℕ) (x : Index) → own ≤ i → Sign at Kinds.comma i → Quiet (Operand.outerIndex s x) at (λ j m v. BehindFound x i j v) (i + 1) l
-  unfolding Silent Operand.outerIndex Operand.outerIndexed Operand.outerDisplaced Operand.steppedOver Operand.malformed
+  unfolding Silent Operand.outerIndex Operand.outerIndexed Operand.orNone Operand.steppedOver Operand.malformed
   behind-index i l (Index.Indexed y) low c = record { all = ((λ k x e q w. tt), λ q. tt) }
   behind-index i l Index.Unindexed low c = record {
-    all = call (index-sound s at 9 (i + 1) l) λ n m. elim [
+    all = call (index-sound s at Shapes.memoryIndirect (i + 1) l) λ n m. elim [
       | some y ↦ λ a g. (
         (λ k x e q w. call (displacement-sound (n + 1) (k .end) (omega arith)) λ n₂ m₂. elim [ some d ↦ λ b f. behind-both c (g .0) (signed Kinds.comma e q) f | none ↦ λ b f. tt ]),
         λ q. Spelling.index c (g .0),
@@ -110,7 +111,7 @@ module _ (s : Setting) (at : ℕ → Place) (count : ℕ) (ends : (j : ℕ) (k :
   behind-displaced c (displacement-at h sz) = Spelling.displacement c h sz
 
   pub behind-sound : (i l : ℕ) (x : Index) → own ≤ i → Quiet (Operand.parseOuter s x) at (λ j m v. BehindFound x i j v) i l
-  unfolding Silent Operand.parseOuter Operand.outerDisplaced
+  unfolding Silent Operand.parseOuter Operand.orNone
   behind-sound i l x low = record {
     all = (
       (λ k y e q w. (
@@ -171,7 +172,7 @@ module _ (s : Setting) (at : ℕ → Place) where
 
   pub list-sound : (f : ℕ) (items : List RegisterListItem) (r : Register) (i : ℕ) → RegisterAt at i r
       → Quiet (Operand.listLoop f s items r) at (λ j m v. ListFound f items i j v) (i + 1) (r .span .end)
-  unfolding Silent Operand.listLoop Operand.nextItem Operand.listed Operand.registerExpected registerFrom
+  unfolding Silent Operand.listLoop Operand.nextItem Operand.orNone Operand.listed Operand.registerExpected registerFrom
   list-sound zero items r i p = record { all = (list-at (last (a-single p)), omega arith, λ z. absurd (omega arith)) }
   list-sound (suc f) items r i p = record {
     all = call (item-sound r i p) λ j m. elim [

@@ -29,7 +29,7 @@ use Rattle.expressions.specs.Laws.{holds}
 use Rattle.expressions.specs.Costs.{true-false}
 use Rattle.operand.specs.Operands.{Operand, Maybe, some, none}
 use Rattle.operand.specs.Operand
-use Rattle.operand.specs.Operand.{isAddress, isSuppressed, isSuppressedRegister, isSuppressedAddress, name, aRegister, anAddressRegister, aProgramCounter, unmarked, sizeOrScale, indexOf, suppressedIndex, registerFrom}
+use Rattle.operand.specs.Operand.{isAddress, isSuppressed, isSuppressedRegister, isSuppressedAddress, aRegister, anAddressRegister, aProgramCounter, unmarked, sizeOrScale, indexOf, suppressedIndex, registerFrom}
 use Rattle.operand.specs.declared.forms.Register.{Register}
 use Rattle.operand.specs.declared.forms.IndexRegister.{IndexRegister}
 use Rattle.operand.specs.declared.forms.BaseRegister.{BaseRegister}
@@ -231,7 +231,7 @@ module _ (s : Setting) (at : ℕ → Place) where
 
   after-base-sound : (shape : ℕ) {i : ℕ} {b : BaseRegister} (l : ℕ) → Bases s at i b
       → Quiet (Operand.afterBaseRegister s shape b) at (λ n m v. BasesFound i n v) (i + 1) l
-  unfolding Silent Operand.afterBaseRegister Operand.indexAlone
+  unfolding Silent Operand.afterBaseRegister Operand.orNone
   after-base-sound shape l h = record {
     all = (
       (λ k x e q. (
@@ -246,7 +246,7 @@ module _ (s : Setting) (at : ℕ → Place) where
   no-base-sound : (shape i l : ℕ)
       → ((j : ℕ) (x : IndexRegister) → Indexes s at i j x → (holds sizeOrScale (at (i + 1)) ≡ true → i + 1 < j) → (x .register .index < 8) ⊎ (i + 1 < j))
       → Quiet (Operand.noBase s shape) at (λ n m v. BasesFound i n v) i l
-  unfolding Silent Operand.noBase Operand.indexAlone Operand.steppedOver Operand.malformed
+  unfolding Silent Operand.noBase Operand.orNone Operand.steppedOver Operand.malformed
   no-base-sound shape i l f = record {
     all = (
       (λ k x e q. call (index-sound shape i l) λ n m. elim [ some z ↦ λ a g. Spelling.index (g .0) (f n z (g .0) (g .1)) | none ↦ λ a g. tt ]),

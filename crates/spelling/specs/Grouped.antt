@@ -11,6 +11,7 @@ use Rattle.names.specs.Choice.{pick}
 use Rattle.names.specs.Kinds
 use Rattle.names.specs.Places.{Place, stands}
 use Rattle.names.specs.declared.tokens.Token.{Token}
+use Rattle.records.specs.Shapes
 use Rattle.records.specs.Spans.{span}
 use Rattle.expressions.specs.Trees.{Expr}
 use Rattle.expressions.specs.declared.reading.Setting.{Setting}
@@ -30,7 +31,7 @@ use Rattle.operand.specs.declared.forms.Registers.{Registers}
 use Rattle.spelling.specs.Signs.{Sign, CounterAt, unreserved}
 use Rattle.spelling.specs.Expressions.{own-group}
 use Rattle.spelling.specs.Spelling
-use Rattle.spelling.specs.Spelling.{no-size, a-size, AddressAt, Indexes, suppressed, BaseAndIndex, Expression, Opening, Spelling}
+use Rattle.spelling.specs.Spelling.{no-size, a-size, AddressAt, Indexes, BaseAndIndex, Expression, Opening, Spelling}
 use Rattle.spelling.specs.Silence.{Silent, Quiet, call}
 use Rattle.spelling.specs.Sound.{signed, expression-spelled, from-spelled}
 use Rattle.spelling.specs.Found.{found-address, found-counter, SuffixAt, a-suffix, no-suffix, suffix-sound, index-sound, bases-sound}
@@ -72,21 +73,21 @@ module _ (s : Setting) (at : ℕ → Place) (count : ℕ) (ends : (j : ℕ) (k :
   counter-closed h p k x (close-at c) false e = Spelling.counter-index h p k x e c
 
   address-indexed : {i : ℕ} {r : Register} {d : Displacement} (k : Token) (l : ℕ) → Opening s at unreserved own i d → AddressAt at i r → Sign at Kinds.comma (i + 1)
-      → Quiet (Operand.baseAndIndex s k 6 (BaseRegister.Address r) d (λ x. O.index d r x)) at Found (i + 1 + 1) l
-  unfolding Silent Operand.closedIndex Operand.indexedOperand
+      → Quiet (Operand.baseAndIndex s k Shapes.index (BaseRegister.Address r) d (λ x. O.index d r x)) at Found (i + 1 + 1) l
+  unfolding Silent Operand.orNone Operand.indexedOperand
   address-indexed k l h p c = record {
-    all = call (index-sound s at 6 _ l) λ n m. elim [
-      | some x ↦ λ a g. call (close-sound k 6 n m) λ n₂ m₂. elim [ some z ↦ λ b f. address-closed h p c (g .0) f (x .suppressed) refl | none ↦ λ b f. tt ]
+    all = call (index-sound s at Shapes.index _ l) λ n m. elim [
+      | some x ↦ λ a g. call (close-sound k Shapes.index n m) λ n₂ m₂. elim [ some z ↦ λ b f. address-closed h p c (g .0) f (x .suppressed) refl | none ↦ λ b f. tt ]
       | none ↦ λ a g. tt
     ];
   }
 
   counter-indexed : {i : ℕ} {d : Displacement} (k : Token) (l : ℕ) → Opening s at unreserved own i d → CounterAt at i → Sign at Kinds.comma (i + 1)
-      → Quiet (Operand.baseAndIndex s k 8 BaseRegister.ProgramCounter d (λ x. O.pcIndex d x)) at Found (i + 1 + 1) l
-  unfolding Silent Operand.closedIndex Operand.indexedOperand
+      → Quiet (Operand.baseAndIndex s k Shapes.pcIndex BaseRegister.ProgramCounter d (λ x. O.pcIndex d x)) at Found (i + 1 + 1) l
+  unfolding Silent Operand.orNone Operand.indexedOperand
   counter-indexed k l h p c = record {
-    all = call (index-sound s at 8 _ l) λ n m. elim [
-      | some x ↦ λ a g. call (close-sound k 8 n m) λ n₂ m₂. elim [ some z ↦ λ b f. counter-closed h p c (g .0) f (x .suppressed) refl | none ↦ λ b f. tt ]
+    all = call (index-sound s at Shapes.pcIndex _ l) λ n m. elim [
+      | some x ↦ λ a g. call (close-sound k Shapes.pcIndex n m) λ n₂ m₂. elim [ some z ↦ λ b f. counter-closed h p c (g .0) f (x .suppressed) refl | none ↦ λ b f. tt ]
       | none ↦ λ a g. tt
     ];
   }
@@ -133,10 +134,10 @@ module _ (s : Setting) (at : ℕ → Place) (count : ℕ) (ends : (j : ℕ) (k :
       → ((n : ℕ) (r : Registers) → BaseAndIndex s at i n r → (c : Sign at Kinds.rightParen n)
       → Spelling s at unreserved own (n + 1) (O.fullIndex d (r .base) (r .index) 0 undisplaced (span (s .start) (c .token .end))))
       → Quiet (Operand.parseFullIndex s k d) at Found i l
-  unfolding Silent Operand.parseFullIndex Operand.closedRegisters Operand.fullIndexed
+  unfolding Silent Operand.parseFullIndex Operand.orNone
   full-sound i d k l f = record {
-    all = call (bases-sound s at 6 i l) λ n m. elim [
-      | some r ↦ λ a g. call (close-sound k 6 n m) λ n₂ m₂. elim [ some z ↦ λ b h. full-closed {r = r} h (f n r g) | none ↦ λ b h. tt ]
+    all = call (bases-sound s at Shapes.index i l) λ n m. elim [
+      | some r ↦ λ a g. call (close-sound k Shapes.index n m) λ n₂ m₂. elim [ some z ↦ λ b h. full-closed {r = r} h (f n r g) | none ↦ λ b h. tt ]
       | none ↦ λ a g. tt
     ];
   }
@@ -147,12 +148,12 @@ module _ (s : Setting) (at : ℕ → Place) (count : ℕ) (ends : (j : ℕ) (k :
   memory-closed t b h k g (close-at c) = Spelling.memory-indirect t b h k g c
 
   memory-sound : (k : Token) (l : ℕ) → Sign at Kinds.leftParen own → Sign at Kinds.leftBracket (own + 1) → Quiet (Operand.parseMemoryIndirect s k) at Found (own + 1 + 1) l
-  unfolding Silent Operand.parseMemoryIndirect Operand.innerClosed Operand.outerClosed Operand.memoryIndirect Operand.unclosed
+  unfolding Silent Operand.parseMemoryIndirect Operand.orNone Operand.unclosed
   memory-sound k l t b = record {
     all = call (inside-sound s at count ends few own (own + 1 + 1) l (omega arith)) λ n m. elim [
       | some v ↦ λ a g. (
         (λ c x e q w. call (behind-sound s at count ends few own (n + 1) (c .end) (v .registers .index) (omega arith)) λ n₂ m₂. elim [
-          | some u ↦ λ a₂ h. call (close-sound k 9 n₂ m₂) λ n₃ m₃. elim [ some z ↦ λ a₃ f. memory-closed t b g (signed Kinds.rightBracket e q) h f | none ↦ λ a₃ f. tt ]
+          | some u ↦ λ a₂ h. call (close-sound k Shapes.memoryIndirect n₂ m₂) λ n₃ m₃. elim [ some z ↦ λ a₃ f. memory-closed t b g (signed Kinds.rightBracket e q) h f | none ↦ λ a₃ f. tt ]
           | none ↦ λ a₂ h. tt
         ]),
         λ q. tt,
@@ -214,7 +215,7 @@ module _ (s : Setting) (at : ℕ → Place) (count : ℕ) (ends : (j : ℕ) (k :
   }
 
   pub grouped-sound : (t : Sign at Kinds.leftParen own) (l : ℕ) → Quiet (Operand.parseParenthesisedOperand s (t .token)) at Found (own + 1) l
-  unfolding Silent Operand.parseParenthesisedOperand startsABase Operand.parenthesised Operand.parenthesisedExpression
+  unfolding Silent Operand.parseParenthesisedOperand startsABase Operand.parenthesised Operand.orAbsent
   grouped-sound t l =
       let based = base-sound (t .token) l (Spelling.alone t) .all in
       let expressed : Silent (Operand.parenthesised s (t .token)) at Found (own + 1) l

@@ -10,16 +10,17 @@ use Rattle.names.specs.Kinds
 use Rattle.names.specs.Places.{Place, stands}
 use Rattle.names.specs.Registers.{reserved}
 use Rattle.names.specs.declared.tokens.Token.{Token}
+use Rattle.records.specs.Shapes
 use Rattle.records.specs.Spans.{span}
 use Rattle.expressions.specs.Trees.{Expr}
 use Rattle.expressions.specs.declared.reading.Setting.{Setting}
-use Rattle.expressions.specs.Reader.{is, _>>=_, reading, run}
+use Rattle.expressions.specs.Reader.{is, reading, run}
 use Rattle.expressions.specs.Expressions.{read, precedence, fuel, parseExpression}
 use Rattle.expressions.specs.Laws.{holds, met-yes, met-no}
 use Rattle.operand.specs.Operands.{Displacement, displaced, RegisterListItem, single, range, Operand, some}
 use Rattle.operand.specs.Operands as O
 use Rattle.operand.specs.Operand
-use Rattle.operand.specs.Operand.{aRegister, anIndex, aBaseOrAnIndex, isSuppressed, isSuppressedRegister, inner, outer}
+use Rattle.operand.specs.Operand.{_>>=?_, aRegister, anIndex, aBaseOrAnIndex, isSuppressed, isSuppressedRegister, inner, outer}
 use Rattle.operand.specs.Fuel.{list-equation}
 use Rattle.operand.specs.declared.forms.Register.{Register}
 use Rattle.operand.specs.declared.forms.Index.{Index}
@@ -51,7 +52,7 @@ module _ (s : Setting) (at : ℕ → Place) (count : ℕ) (ends : (j : ℕ) (k :
 
   pub displacement-read : {i j n size z : ℕ} {e : Expr} → Plain i j e → Sized at 0 j n size z → own < i → Stops at n → (l : ℕ)
       → Reads (Operand.parseSizedDisplacement s) at i l n (some (displaced e size))
-  unfolding Operand.parseSizedDisplacement Operand.displacementValue Operand.sized
+  unfolding Operand.parseSizedDisplacement Operand.orAbsent Operand.sized
   displacement-read h no-size low stop l = then (behind-own h low (stop .level) l) λ m. then (no-letter _ _ (stop .size)) λ m₂. answers
   displacement-read h (a-size t) low stop l = then (behind-own h low (letter-ends t) l) λ m. then (letter-read _ _ t) λ m₂. answers
 
@@ -67,7 +68,7 @@ module _ (s : Setting) (at : ℕ → Place) (count : ℕ) (ends : (j : ℕ) (k :
   -- I
   pub inside-read : {i j : ℕ} {d : Displacement} {r : Registers} → Inside s at (ordinary (s .mark)) own i j d r → own < i → Sign at Kinds.rightBracket j → (l : ℕ)
       → Reads (Operand.parseInner s) at i l j (some (inner d r))
-  unfolding Operand.parseInner Operand.innerDisplaced Operand.innerRegisters
+  unfolding Operand.parseInner Operand.innerDisplaced Operand.orNone
   inside-read Spelling.empty low c l = from-here (sees (omega arith) (c .there) (kinded c Kinds.rightBracket refl) answers)
   inside-read (Spelling.displacement h sz) low c l =
       let b = starts {s = s} h in
@@ -77,16 +78,16 @@ module _ (s : Setting) (at : ℕ → Place) (count : ℕ) (ends : (j : ℕ) (k :
       let b = starts {s = s} h in
       from-here (misses (omega arith) (other (b .sign) Kinds.rightBracket (b .rightBracket)) (misses (omega arith) (no-bases h)
       (then (displacement-read h sz low (stops-comma k) l) λ m. steps (k .there) (kinded k Kinds.comma refl)
-      (then (bases-read 9 r (stops-bracket c) (other c Kinds.comma refl) _) λ m₂. answers))))
+      (then (bases-read Shapes.memoryIndirect r (stops-bracket c) (other c Kinds.comma refl) _) λ m₂. answers))))
   inside-read (Spelling.bases r) low c l =
       let b = begun r in
       from-here (misses (omega arith) (other (b .name) Kinds.rightBracket refl) (sees (omega arith) (b .name .there) (b .passed)
-      (then (bases-read 9 r (stops-bracket c) (other c Kinds.comma refl) l) λ m₂. answers)))
+      (then (bases-read Shapes.memoryIndirect r (stops-bracket c) (other c Kinds.comma refl) l) λ m₂. answers)))
 
   -- T
   pub behind-read : {i j n : ℕ} {x y : Index} {d : Displacement} → Behind s at (ordinary (s .mark)) own x i j y n d → own ≤ i → Sign at Kinds.rightParen j → (l : ℕ)
       → Reads (Operand.parseOuter s x) at i l j (some (outer y n d))
-  unfolding Operand.parseOuter Operand.outerIndex Operand.outerIndexed Operand.outerDisplaced
+  unfolding Operand.parseOuter Operand.outerIndex Operand.outerIndexed Operand.orNone
   behind-read Spelling.empty low c l = passes (other c Kinds.comma refl) answers
   behind-read (Spelling.displacement k h sz) low c l =
       steps (k .there) (kinded k Kinds.comma refl) (from-here (misses (omega arith) (no-index h)
@@ -94,11 +95,11 @@ module _ (s : Setting) (at : ℕ → Place) (count : ℕ) (ends : (j : ℕ) (k :
   behind-read (Spelling.index k x) low c l =
       let z = index-seen x in
       steps (k .there) (kinded k Kinds.comma refl) (from-here (sees (omega arith) (z .there) (z .passed)
-      (then (index-read x (stops-close c) 9 _) λ m. passes (other c Kinds.comma refl) answers)))
+      (then (index-read x (stops-close c) Shapes.memoryIndirect _) λ m. passes (other c Kinds.comma refl) answers)))
   behind-read (Spelling.both k x k₂ h sz) low c l =
       let z = index-seen x in
       steps (k .there) (kinded k Kinds.comma refl) (from-here (sees (omega arith) (z .there) (z .passed)
-      (then (index-read x (stops-comma k₂) 9 _) λ m. steps (k₂ .there) (kinded k₂ Kinds.comma refl)
+      (then (index-read x (stops-comma k₂) Shapes.memoryIndirect _) λ m. steps (k₂ .there) (kinded k₂ Kinds.comma refl)
       (then (displacement-read h sz (omega (arith, index-rises x)) (stops-close c) _) λ m₂. answers))))
 
 bases-rise : {s : Setting} {at : ℕ → Place} {i j : ℕ} {r : Registers} → BaseAndIndex s at i j r → i ≤ j
@@ -131,7 +132,7 @@ first-at (more (a-range p m q low) k h) = p
 module _ (s : Setting) (at : ℕ → Place) (count : ℕ) (ends : (j : ℕ) (k : Token) (x : List ℕ) → at j ≡ stands k x → j < count) (few : count ≤ fuel) where
   -- one turn of the loop
   turned : {i l j : ℕ} {y : Operand} (items : List RegisterListItem) (r : Register)
-      → Reads (Operand.listItem r >>= Operand.nextItem (Operand.listLoop fuel s) s items) at i l j (some y) → Reads (Operand.listLoop fuel s items r) at i l j (some y)
+      → Reads (Operand.listItem r >>=? Operand.nextItem (Operand.listLoop fuel s) s items) at i l j (some y) → Reads (Operand.listLoop fuel s items r) at i l j (some y)
   turned {i} {l} items r h = record { end = h .end; same = list-equation at count ends few s items r i l ∙ h .same }
 
   single-item : (i l : ℕ) (r : Register) → holds (is Kinds.minus) (at i) ≡ false → run (Operand.listItem r) at i l ≡ reading i l [] (some (single r))
@@ -148,14 +149,14 @@ module _ (s : Setting) (at : ℕ → Place) (count : ℕ) (ends : (j : ℕ) (k :
 
   -- behind the last item
   list-ends : {j : ℕ} (e : ℕ) (items : List RegisterListItem) (x : RegisterListItem) → holds (is Kinds.slash) (at j) ≡ false
-      → Reads (Operand.nextItem (Operand.listLoop fuel s) s items (some x)) at j e j (some (O.registerList (items ++ (x ∷ [])) (span (s .start) e)))
+      → Reads (Operand.nextItem (Operand.listLoop fuel s) s items x) at j e j (some (O.registerList (items ++ (x ∷ [])) (span (s .start) e)))
   unfolding Operand.nextItem Operand.listed
   list-ends e items x q = passes q (from-here answers)
 
   -- behind an item and a slash
   list-goes-on : {j n z : ℕ} (e : ℕ) (items : List RegisterListItem) (x : RegisterListItem) (xs : List RegisterListItem) {r : Register} → Sign at Kinds.slash j → RegisterAt at (j + 1) r
       → Reads (Operand.listLoop fuel s (items ++ (x ∷ [])) r) at (j + 1 + 1) (r .span .end) n (some (O.registerList ((items ++ (x ∷ [])) ++ xs) (span (s .start) z)))
-      → Reads (Operand.nextItem (Operand.listLoop fuel s) s items (some x)) at j e n (some (O.registerList (items ++ (x ∷ xs)) (span (s .start) z)))
+      → Reads (Operand.nextItem (Operand.listLoop fuel s) s items x) at j e n (some (O.registerList (items ++ (x ∷ xs)) (span (s .start) z)))
   unfolding Operand.nextItem
   list-goes-on e items x xs k (a-register {r = n} t q) h =
       steps (k .there) (kinded k Kinds.slash refl) (steps (t .there) (held aRegister t (looks-register {s = s} (a-register t q) .registers))
@@ -164,7 +165,7 @@ module _ (s : Setting) (at : ℕ → Place) (count : ℕ) (ends : (j : ℕ) (k :
   -- the loop, behind the list's first register
   pub items-read : {i j e : ℕ} {xs : List RegisterListItem} (h : Items s at i j xs e) (items : List RegisterListItem) → holds (is Kinds.minus) (at j) ≡ false
       → holds (is Kinds.slash) (at j) ≡ false → Reads (Operand.listLoop fuel s items (first h)) at (i + 1) (first h .span .end) j (some (O.registerList (items ++ xs) (span (s .start) e)))
-  unfolding first
+  unfolding first Operand.orNone
   items-read {i} (last (a-single {r = r} p)) items a b = turned items r (then-at (single-item _ _ r a) (list-ends _ items (single r) b))
   items-read {i} (last (a-range {r = r} {q = q} p m g low)) items a b =
       turned items r (then-at (range-item _ r m g low) (list-ends _ items (range r q (span (r .span .start) (q .span .end))) b))

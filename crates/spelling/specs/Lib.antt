@@ -1,13 +1,13 @@
--- How operands are spelled, in reading order.
--- the grammar
+-- How operands are spelled.
+-- the definition: the grammar
 pub mod Signs
 pub mod Expressions
 pub mod Spelling
--- what is shown of it
+-- the laws: what is shown of the grammar
 pub mod Conditions
 pub mod Answers
 pub mod Manual
--- from a spelling to its reading
+-- the laws: from a spelling to its reading
 pub mod Reads
 pub mod Climbs
 pub mod Names
@@ -17,7 +17,7 @@ pub mod Inner
 pub mod Openings
 pub mod Beginnings
 pub mod Spelled
--- from a reading to its spelling
+-- the laws: from a reading to its spelling
 pub mod Silence
 pub mod Sound
 pub mod Found

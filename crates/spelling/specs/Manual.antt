@@ -124,5 +124,5 @@ modes =
 
 -- each is read as its mode
 pub modes-are-read : readings modes ≡ expected modes
-unfolding readings expected modes Names·Tokens.tokenAt Names·Places.textOf Names·Places.placed Names·Places.place Names·Letters.lower Names·Letters.lowered Names·Letters.same Names·Letters.spelled Names·Registers.pair Names·Registers.register Names·Registers.registerOf Names·Registers.programCounter Names·Registers.numbered Names·Registers.specialOf Names·Registers.suppressing Names·Registers.suppressed Names·Registers.suppressedOf Names·Registers.oneOf Names·Registers.reserved Names·Sizes.runOf Names·Sizes.letterSize Names·Sizes.sizeOf Names·Numbers.radixOf Names·Numbers.width Names·Numbers.figure Names·Numbers.scan Names·Numbers.digitsOf Names·Numbers.inBase Names·Numbers.baseOf Names·Numbers.numberOf Expressions·Trees.spanE Expressions·Trees.withSpan Expressions·Reader.met Expressions·Reader.run Expressions·Expressions.known Expressions·Expressions.suffixRun Expressions·Expressions.takeSizeSuffix Expressions·Expressions.precedence Expressions·Expressions.binaryOperator Expressions·Expressions.operator Expressions·Expressions.operated Expressions·Expressions.parseExpressionFrom Expressions·Expressions.climbed Expressions·Expressions.parseExpressionOf Expressions·Expressions.isUnary Expressions·Expressions.unaryOperator Expressions·Expressions.negated Expressions·Expressions.plussed Expressions·Expressions.valued Expressions·Expressions.named Expressions·Expressions.grouped Expressions·Expressions.numberTerm Expressions·Expressions.leafTerm Expressions·Expressions.parsePrefixTerm Expressions·Expressions.tooDeep Expressions·Expressions.parsePrefix Expressions·Expressions.fuel Expressions·Expressions.parseExpression Expressions·Expressions.expressionFrom Operand·Operand.isAddress Operand·Operand.isSuppressed Operand·Operand.isSuppressedRegister Operand·Operand.isSuppressedAddress Operand·Operand.aRegister Operand·Operand.anAddressRegister Operand·Operand.aProgramCounter Operand·Operand.unmarked Operand·Operand.anIndex Operand·Operand.aBaseOrAnIndex Operand·Operand.indexOf Operand·Operand.suppressedIndex Operand·Operand.registerFrom Operand·Operand.malformed Operand·Operand.unclosed Operand·Operand.steppedOver Operand·Operand.notAnAddressRegister Operand·Operand.immediateSize Operand·Operand.immediateValue Operand·Operand.parseImmediate Operand·Operand.expectClose Operand·Operand.over Operand·Operand.predecremented Operand·Operand.predecrementClose Operand·Operand.parsePredecrement Operand·Operand.registerExpected Operand·Operand.ranged Operand·Operand.listItem Operand·Operand.listed Operand·Operand.nextItem Operand·Operand.listLoop Operand·Operand.parseRegisterList Operand·Operand.registerDirect Operand·Operand.parseRegisterOperand Operand·Operand.scaleOf Operand·Operand.scaled Operand·Operand.indexScale Operand·Operand.indexSize Operand·Operand.indexRegister Operand·Operand.parseIndexRegister Operand·Operand.baseShape Operand·Operand.indexedOperand Operand·Operand.closedIndex Operand·Operand.closedBase Operand·Operand.afterBase Operand·Operand.closedCounter Operand·Operand.afterCounter Operand·Operand.parseBaseAndIndex Operand·Operand.indexAlone Operand·Operand.afterBaseRegister Operand·Operand.sizeOrScale Operand·Operand.noBase Operand·Operand.parseBaseAndIndexRegisters Operand·Operand.closes Operand·Operand.startsAFullIndex Operand·Operand.fullIndexed Operand·Operand.closedRegisters Operand·Operand.parseFullIndex Operand·Operand.sized Operand·Operand.displacementValue Operand·Operand.parseSizedDisplacement Operand·Operand.innerRegisters Operand·Operand.innerDisplaced Operand·Operand.parseInner Operand·Operand.outerDisplaced Operand·Operand.outerIndexed Operand·Operand.outerIndex Operand·Operand.parseOuter Operand·Operand.memoryIndirect Operand·Operand.outerClosed Operand·Operand.innerClosed Operand·Operand.parseMemoryIndirect Operand·Operand.absoluteSize Operand·Operand.finishExpressionOperand Operand·Operand.displacementTail Operand·Operand.expressionOperand Operand·Operand.parseExpressionOperand Operand·Operand.groupedOperand Operand·Operand.sizedBase Operand·Operand.unexpected Operand·Operand.afterExpression Operand·Operand.parenthesisedExpression Operand·Operand.parenthesised Operand·Operand.startsABase Operand·Operand.parseParenthesisedOperand Operand·Operand.specialIndex Operand·Operand.nameOrExpression Operand·Operand.minusOperand Operand·Operand.operandFrom Operand·Operand.parseOperand Operand·Operand.readingOf
+unfolding readings expected modes Names·Tokens.tokenAt Names·Places.textOf Names·Places.placed Names·Places.place Names·Letters.lower Names·Letters.lowered Names·Letters.same Names·Letters.spelled Names·Registers.pair Names·Registers.register Names·Registers.registerOf Names·Registers.programCounter Names·Registers.numbered Names·Registers.specialOf Names·Registers.suppressing Names·Registers.suppressed Names·Registers.suppressedOf Names·Registers.oneOf Names·Registers.reserved Names·Sizes.runOf Names·Sizes.letterSize Names·Sizes.sizeOf Names·Numbers.radixOf Names·Numbers.width Names·Numbers.figure Names·Numbers.scan Names·Numbers.digitsOf Names·Numbers.inBase Names·Numbers.baseOf Names·Numbers.numberOf Expressions·Trees.spanE Expressions·Trees.withSpan Expressions·Reader.met Expressions·Reader.run Expressions·Expressions.known Expressions·Expressions.suffixRun Expressions·Expressions.takeSizeSuffix Expressions·Expressions.precedence Expressions·Expressions.binaryOperator Expressions·Expressions.operator Expressions·Expressions.operated Expressions·Expressions.parseExpressionFrom Expressions·Expressions.climbed Expressions·Expressions.parseExpressionOf Expressions·Expressions.isUnary Expressions·Expressions.unaryOperator Expressions·Expressions.negated Expressions·Expressions.plussed Expressions·Expressions.valued Expressions·Expressions.named Expressions·Expressions.grouped Expressions·Expressions.numberTerm Expressions·Expressions.leafTerm Expressions·Expressions.parsePrefixTerm Expressions·Expressions.tooDeep Expressions·Expressions.parsePrefix Expressions·Expressions.fuel Expressions·Expressions.parseExpression Expressions·Expressions.expressionFrom Operand·Operand.isAddress Operand·Operand.isSuppressed Operand·Operand.isSuppressedRegister Operand·Operand.isSuppressedAddress Operand·Operand.aRegister Operand·Operand.anAddressRegister Operand·Operand.aProgramCounter Operand·Operand.unmarked Operand·Operand.anIndex Operand·Operand.aBaseOrAnIndex Operand·Operand.indexOf Operand·Operand.suppressedIndex Operand·Operand.registerFrom Operand·Operand.malformed Operand·Operand.unclosed Operand·Operand.steppedOver Operand·Operand.notAnAddressRegister Operand·Operand.immediateSize Operand·Operand.orAbsent Operand·Operand.parseImmediate Operand·Operand.expectClose Operand·Operand.over Operand·Operand.orNone Operand·Operand.predecrementClose Operand·Operand.parsePredecrement Operand·Operand.registerExpected Operand·Operand.ranged Operand·Operand.listItem Operand·Operand.listed Operand·Operand.nextItem Operand·Operand.listLoop Operand·Operand.parseRegisterList Operand·Operand.registerDirect Operand·Operand.parseRegisterOperand Operand·Operand.scaleOf Operand·Operand.scaled Operand·Operand.indexScale Operand·Operand.indexSize Operand·Operand.indexRegister Operand·Operand.parseIndexRegister Operand·Operand.baseShape Operand·Operand.indexedOperand Operand·Operand.closedBase Operand·Operand.afterBase Operand·Operand.closedCounter Operand·Operand.afterCounter Operand·Operand.parseBaseAndIndex Operand·Operand.afterBaseRegister Operand·Operand.sizeOrScale Operand·Operand.noBase Operand·Operand.parseBaseAndIndexRegisters Operand·Operand.closes Operand·Operand.startsAFullIndex Operand·Operand.parseFullIndex Operand·Operand.sized Operand·Operand.parseSizedDisplacement Operand·Operand.innerDisplaced Operand·Operand.parseInner Operand·Operand.outerIndexed Operand·Operand.outerIndex Operand·Operand.parseOuter Operand·Operand.parseMemoryIndirect Operand·Operand.absoluteSize Operand·Operand.finishExpressionOperand Operand·Operand.displacementTail Operand·Operand.parseExpressionOperand Operand·Operand.groupedOperand Operand·Operand.sizedBase Operand·Operand.unexpected Operand·Operand.afterExpression Operand·Operand.parenthesised Operand·Operand.startsABase Operand·Operand.parseParenthesisedOperand Operand·Operand.specialIndex Operand·Operand.nameOrExpression Operand·Operand.minusOperand Operand·Operand.operandFrom Operand·Operand.parseOperand Operand·Operand.readingOf
 modes-are-read = refl

@@ -9,6 +9,8 @@ use borrow.Author.Tests.{eqb-true}
 use lib.Dec.{eqb, leb}
 use Rattle.names.specs.Choice.{pick, both, either}
 use Rattle.names.specs.Letters.{bytes, lowered, same, spelled}
+pub use Rattle.names.specs.Laws.{both-false, both-first, both-second}
+use Rattle.names.specs.Laws.{same-true, either-first, either-second}
 use Rattle.names.specs.Registers.{pair, register, registerOf, programCounter, numbered, specialNames, specialOf, suppressing, suppressed, suppressedOf, reserved}
 use Rattle.names.specs.Reserved.{isRegister, isSpecial, reserved-rule}
 use Rattle.names.specs.declared.registers.Reg.{Reg}
@@ -16,28 +18,6 @@ use Rattle.names.specs.declared.registers.SpecialRegister.{SpecialRegister}
 use Rattle.names.specs.declared.registers.Suppressed.{Suppressed}
 use Rattle.expressions.specs.Costs.{true-false}
 use Rattle.operand.specs.Operand.{isSuppressed}
-
-pub both-first : (a b : Bool) → both a b ≡ true → a ≡ true
-both-first true b h = refl
-both-first false b h = absurd (true-false (sym h))
-
-pub both-second : (a b : Bool) → both a b ≡ true → b ≡ true
-both-second true b h = h
-both-second false b h = absurd (true-false (sym h))
-
-pub both-false : (a : Bool) → both a false ≡ false
-both-false true = refl
-both-false false = refl
-
-same-true : (x y : List ℕ) → same x y ≡ true → x ≡ y
-unfolding same
-same-true [] [] h = refl
-same-true [] (d ∷ ds) h = absurd (true-false (sym h))
-same-true (c ∷ cs) [] h = absurd (true-false (sym h))
-same-true (c ∷ cs) (d ∷ ds) h =
-    let e = eqb-true c d (both-first (eqb c d) (same cs ds) h) in
-    let es = same-true cs ds (both-second (eqb c d) (same cs ds) h) in
-    rw (e, es)
 
 -- ---- registers are not suppressed
 
@@ -128,14 +108,6 @@ special-unregistered x n h =
     each (λ y. isRegister (register y)) 1 n specialNames (lowered x) (refl, (refl, (refl, (refl, (refl, (refl, (refl, (refl, (refl, (refl, tt)))))))))) h
 
 -- ---- names that are not reserved
-
-either-first : (a b : Bool) → either a b ≡ false → a ≡ false
-either-first true b h = h
-either-first false b h = refl
-
-either-second : (a b : Bool) → either a b ≡ false → b ≡ false
-either-second true b h = absurd (true-false h)
-either-second false b h = h
 
 module _ (x : List ℕ) (h : reserved x ≡ false) where
   abbrev counted : Bool

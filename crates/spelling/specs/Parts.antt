@@ -199,7 +199,7 @@ module _ {s : Setting} {at : ℕ → Place} where
   -- behind a base, a comma and an index
   base-indexed : {j n : ℕ} {x : IndexRegister} (shape : ℕ) (b : BaseRegister) → Sign at Kinds.comma j → Indexes s at (j + 1) n x → Stops at n → (l : ℕ)
       → Reads (Operand.afterBaseRegister s shape b) at j l n (some (registers b (Index.Indexed x)))
-  unfolding Operand.afterBaseRegister Operand.indexAlone
+  unfolding Operand.afterBaseRegister Operand.orNone
   base-indexed shape b c x stop l =
       let z = index-seen x in
       from-here (sees refl (z .there) (z .passed) (steps (c .there) (kinded c Kinds.comma refl) (then (index-read x stop shape _) λ m. answers)))
@@ -227,7 +227,7 @@ module _ {s : Setting} {at : ℕ → Place} where
   -- an index and no base, once it is known to be none
   no-base : {i n : ℕ} {x : IndexRegister} (shape : ℕ) → Indexes s at i n x → Stops at n → (l : ℕ)
       → Reads (Operand.noBase s shape) at i l n (some (registers BaseRegister.Omitted (Index.Indexed x)))
-  unfolding Operand.noBase Operand.indexAlone
+  unfolding Operand.noBase Operand.orNone
   no-base shape x stop l =
       let z = index-seen x in
       from-here (sees (omega arith) (z .there) (z .passed) (then (index-read x stop shape _) λ m. answers))

@@ -16,6 +16,7 @@ use Rattle.names.specs.Numbers.{numberOf}
 use Rattle.names.specs.declared.tokens.Token.{Token}
 use Rattle.names.specs.declared.numbers.Number.{Number}
 use Rattle.records.specs.Spans.{spanOf}
+use Rattle.expressions.specs.Levels.{precedence-most}
 use Rattle.expressions.specs.Trees.{Expr, number}
 use Rattle.expressions.specs.Reader.{Reader, is}
 use Rattle.expressions.specs.Expressions.{Term, read, reported, absent, precedence, binaryOperator, operator, operated, parseExpressionFrom, climbed, parseExpressionOf, isUnary, unaryOperator, negated, plussed, valued, named, grouped, numberTerm, leafTerm, parsePrefixTerm, tooDeep, parsePrefix, fuel, parseExpression, expressionFrom}
@@ -25,7 +26,7 @@ use Rattle.spelling.specs.Signs.{Sign, unreserved}
 use Rattle.spelling.specs.Expressions.{Worth, value, invalid, Unary, Binary, Spells, a-number, a-literal, a-name, a-local, an-address, a-unary, a-group, tighter, joined}
 use Rattle.spelling.specs.Expressions as E
 use Rattle.spelling.specs.Reads.{comes}
-use Rattle.spelling.specs.Climbs.{Ends, precedence-most}
+use Rattle.spelling.specs.Climbs.{Ends}
 use Rattle.spelling.specs.Silence.{Silent, Quiet, call}
 
 -- ---- the signs

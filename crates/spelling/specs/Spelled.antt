@@ -14,11 +14,12 @@ use Rattle.names.specs.Places.{Place, nothing, stands}
 use Rattle.names.specs.Registers.{specialOf}
 use Rattle.names.specs.declared.tokens.Token.{Token}
 use Rattle.names.specs.declared.registers.SpecialRegister.{SpecialRegister}
+use Rattle.records.specs.Shapes
 use Rattle.records.specs.Spans.{span, spanOf}
 use Rattle.expressions.specs.Trees.{Expr, spanE}
 use Rattle.expressions.specs.declared.reading.Setting.{Setting}
 use Rattle.expressions.specs.Reader.{is}
-use Rattle.expressions.specs.Expressions.{read, precedence, fuel, expressionFrom}
+use Rattle.expressions.specs.Expressions.{precedence, fuel, expressionFrom}
 use Rattle.expressions.specs.Laws.{holds}
 use Rattle.expressions.specs.Costs.{true-false}
 use Rattle.operand.specs.Operands.{Displacement, displaced, undisplaced, RegisterListItem, Operand, some}
@@ -61,8 +62,8 @@ module _ (s : Setting) (at : ℕ → Place) (count : ℕ) (ends : (j : ℕ) (k :
   -- ---- 1: immediate
 
   immediate-read : {j l : ℕ} {y : Operand} {e : Expr} (t : Sign at Kinds.hash own) → Plain (own + 1) j e → Ends at 1 j → {n : ℕ}
-      → ((l : ℕ) → Reads (Operand.immediateValue s (t .token) (read e)) at j l n (some y)) → Reads (operandFrom s) at own l n (some y)
-  unfolding operandFrom Operand.parseImmediate
+      → ((l : ℕ) → Reads (Operand.sizedImmediate s (t .token) e) at j l n (some y)) → Reads (operandFrom s) at own l n (some y)
+  unfolding operandFrom Operand.parseImmediate Operand.orAbsent
   immediate-read t h stop g =
       misses (omega arith) (other t Kinds.comma refl) (steps (t .there) (kinded t Kinds.hash refl) (then (behind-own s at count ends few own h (omega arith) stop _) g))
 
@@ -109,7 +110,7 @@ module _ (s : Setting) (at : ℕ → Place) (count : ℕ) (ends : (j : ℕ) (k :
   -- the way to the base
   opening-read : {i j l : ℕ} {d : Displacement} {y : Operand} → Opening s at (ordinary (s .mark)) own i d → BaseLike s at i → Shut at (i + 1) → BaseRead i j d y
       → Reads (operandFrom s) at own l j (some y)
-  unfolding Operand.parseParenthesisedOperand Operand.parenthesised Operand.parenthesisedExpression Operand.afterExpression Operand.displacementTail Operand.parseExpressionOperand Operand.expressionOperand
+  unfolding Operand.parseParenthesisedOperand Operand.parenthesised Operand.orAbsent Operand.afterExpression Operand.displacementTail Operand.parseExpressionOperand
   opening-read (Spelling.alone t) b c g =
       begins-group s at own t λ l. passes (base-unbracketed b) (base-not-full s _ _ b c (base-starts s _ _ b c (g (t .token) l)))
   opening-read (Spelling.displacing (Spelling.inside t e k)) b c g =
@@ -144,25 +145,25 @@ module _ (s : Setting) (at : ℕ → Place) (count : ℕ) (ends : (j : ℕ) (k :
   address-index : {i n : ℕ} (r : Register) (d : Displacement) {x : IndexRegister} {y : Operand} → Sign at Kinds.comma i → Indexes s at (i + 1) n x → (c : Sign at Kinds.rightParen n)
       → pick (x .suppressed) (O.fullIndex d (BaseRegister.Address r) (Index.Indexed x) 0 undisplaced (span (s .start) (c .token .end))) (O.index d r x (span (s .start) (c .token .end))) ≡ y
       → (k : Token) (l : ℕ) → Reads (Operand.afterBase s k d r) at i l (n + 1) (some y)
-  unfolding Operand.afterBase Operand.closedIndex Operand.indexedOperand
+  unfolding Operand.afterBase Operand.orNone Operand.indexedOperand
   address-index r d m x c e k l =
-      passes (other m Kinds.rightParen refl) (steps (m .there) (kinded m Kinds.comma refl) (then (index-read x (stops-close c) 6 _)
-      λ l₂. then (expect k 6 c) λ l₃. rw e answers))
+      passes (other m Kinds.rightParen refl) (steps (m .there) (kinded m Kinds.comma refl) (then (index-read x (stops-close c) Shapes.index _)
+      λ l₂. then (expect k Shapes.index c) λ l₃. rw e answers))
 
   counter-index : {i n : ℕ} (d : Displacement) {x : IndexRegister} {y : Operand} → Sign at Kinds.comma i → Indexes s at (i + 1) n x → (c : Sign at Kinds.rightParen n)
       → pick (x .suppressed) (O.fullIndex d BaseRegister.ProgramCounter (Index.Indexed x) 0 undisplaced (span (s .start) (c .token .end))) (O.pcIndex d x (span (s .start) (c .token .end))) ≡ y
       → (k : Token) (l : ℕ) → Reads (Operand.afterCounter s k d) at i l (n + 1) (some y)
-  unfolding Operand.afterCounter Operand.closedIndex Operand.indexedOperand
+  unfolding Operand.afterCounter Operand.orNone Operand.indexedOperand
   counter-index d m x c e k l =
-      passes (other m Kinds.rightParen refl) (steps (m .there) (kinded m Kinds.comma refl) (then (index-read x (stops-close c) 8 _)
-      λ l₂. then (expect k 8 c) λ l₃. rw e answers))
+      passes (other m Kinds.rightParen refl) (steps (m .there) (kinded m Kinds.comma refl) (then (index-read x (stops-close c) Shapes.pcIndex _)
+      λ l₂. then (expect k Shapes.pcIndex c) λ l₃. rw e answers))
 
   -- ---- 12: full
 
   full-read : {i n : ℕ} {r : Registers} (k : Token) (d : Displacement) → BaseAndIndex s at i n r → (c : Sign at Kinds.rightParen n) → (l : ℕ)
       → Reads (Operand.parseFullIndex s k d) at i l (n + 1) (some (O.fullIndex d (r .base) (r .index) 0 undisplaced (span (s .start) (c .token .end))))
-  unfolding Operand.parseFullIndex Operand.closedRegisters Operand.fullIndexed
-  full-read k d b c l = then (bases-read 6 b (stops-close c) (other c Kinds.comma refl) l) λ l₂. then (expect k 6 c) λ l₃. answers
+  unfolding Operand.parseFullIndex Operand.orNone
+  full-read k d b c l = then (bases-read Shapes.index b (stops-close c) (other c Kinds.comma refl) l) λ l₂. then (expect k Shapes.index c) λ l₃. answers
 
   -- ---- 13: absolute
 
@@ -182,7 +183,7 @@ module _ (s : Setting) (at : ℕ → Place) (count : ℕ) (ends : (j : ℕ) (k :
 
   absolute-bare : {j n size z l : ℕ} {e : Expr} → Plain own j e → Sized at (spanE e .end) j n size z → Closed at n → holds (is Kinds.leftParen) (at own) ≡ false
       → Reads (operandFrom s) at own l n (some (O.absolute e size (span (s .start) z)))
-  unfolding Operand.parseExpressionOperand Operand.expressionOperand Operand.displacementTail
+  unfolding Operand.parseExpressionOperand Operand.orAbsent Operand.displacementTail
   absolute-bare {e = e} h sz c p =
       begins-expression s at own h p (then (expression-read at count ends few own (ordinary (s .mark)) (ordinary-free (s .mark)) h (omega arith) (λ z t. true-false (sym (comes (is Kinds.leftParen) t (kinded t Kinds.leftParen refl)) ∙ p)) (absolute-ends sz c) _)
       λ l₂. passes (absolute-open sz c) (finish-read e sz c l₂))
@@ -191,7 +192,7 @@ module _ (s : Setting) (at : ℕ → Place) (count : ℕ) (ends : (j : ℕ) (k :
   grouped-from : {start e : Expr} {mid j n size z l : ℕ} → First at count ends few own (ordinary (s .mark)) (s .limit) own mid start → Sign at Kinds.leftParen own
       → holds (is Kinds.leftParen) (at mid) ≡ false → ((l : ℕ) → Reads (expressionFrom (s .limit) start) at mid l j e) → Sized at (spanE e .end) j n size z → Closed at n
       → Reads (operandFrom s) at own l n (some (O.absolute e size (span (s .start) z)))
-  unfolding Operand.parenthesised Operand.parenthesisedExpression Operand.afterExpression Operand.displacementTail
+  unfolding Operand.parenthesised Operand.orAbsent Operand.afterExpression Operand.displacementTail
   grouped-from (a-term b h) p unopened on sz c = absurd (b refl p)
   grouped-from {e = e} (the-own q m t h r k) p unopened on sz c =
       begins-group s at own t λ l. expression-opens (t .token) h l (then (r l) λ l₂.
@@ -243,13 +244,13 @@ module _ (s : Setting) (at : ℕ → Place) (count : ℕ) (ends : (j : ℕ) (k :
 
   predecrement-read : {l : ℕ} {r : Register} (m : Sign at Kinds.minus own) → Sign at Kinds.leftParen (own + 1) → AddressAt at (own + 1 + 1) r
       → (c : Sign at Kinds.rightParen (own + 1 + 1 + 1)) → Reads (operandFrom s) at own l (own + 1 + 1 + 1 + 1) (some (O.predecrement r (span (m .token .start) (c .token .end))))
-  unfolding operandFrom Operand.minusOperand Operand.parsePredecrement Operand.over Operand.predecrementClose Operand.predecremented
+  unfolding operandFrom Operand.minusOperand Operand.parsePredecrement Operand.over Operand.predecrementClose Operand.orNone
   predecrement-read m t (an-address (a-register {r = r} p q) low) c =
       misses (omega arith) (other m Kinds.comma refl) (passes (other m Kinds.hash refl) (passes (other m Kinds.leftParen refl)
       (sees (omega arith) (m .there) (kinded m Kinds.minus refl) (sees refl (t .there) (kinded t Kinds.leftParen refl)
       (sees (omega arith) (p .there) (held aRegister p (looks-register {s = s} (a-register p q) .registers))
       (steps (m .there) refl (steps (t .there) refl (steps (p .there) refl
-      (rw (registered (p .token) (p .text) r q, le-leb 8 r low) (then (expect (t .token) 4 c) λ l₂. answers))))))))))
+      (rw (registered (p .token) (p .text) r q, le-leb 8 r low) (then (expect (t .token) Shapes.predecrement c) λ l₂. answers))))))))))
 
   full-alone : {n l : ℕ} {r : Registers} → Sign at Kinds.leftParen own → Full s at (own + 1) n r → (c : Sign at Kinds.rightParen n)
       → Reads (operandFrom s) at own l (n + 1) (some (O.fullIndex undisplaced (r .base) (r .index) 0 undisplaced (span (s .start) (c .token .end))))
@@ -261,7 +262,7 @@ module _ (s : Setting) (at : ℕ → Place) (count : ℕ) (ends : (j : ℕ) (k :
   full-displaced : {j n l : ℕ} {e : Expr} {r : Registers} → Sign at Kinds.leftParen own → Plain (own + 1) j e → Sign at Kinds.comma j → Full s at (j + 1) n r
       → (c : Sign at Kinds.rightParen n)
       → Reads (operandFrom s) at own l (n + 1) (some (O.fullIndex (displaced e 0) (r .base) (r .index) 0 undisplaced (span (s .start) (c .token .end))))
-  unfolding Operand.parenthesised Operand.parenthesisedExpression Operand.afterExpression
+  unfolding Operand.parenthesised Operand.orAbsent Operand.afterExpression
   full-displaced {e = e} t h m f c =
       begins-group s at own t λ l. expression-opens (t .token) h l (then (behind-own s at count ends few own h (omega arith) (stops-comma m .level) l) λ l₂.
       steps (m .there) (kinded m Kinds.comma refl) (full-starts s _ _ f c (full-read (t .token) (displaced e 0) (full-bases f) c _)))
@@ -269,7 +270,7 @@ module _ (s : Setting) (at : ℕ → Place) (count : ℕ) (ends : (j : ℕ) (k :
   full-sized : {j n l size : ℕ} {e : Expr} {r : Registers} → Sign at Kinds.leftParen own → Plain (own + 1) j e → Letter at j size → Sign at Kinds.comma (j + 1)
       → BaseAndIndex s at (j + 1 + 1) n r → (c : Sign at Kinds.rightParen n)
       → Reads (operandFrom s) at own l (n + 1) (some (O.fullIndex (displaced e size) (r .base) (r .index) 0 undisplaced (span (s .start) (c .token .end))))
-  unfolding Operand.parenthesised Operand.parenthesisedExpression Operand.afterExpression Operand.sizedBase Operand.over
+  unfolding Operand.parenthesised Operand.orAbsent Operand.afterExpression Operand.sizedBase Operand.over
   full-sized {size = size} {e = e} t h z m b c =
       begins-group s at own t λ l. expression-opens (t .token) h l (then (behind-own s at count ends few own h (omega arith) (letter-ends z) l) λ l₂.
       passes (other (z .sign) Kinds.comma refl) (passes (other (z .sign) Kinds.rightParen refl) (sees (omega arith) (z .sign .there) (kinded (z .sign) Kinds.sizeSuffix refl)
@@ -278,11 +279,11 @@ module _ (s : Setting) (at : ℕ → Place) (count : ℕ) (ends : (j : ℕ) (k :
   memory-read : {j n l indirection : ℕ} {d u : Displacement} {r : Registers} {x : Index} → Sign at Kinds.leftParen own → Sign at Kinds.leftBracket (own + 1)
       → Inside s at (ordinary (s .mark)) own (own + 1 + 1) j d r → Sign at Kinds.rightBracket j → Behind s at (ordinary (s .mark)) own (r .index) (j + 1) n x indirection u → (c : Sign at Kinds.rightParen n)
       → Reads (operandFrom s) at own l (n + 1) (some (O.fullIndex d (r .base) x indirection u (span (s .start) (c .token .end))))
-  unfolding Operand.parseParenthesisedOperand Operand.parseMemoryIndirect Operand.innerClosed Operand.outerClosed Operand.memoryIndirect
+  unfolding Operand.parseParenthesisedOperand Operand.parseMemoryIndirect Operand.orNone
   memory-read t b h z u c =
       begins-group s at own t λ l. steps (b .there) (kinded b Kinds.leftBracket refl) (then (inside-read s at count ends few own h (omega arith) z _) λ l₂.
       steps (z .there) (kinded z Kinds.rightBracket refl) (then (behind-read s at count ends few own u (omega (arith, inside-rises h)) c _) λ l₃.
-      then (expect (t .token) 9 c) λ l₄. answers))
+      then (expect (t .token) Shapes.memoryIndirect c) λ l₄. answers))
 
   absolute-read : {j n size z l : ℕ} {e : Expr} → Plain own j e → Sized at (spanE e .end) j n size z → Closed at n
       → Reads (operandFrom s) at own l n (some (O.absolute e size (span (s .start) z)))
@@ -313,7 +314,7 @@ module _ (s : Setting) (at : ℕ → Place) (count : ℕ) (ends : (j : ℕ) (k :
   -- ---- each spelling
 
   pub operand-read : {j : ℕ} {y : Operand} → Spelling s at (ordinary (s .mark)) own j y → Closed at j → (l : ℕ) → Reads (operandFrom s) at own l j (some y)
-  unfolding Operand.immediateValue Operand.immediateSize
+  unfolding Operand.orAbsent Operand.immediateSize
   operand-read (Spelling.immediate t h) c l =
       immediate-read t h (stops-closed c .level) λ l₂. then (no-letter _ _ (stops-closed c .size)) λ l₃. answers
   operand-read (Spelling.immediate-long t h z) c l = immediate-read t h (letter-ends z) λ l₂. then (letter-read _ _ z) λ l₃. answers

@@ -1,2 +1,1 @@
--- Laws that the proofs share.
-pub mod Puts
+-- What the proofs of a module share stands in the folder of that module.

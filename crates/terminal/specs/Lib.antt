@@ -1,4 +1,8 @@
--- What the exported call gives, in reading order.
+-- The exported call.
+-- the definition
 pub mod Exported
-pub mod Inner
+-- what is asked and told
+pub mod Call
+-- the laws
+pub mod Conditions
 pub mod Stays

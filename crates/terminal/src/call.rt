@@ -3,18 +3,20 @@ use entry::parse_operand;
 use layout::Answer;
 use layout::Found;
 use layout::Missed;
+use layout::NO_OPERAND;
+use layout::OPERAND;
 use layout::operand_bytes;
 use layout::write;
 ghost use mathlib.Core.Path.{_≡_};
 ghost use Rattle.operand.specs.Entry.{call};
 ghost use Rattle.layout.specs.declared.answer.Answer.the-variants as answer;
 ghost use Rattle.terminal.specs.Exported.{exported, told};
-ghost use Rattle.terminal.specs.Inner.{FoundAsks, MissedAsks, AnswerPut};
+ghost use Rattle.terminal.specs.Call.{FoundAsks, MissedAsks, AnswerPut};
 
 // The bytes of an answer.
 const ANSWER: usize = 27;
-// The number of the refusal of a store that is too short for them.
-const SHORT_ANSWER: u8 = 9;
+// The number of the refusal of a store that is too short for them: the library's own.
+const SHORT_ANSWER: u8 = 255;
 
 // Reads the operand that begins at the token `start` and writes the answer into `out`. Returns 0, or the number of a refusal, which writes nothing.
 #[no_mangle]
@@ -49,7 +51,7 @@ fn put_found(out: &mut [u8], x: Found) -> u8
     let operand = x.operand;
     let m = operand.mask;
     let head = [
-        0,
+        OPERAND,
         x.cursor as u8,
         x.nodes as u8,
         (d % 256) as u8,
@@ -69,7 +71,13 @@ fn put_missed(out: &mut [u8], x: Missed) -> u8
     ensures { λ r. ⌜ AnswerPut (answer.NoOperand x) (now (out .entry)) (now (out .exit)) r ⌝ }
 {
     let d = x.diagnostics;
-    let head = [1, x.cursor as u8, 0, (d % 256) as u8, (d / 256 % 256) as u8];
+    let head = [
+        NO_OPERAND,
+        x.cursor as u8,
+        0,
+        (d % 256) as u8,
+        (d / 256 % 256) as u8,
+    ];
     let rest: [u8; 22] = [0; 22];
     write(out, 0, &head);
     write(out, 5, &rest);

@@ -14,7 +14,7 @@ use parts::Parts;
 use table::{Expected, Section};
 
 /// The shapes and problems of `MalformedOperand` that occur together.
-const REACHABLE: [(u8, &[u8]); 8] = [
+pub const REACHABLE: [(u8, &[u8]); 8] = [
     (1, &[1]),
     (2, &[2, 3]),
     (4, &[2, 3]),

@@ -6,7 +6,7 @@
 use crate::hex::{self, HexFault};
 use std::fmt;
 
-/// A token as document 01 lays it out: kind, detail, start, end.
+/// A token: kind, detail, start, end (docs/FORMAT.md).
 pub type TokenBytes = [u8; 4];
 
 /// The longest line that a frame can hold, in bytes.

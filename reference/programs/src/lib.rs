@@ -4,7 +4,7 @@
 //! |---|---|
 //! | `hex`, `printable`, `lines`, `command_line` | digits, any bytes, bounded lines, and how every program ends |
 //! | `frame`, `tokens`, `refusal` | a frame's parts and what makes it no input |
-//! | `recover`, `records` | the Rust's tree and diagnostics as document 01's records |
+//! | `recover`, `records` | the Rust's tree and diagnostics as the records of docs/FORMAT.md |
 //! | `answer`, `reference` | an answer line, and the reference's own answer to a frame |
 //! | `names`, `words` | the records in words |
 //! | `lexer` | a text's tokens, for people |

@@ -1,4 +1,4 @@
-//! The numbers of document 01's records, in words.
+//! The numbers of the records (docs/FORMAT.md), in words.
 
 use crate::records::{ABSENT, PC, SUPPRESSED_BASE, SUPPRESSED_PC};
 

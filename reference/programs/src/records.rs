@@ -1,4 +1,4 @@
-//! The Rust's operand, tree and diagnostics as document 01's records.
+//! The Rust's operand, tree and diagnostics as the records of docs/FORMAT.md.
 
 mod diagnostics;
 mod nodes;

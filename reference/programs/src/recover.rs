@@ -1,4 +1,4 @@
-//! Spans that document 01's records hold and the Rust's tree and diagnostics do not.
+//! Spans that the records (docs/FORMAT.md) hold and the Rust's tree and diagnostics do not.
 //!
 //! The Rust keeps a name, a literal or a quoted text as a `String`; a record keeps the place
 //! where it stands. Each function here says from what the place follows, and checks that the

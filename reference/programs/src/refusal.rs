@@ -22,7 +22,7 @@ pub enum Refusal {
 }
 
 impl Refusal {
-    /// The refusal's number in document 01.
+    /// The refusal's number (docs/FORMAT.md).
     pub fn number(self) -> u8 {
         self as u8
     }

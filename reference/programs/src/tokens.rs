@@ -153,7 +153,7 @@ pub enum TokenFault {
 }
 
 impl TokenFault {
-    /// Every fault, in the order in which document 01 lists them.
+    /// Every fault, in the order in which docs/FORMAT.md lists them.
     pub const ALL: [TokenFault; 8] = [
         TokenFault::Kind,
         TokenFault::Detail,

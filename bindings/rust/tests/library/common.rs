@@ -54,7 +54,7 @@ impl Input {
         refused.map(|()| answer)
     }
 
-    /// Every byte that no record takes is zero or stays, as document 01 says.
+    /// Every byte that no record takes is zero or stays (docs/FORMAT.md).
     fn stores_are_told(&self, before: &Input, answer: Answer) {
         let used = NODE * answer.nodes();
         assert!(self.nodes[used..sagdrif::NODES_BYTES]

@@ -1,4 +1,4 @@
-//! The library against what the Rust answers, and against document 01's table.
+//! The library against what the Rust answers, and against the table of refusals.
 
 mod arbitrary;
 mod common;

@@ -1,4 +1,4 @@
-//! Each refusal of document 01's table at its boundary; `common` sees that none writes a byte.
+//! Each refusal at its boundary; `common` sees that none writes a byte.
 
 use crate::common::Input;
 use sagdrif::Refusal::{self, *};

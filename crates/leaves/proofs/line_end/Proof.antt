@@ -1,5 +1,6 @@
 -- `leaves::line_end` meets its contract.
 -- Assumes nothing.
+-- Written by tools/proof.py from the answers of the same path: change those, not this file.
 use Prim.Native.Nat.{_≤_, _-_}
 use lib.ListN.{length}
 use borrow.Author.Needs.{needs}

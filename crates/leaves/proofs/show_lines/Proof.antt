@@ -1,7 +1,7 @@
 -- `leaves::show_lines` is safe and ends.
 -- Assumes nothing.
+-- Written by tools/proof.py from the answers of the same path: change those, not this file.
 use Prim.Native.Nat.{_≤_, _+_, _-_}
-use native.Mathlib.Omega.{arith}
 use lib.ListN.{length}
 use borrow.Author.Needs.{needs}
 use Rattle.leaves.proofs.show_lines.Statement.{statement}

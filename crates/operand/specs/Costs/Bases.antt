@@ -9,6 +9,8 @@ use lib.Dec.{leb}
 use Rattle.names.specs.Places.{Place, stands}
 use Rattle.names.specs.declared.tokens.Token.{Token}
 use Rattle.names.specs.Choice.{pick}
+use Rattle.records.specs.Problems
+use Rattle.records.specs.Shapes
 use Rattle.records.specs.Spans.{span}
 use Rattle.records.specs.declared.spans.Span.{Span}
 use Rattle.expressions.specs.Reader.{Reader}
@@ -42,11 +44,11 @@ module _ (at : ℕ → Place) (w : ℕ) (clean : Clean at w) where
 
   predecrement-close-cost : (z : Setting) (a b t : Token) (q : Register) (i l d r : ℕ) → r ≤ i + 2
       → All (Operand.predecrementClose z a b t q) at (Left at w clean sizeO 1 0 0 i d i) (i + 1 + 1 + 1) l d r
-  unfolding All Operand.predecrementClose Operand.predecremented sizeO
+  unfolding All Operand.predecrementClose Operand.orNone sizeO
   predecrement-close-cost z a b t q i l d r near =
       all-choose (leb 8 (q .index)) _ _ _ _ _ _ _ _
-      (call (close-cost at w clean z b 4 _ _ _ _) λ j e s. elim [ some x ↦ omega arith | none ↦ omega arith ])
-      (call (not-address-cost at w clean sizeO z 4 t 0 0 0 _ _ _ _) λ j e s. elim [ some x ↦ omega arith | none ↦ omega arith ])
+      (call (close-cost at w clean z b Shapes.predecrement _ _ _ _) λ j e s. elim [ some x ↦ omega arith | none ↦ omega arith ])
+      (call (not-address-cost at w clean sizeO z Shapes.predecrement t 0 0 0 _ _ _ _) λ j e s. elim [ some x ↦ omega arith | none ↦ omega arith ])
 
   pub predecrement-cost : (z : Setting) (a b t : Token) (x y v : List ℕ) (i l d r : ℕ) → at i ≡ stands a x → at (i + 1) ≡ stands b y → at (i + 2) ≡ stands t v → r ≤ i + 2
       → Law (Operand.parsePredecrement z a b t v) at (Left at w clean sizeO 1 0 0 i d i) i l d r
@@ -65,7 +67,7 @@ module _ (at : ℕ → Place) (w : ℕ) (clean : Clean at w) where
   indexed-cost : (z : Setting) (k : Token) (shape : ℕ) (y : Displacement) (b : BaseRegister) (f : IndexRegister → Span → Operand)
       → ((x : IndexRegister) (z : Span) → sizeO (f x z) ≡ sizeD y) → (x : IndexRegister) (i l d r : ℕ)
       → Law (Operand.closeIndex z k shape b x y f) at (Left at w clean sizeO 1 (sizeD y) 0 i d r) i l d r
-  unfolding All Operand.indexedOperand
+  unfolding All Operand.orNone Operand.indexedOperand
   indexed-cost z k shape y b f e x i l d r = record {
     all = call (close-cost at w clean z k shape _ _ _ _) λ j e₂ s. elim [
       | some n ↦ λ a c g h m. let z = indexed-size y b f e x (span (z .start) n) (x .suppressed) in omega arith
@@ -81,34 +83,34 @@ module _ (at : ℕ → Place) (w : ℕ) (clean : Clean at w) where
   closed-counter-cost : (z : Setting) (y : Displacement) (close : Token) (i l d r : ℕ) → Law (Operand.closedCounter z y close) at (Left at w clean sizeO 0 (sizeD y) 0 i d r) i l d r
   unfolding All Operand.closedCounter sizeO sizeD
   closed-counter-cost z (displaced e n) close i l d r = record { all = omega arith }
-  closed-counter-cost z undisplaced close i l d r = malformed-cost at w clean sizeO z 7 4 0 0 0 i l d r
+  closed-counter-cost z undisplaced close i l d r = malformed-cost at w clean sizeO z Shapes.pcDisplacement Problems.theDisplacementMissing 0 0 0 i l d r
 
   after-base-cost : (z : Setting) (k : Token) (y : Displacement) (q : Register) (i l d r : ℕ) → Law (Operand.afterBase z k y q) at (Left at w clean sizeO 0 (sizeD y) 0 i d r) i l d r
-  unfolding All Operand.afterBase sizeO Operand.closedIndex
+  unfolding All Operand.afterBase sizeO Operand.orNone
   after-base-cost z k y q i l d r = record {
     all = (
       (λ t x h p. call (closed-base-cost z q y t _ _ _ _) λ j e s. elim [ some x ↦ omega arith | none ↦ omega arith ]),
       λ p. (
-        (λ t x h p₂. call (index-cost at w clean z 6 _ _ _ _) λ j e s. elim [
-          | some v ↦ λ a b c g m. call (indexed-cost z k 6 y (BaseRegister.Address q) (λ x. O.index y q x) (λ x z. refl) v _ _ _ _) λ j₂ e₂ s₂. elim [ some x ↦ omega arith | none ↦ omega arith ]
+        (λ t x h p₂. call (index-cost at w clean z Shapes.index _ _ _ _) λ j e s. elim [
+          | some v ↦ λ a b c g m. call (indexed-cost z k Shapes.index y (BaseRegister.Address q) (λ x. O.index y q x) (λ x z. refl) v _ _ _ _) λ j₂ e₂ s₂. elim [ some x ↦ omega arith | none ↦ omega arith ]
           | none ↦ omega arith
         ]),
-        λ p₂. unclosed-cost at w clean sizeO z k _ 3 0 _ 0 _ _ _ _ .all,
+        λ p₂. unclosed-cost at w clean sizeO z k _ Problems.parenMissing 0 _ 0 _ _ _ _ .all,
       ),
     );
   }
 
   after-counter-cost : (z : Setting) (k : Token) (y : Displacement) (i l d r : ℕ) → Law (Operand.afterCounter z k y) at (Left at w clean sizeO 0 (sizeD y) 0 i d r) i l d r
-  unfolding All Operand.afterCounter sizeO Operand.closedIndex
+  unfolding All Operand.afterCounter sizeO Operand.orNone
   after-counter-cost z k y i l d r = record {
     all = (
       (λ t x h p. call (closed-counter-cost z y t _ _ _ _) λ j e s. elim [ some x ↦ omega arith | none ↦ omega arith ]),
       λ p. (
-        (λ t x h p₂. call (index-cost at w clean z 8 _ _ _ _) λ j e s. elim [
-          | some v ↦ λ a b c g m. call (indexed-cost z k 8 y BaseRegister.ProgramCounter (λ x. O.pcIndex y x) (λ x z. refl) v _ _ _ _) λ j₂ e₂ s₂. elim [ some x ↦ omega arith | none ↦ omega arith ]
+        (λ t x h p₂. call (index-cost at w clean z Shapes.pcIndex _ _ _ _) λ j e s. elim [
+          | some v ↦ λ a b c g m. call (indexed-cost z k Shapes.pcIndex y BaseRegister.ProgramCounter (λ x. O.pcIndex y x) (λ x z. refl) v _ _ _ _) λ j₂ e₂ s₂. elim [ some x ↦ omega arith | none ↦ omega arith ]
           | none ↦ omega arith
         ]),
-        λ p₂. unclosed-cost at w clean sizeO z k 7 3 0 _ 0 _ _ _ _ .all,
+        λ p₂. unclosed-cost at w clean sizeO z k Shapes.pcDisplacement Problems.parenMissing 0 _ 0 _ _ _ _ .all,
       ),
     );
   }
@@ -122,7 +124,7 @@ module _ (at : ℕ → Place) (w : ℕ) (clean : Clean at w) where
         (λ t x h p₂. call (after-counter-cost z k y _ _ _ _) λ j e s. elim [ some x ↦ omega arith | none ↦ omega arith ]),
         λ p₂. (
           (λ t x h p₃. call (not-address-cost at w clean sizeO z _ t 0 0 0 _ _ _ _) λ j e s. elim [ some x ↦ omega arith | none ↦ omega arith ]),
-          λ p₃. unclosed-cost at w clean sizeO z k _ 5 1 _ 0 _ _ _ _ .all,
+          λ p₃. unclosed-cost at w clean sizeO z k _ Problems.baseMissing 1 _ 0 _ _ _ _ .all,
         ),
       ),
     );

@@ -4,6 +4,8 @@ use Prim.Native.Nat.{ℕ}
 use native.Mathlib.Omega.{arith}
 use Rattle.names.specs.Places.{Place}
 use Rattle.names.specs.declared.tokens.Token.{Token}
+use Rattle.records.specs.Problems
+use Rattle.records.specs.Shapes
 use Rattle.expressions.specs.Laws.{All, Law, call}
 use Rattle.expressions.specs.Costs.{Clean}
 use Rattle.operand.specs.Operands.{Displacement, Operand, Maybe, some, none}
@@ -20,7 +22,7 @@ module _ (at : ℕ → Place) (w : ℕ) (clean : Clean at w) where
   Registered i d r j e s v = Left at w clean (nil at w clean) 1 0 1 i d r j e s v
 
   after-register-cost : (z : Setting) (shape : ℕ) (b : BaseRegister) (i l d r : ℕ) → Law (Operand.afterBaseRegister z shape b) at (Left at w clean (nil at w clean) 0 0 1 i d r) i l d r
-  unfolding All Operand.afterBaseRegister Operand.indexAlone
+  unfolding All Operand.afterBaseRegister Operand.orNone
   after-register-cost z shape b i l d r = record {
     all = (
       (λ t x h p. (
@@ -32,11 +34,11 @@ module _ (at : ℕ → Place) (w : ℕ) (clean : Clean at w) where
   }
 
   no-base-cost : (z : Setting) (shape i l d r : ℕ) → Law (Operand.noBase z shape) at (Registered i d r) i l d r
-  unfolding All Operand.noBase Operand.indexAlone
+  unfolding All Operand.noBase Operand.orNone
   no-base-cost z shape i l d r = record {
     all = (
       (λ t x h p. call (index-cost at w clean z shape _ _ _ _) λ j e s. elim [ some x ↦ omega arith | none ↦ omega arith ]),
-      λ p. call (stepped-cost at w clean (nil at w clean) z shape 11 1 0 1 _ _ _ _) λ j e s. elim [ some x ↦ omega arith | none ↦ omega arith ],
+      λ p. call (stepped-cost at w clean (nil at w clean) z shape Problems.baseOrIndexMissing 1 0 1 _ _ _ _) λ j e s. elim [ some x ↦ omega arith | none ↦ omega arith ],
     );
   }
 
@@ -62,10 +64,10 @@ module _ (at : ℕ → Place) (w : ℕ) (clean : Clean at w) where
   }
 
   pub full-index-cost : (z : Setting) (k : Token) (y : Displacement) (i l d r : ℕ) → Law (Operand.parseFullIndex z k y) at (Left at w clean sizeO 1 (sizeD y) 0 i d r) i l d r
-  unfolding All Operand.parseFullIndex Operand.closedRegisters Operand.fullIndexed sizeO sizeD
+  unfolding All Operand.parseFullIndex Operand.orNone sizeO sizeD
   full-index-cost z k y i l d r = record {
-    all = call (registers-cost z 6 _ _ _ _) λ j e s. elim [
-      | some v ↦ λ a b c g m. call (close-cost at w clean z k 6 _ _ _ _) λ j₂ e₂ s₂. elim [ some x ↦ omega arith | none ↦ omega arith ]
+    all = call (registers-cost z Shapes.index _ _ _ _) λ j e s. elim [
+      | some v ↦ λ a b c g m. call (close-cost at w clean z k Shapes.index _ _ _ _) λ j₂ e₂ s₂. elim [ some x ↦ omega arith | none ↦ omega arith ]
       | none ↦ omega arith
     ];
   }

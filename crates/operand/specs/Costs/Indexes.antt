@@ -4,6 +4,7 @@ use mathlib.Core.Bool.{Bool}
 use Prim.Native.Nat.{ℕ}
 use native.Mathlib.Omega.{arith}
 use Rattle.names.specs.Places.{Place}
+use Rattle.records.specs.Problems
 use Rattle.expressions.specs.Expressions.{suffixed, bare}
 use Rattle.expressions.specs.Laws.{All, all-choose, Law, call}
 use Rattle.expressions.specs.Costs.{Clean, suffix-cost, valued-cost}
@@ -22,8 +23,8 @@ module _ (at : ℕ → Place) (w : ℕ) (clean : Clean at w) where
       (λ k y h p. (
         (λ t y₂ h₂ p₂. call (valued-cost at w clean t _ _ _ _ _) λ j e s v a b c g m.
             all-choose (Operand.scaleOf v) _ _ _ _ _ _ _ _ (omega arith)
-            (call (malformed-cost at w clean (nil at w clean) z shape 7 0 0 0 _ _ _ _) λ j₂ e₂ s₂. elim [ some x ↦ omega arith | none ↦ omega arith ])),
-        λ p₂. call (stepped-cost at w clean (nil at w clean) z shape 7 0 0 0 _ _ _ _) λ j e s. elim [ some x ↦ omega arith | none ↦ omega arith ],
+            (call (malformed-cost at w clean (nil at w clean) z shape Problems.badScale 0 0 0 _ _ _ _) λ j₂ e₂ s₂. elim [ some x ↦ omega arith | none ↦ omega arith ])),
+        λ p₂. call (stepped-cost at w clean (nil at w clean) z shape Problems.badScale 0 0 0 _ _ _ _) λ j e s. elim [ some x ↦ omega arith | none ↦ omega arith ],
       )),
       λ p. omega arith,
     );
@@ -45,7 +46,7 @@ module _ (at : ℕ → Place) (w : ℕ) (clean : Clean at w) where
       (λ t x h p. call (index-register-cost z shape _ _ _ _ _ _) λ j e s. elim [ some x ↦ omega arith | none ↦ omega arith ]),
       λ p. (
         (λ t x h p₂. call (index-register-cost z shape _ _ _ _ _ _) λ j e s. elim [ some x ↦ omega arith | none ↦ omega arith ]),
-        λ p₂. stepped-cost at w clean (nil at w clean) z shape 6 1 0 0 _ _ _ _ .all,
+        λ p₂. stepped-cost at w clean (nil at w clean) z shape Problems.indexMissing 1 0 0 _ _ _ _ .all,
       ),
     );
   }

@@ -9,8 +9,8 @@ use lib.Dec.{leb, ltb}
 use lib.ListN.{length, length-append}
 use Rattle.names.specs.Places.{Place}
 use Rattle.names.specs.Choice.{pick}
+use Rattle.records.specs.Problems
 use Rattle.records.specs.declared.spans.Span.{Span}
-use Rattle.expressions.specs.Expressions.{fuel}
 use Rattle.expressions.specs.declared.reading.Setting.{Setting}
 use Rattle.expressions.specs.Laws.{All, all-choose, Law, call}
 use Rattle.expressions.specs.Costs.{Clean}
@@ -40,7 +40,7 @@ module _ (at : ℕ → Place) (w : ℕ) (clean : Clean at w) where
     all = (
       (λ k x h p. (
         (λ t y h₂ p₂. all-choose (ltb (Operand.registerFrom t y .index) (q .index)) _ _ _ _ _ _ _ _ (omega arith) (omega arith)),
-        λ p₂. call (expected-cost (nil at w clean) 45 0 0 0 _ _ _ _) λ j e s. elim [ some x ↦ omega arith | none ↦ omega arith ],
+        λ p₂. call (expected-cost (nil at w clean) Problems.afterMinus 0 0 0 _ _ _ _) λ j e s. elim [ some x ↦ omega arith | none ↦ omega arith ],
       )),
       λ p. omega arith,
     );
@@ -49,14 +49,14 @@ module _ (at : ℕ → Place) (w : ℕ) (clean : Clean at w) where
   -- the register at i has been consumed, so that every item stands for a token
   list-cost : (f : ℕ) (z : Setting) (items : List RegisterListItem) (q : Register) (i l d r : ℕ)
       → Law (Operand.listLoop f z items q) at (Left at w clean sizeO 0 (length items + 1) 0 i d r) i l d r
-  unfolding All Operand.listLoop Operand.nextItem Operand.listed sizeO
+  unfolding All Operand.listLoop Operand.nextItem Operand.orNone Operand.listed sizeO
   list-cost zero z items q i l d r = record { all = rw length-append (omega arith) }
   list-cost (suc f) z items q i l d r = record {
     all = call (item-cost q _ _ _ _) λ j e s. elim [
       | some x ↦ λ a b c g m. (
         (λ k y h p. (
           (λ t y₂ h₂ p₂. call (list-cost f z _ _ _ _ _ _) λ j₂ e₂ s₂. elim [ some x ↦ rw length-append (omega arith) | none ↦ omega arith ]),
-          λ p₂. call (expected-cost sizeO 47 0 0 0 _ _ _ _) λ j₂ e₂ s₂. elim [ some x ↦ omega arith | none ↦ omega arith ],
+          λ p₂. call (expected-cost sizeO Problems.afterSlash 0 0 0 _ _ _ _) λ j₂ e₂ s₂. elim [ some x ↦ omega arith | none ↦ omega arith ],
         )),
         λ p. rw length-append (omega arith),
       )
@@ -68,7 +68,7 @@ module _ (at : ℕ → Place) (w : ℕ) (clean : Clean at w) where
   unfolding All Operand.parseRegisterOperand Operand.parseRegisterList
   register-operand-cost z q i l d r = record {
     all = (
-      (λ k y h p. call (list-cost fuel z [] q _ _ _ _) λ j e s. elim [ some x ↦ omega arith | none ↦ omega arith ]),
+      (λ k y h p. call (list-cost _ z [] q _ _ _ _) λ j e s. elim [ some x ↦ omega arith | none ↦ omega arith ]),
       λ p. let z = direct-size q (q .span) in omega arith,
     );
   }

@@ -4,6 +4,7 @@ use Prim.Native.Nat.{ℕ, _+_, _≤_, max}
 use native.Mathlib.Omega.{arith}
 use Rattle.names.specs.Places.{Place}
 use Rattle.names.specs.declared.tokens.Token.{Token}
+use Rattle.records.specs.Problems
 use Rattle.expressions.specs.declared.reading.Setting.{Setting}
 use Rattle.expressions.specs.Laws.{All, Law, call}
 use Rattle.expressions.specs.Costs.{Clean}
@@ -47,4 +48,4 @@ module _ (at : ℕ → Place) (w : ℕ) (clean : Clean at w) where
 
   pub close-cost : (z : Setting) (k : Token) (shape i l d r : ℕ) → Law (Operand.expectClose z k shape) at (Left nil 1 0 0 i d r) i l d r
   unfolding All Operand.expectClose
-  close-cost z k shape i l d r = record { all = ((λ k x h q. omega arith), λ q. unclosed-cost nil z k shape 3 1 0 0 _ _ _ _ .all) }
+  close-cost z k shape i l d r = record { all = ((λ k x h q. omega arith), λ q. unclosed-cost nil z k shape Problems.parenMissing 1 0 0 _ _ _ _ .all) }

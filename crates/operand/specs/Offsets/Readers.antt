@@ -13,12 +13,14 @@ use Rattle.names.specs.Registers.{pair, register, registerOf, suppressing, supp
 use Rattle.names.specs.declared.tokens.Token.{Token}
 use Rattle.names.specs.declared.registers.Reg.{Reg}
 use Rattle.names.specs.declared.registers.Suppressed.{Suppressed}
+use Rattle.records.specs.Problems
+use Rattle.records.specs.Shapes
 use Rattle.records.specs.Spans.{span, spanOf}
 use Rattle.records.specs.declared.spans.Span.{Span}
 use Rattle.expressions.specs.declared.reading.Setting.{Setting}
 use Rattle.expressions.specs.Trees.{Expr}
 use Rattle.expressions.specs.Reader.{Reader}
-use Rattle.expressions.specs.Expressions.{Suffix, suffixed, bare, read, reported, absent, fuel}
+use Rattle.expressions.specs.Expressions.{Suffix, suffixed, bare, read, reported, absent}
 use Rattle.expressions.specs.Offsets.{SpanIn, TreeIn, Fits, answers, from-here, raises, steps, sees, chooses, then, root, widened, suffix-fits, valued-fits, expression-fits, from-fits}
 use Rattle.operand.specs.Operands.{Displacement, displaced, undisplaced, RegisterListItem, Operand, Maybe, some, none}
 use Rattle.operand.specs.Operands as O
@@ -27,6 +29,7 @@ use Rattle.operand.specs.declared.forms.IndexRegister.{IndexRegister}
 use Rattle.operand.specs.declared.forms.BaseRegister.{BaseRegister}
 use Rattle.operand.specs.declared.forms.Index.{Index}
 use Rattle.operand.specs.Operand
+use Rattle.operand.specs.Operand.{_>>=?_}
 use Rattle.operand.specs.Operand.{Inner, Outer}
 use Rattle.operand.specs.Offsets.Operands.{RegisterIn, IndexRegisterIn, BaseIn, IndexIn, RegistersIn, DisplacementIn, ItemIn, ItemsIn, OperandIn, MaybeIn}
 
@@ -86,6 +89,13 @@ items-in : (m : ℕ) (xs : List RegisterListItem) (x : RegisterListItem) → Ite
 items-in m [] x h g = (g, tt)
 items-in m (y ∷ ys) x h g = (h .0, items-in m ys x (h .1) g)
 
+-- ---- the Rust's `?`
+
+tries : {m : ℕ} {A B : Type 0} {P : A → Type 0} {Q : B → Type 0} {p : Reader (Maybe A)} {f : A → Reader (Maybe B)}
+    → Fits m (MaybeIn P) p → ((a : A) → P a → Fits m (MaybeIn Q) (f a)) → Fits m (MaybeIn Q) (p >>=? f)
+unfolding Operand.orNone
+tries h k = then h (elim [ some a ↦ λ g. k a g | none ↦ λ g. answers tt ])
+
 module _ {m : ℕ} (s : Setting) (low : s .start ≤ m) where
   -- ---- readers that answer none
 
@@ -114,21 +124,23 @@ module _ {m : ℕ} (s : Setting) (low : s .start ≤ m) where
   unfolding Operand.over
   over-fits h = steps (λ k x g. h) h
 
+  -- an expression, or what is said where none stands
+  expressed : {A : Type 0} {Q : A → Type 0} {p : Reader (Maybe A)} {f : Expr → Reader (Maybe A)}
+      → Fits m (MaybeIn Q) p → ((e : Expr) → TreeIn m e → Fits m (MaybeIn Q) (f e)) → Fits m (MaybeIn Q) (Operand.expressionOr s p f)
+  unfolding Operand.orAbsent
+  expressed h k = then (expression-fits _) (elim [ read e ↦ λ g. k e g | reported ↦ λ g. answers tt | absent ↦ λ g. h ])
+
   close-fits : (k : Token) (shape : ℕ) → SpanIn m (spanOf k) → Fits m (MaybeIn (λ e. e ≤ m)) (Operand.expectClose s k shape)
   unfolding Operand.expectClose
-  close-fits k shape g = steps (λ c x h. answers (h .1)) (unclosed-fits k shape 3 g)
+  close-fits k shape g = steps (λ c x h. answers (h .1)) (unclosed-fits k shape Problems.parenMissing g)
 
   -- ---- immediates
 
   immediate-fits : (k : Token) → SpanIn m (spanOf k) → Fits m (MaybeIn (OperandIn m)) (Operand.parseImmediate s k)
-  unfolding Operand.parseImmediate Operand.immediateValue Operand.immediateSize
-  immediate-fits k h = then (expression-fits _) (elim [
-    | read e ↦ λ g. then (suffix-fits _ (root e g .0)) (elim [
-      | suffixed n t ↦ λ q. chooses (eqb n 3) (answers (g, (h .0, q .1))) (chooses (eqb n 0) (answers (g, (h .0, q .1))) (malformed-fits 1 1))
-      | bare ↦ λ q. answers (g, (h .0, root e g .1))
-    ])
-    | reported ↦ λ g. answers tt
-    | absent ↦ λ g. raises (omega arith) (answers tt)
+  unfolding Operand.parseImmediate Operand.immediateSize
+  immediate-fits k h = expressed (raises (omega arith) (answers tt)) λ e g. then (suffix-fits _ (root e g .0)) (elim [
+    | suffixed n t ↦ λ q. chooses (eqb n 3) (answers (g, (h .0, q .1))) (chooses (eqb n 0) (answers (g, (h .0, q .1))) (malformed-fits Shapes.immediate Problems.immediateCarriesNoSize))
+    | bare ↦ λ q. answers (g, (h .0, root e g .1))
   ])
 
   -- ---- registers and lists
@@ -137,17 +149,16 @@ module _ {m : ℕ} (s : Setting) (low : s .start ≤ m) where
   unfolding Operand.listItem Operand.ranged Operand.registerFrom
   item-fits r small h =
       steps (λ k x g. steps (λ t y q. chooses (ltb (Operand.registerFrom t y .index) (r .index))
-      (raises (omega (arith, small-index y)) (answers (h, q, (h .0, q .1)))) (answers (h, q, (h .0, q .1)))) (expected-fits 45))
+      (raises (omega (arith, small-index y)) (answers (h, q, (h .0, q .1)))) (answers (h, q, (h .0, q .1)))) (expected-fits Problems.afterMinus))
       (answers h)
 
   list-fits : (f : ℕ) (xs : List RegisterListItem) → ItemsIn m xs → (r : Register) → r .index ≤ 15 → RegisterIn m r → Fits m (MaybeIn (OperandIn m)) (Operand.listLoop f s xs r)
   unfolding Operand.listLoop Operand.nextItem Operand.listed Operand.registerFrom
   list-fits zero xs h r small g = from-here λ i l b. answers (items-in m xs _ h g, (low, b))
-  list-fits (suc f) xs h r small g = then (item-fits r small g) (elim [
-    | some x ↦ λ q. let z = items-in m xs x h q in
-        steps (λ k y b. steps (λ t v c. list-fits f _ z _ (small-index v) c) (expected-fits 47)) (from-here λ i l b. answers (z, (low, b)))
-    | none ↦ λ q. answers tt
-  ])
+  list-fits (suc f) xs h r small g =
+      tries (item-fits r small g) λ x q.
+      let z = items-in m xs x h q in
+      steps (λ k y b. steps (λ t v c. list-fits f _ z _ (small-index v) c) (expected-fits Problems.afterSlash)) (from-here λ i l b. answers (z, (low, b)))
 
   direct-in : (r : Register) → RegisterIn m r → OperandIn m (Operand.registerDirect r (r .span))
   unfolding Operand.registerDirect
@@ -159,14 +170,14 @@ module _ {m : ℕ} (s : Setting) (low : s .start ≤ m) where
 
   register-operand-fits : (r : Register) → r .index ≤ 15 → RegisterIn m r → Fits m (MaybeIn (OperandIn m)) (Operand.parseRegisterOperand s r)
   unfolding Operand.parseRegisterOperand Operand.parseRegisterList
-  register-operand-fits r small h = sees (λ k x g. list-fits fuel [] tt r small h) (answers (direct-in r h))
+  register-operand-fits r small h = sees (λ k x g. list-fits _ [] tt r small h) (answers (direct-in r h))
 
   -- ---- indexes
 
   scale-fits : (shape : ℕ) (x : IndexRegister) → IndexRegisterIn m x → Fits m (MaybeIn (IndexRegisterIn m)) (Operand.indexScale s shape x)
   unfolding Operand.indexScale Operand.scaled
   scale-fits shape x h =
-      steps (λ k y g. steps (λ t z q. then (valued-fits t _ q) λ v b. chooses (Operand.scaleOf v) (answers (h .0, (h .1 .0, q .1))) (malformed-fits shape 7)) (stepped-fits shape 7))
+      steps (λ k y g. steps (λ t z q. then (valued-fits t _ q) λ v b. chooses (Operand.scaleOf v) (answers (h .0, (h .1 .0, q .1))) (malformed-fits shape Problems.badScale)) (stepped-fits shape Problems.badScale))
       (answers h)
 
   index-register-fits : (shape : ℕ) (r : Register) (b : Bool) → RegisterIn m r → Fits m (MaybeIn (IndexRegisterIn m)) (Operand.indexRegister s shape r b)
@@ -180,16 +191,16 @@ module _ {m : ℕ} (s : Setting) (low : s .start ≤ m) where
   unfolding Operand.parseIndexRegister Operand.registerFrom
   index-fits shape =
       from-here λ i l b.
-      steps (λ t x h. index-register-fits shape _ false h) (steps (λ t x h. index-register-fits shape _ true h) (stepped-fits shape 6))
+      steps (λ t x h. index-register-fits shape _ false h) (steps (λ t x h. index-register-fits shape _ true h) (stepped-fits shape Problems.indexMissing))
 
   -- ---- bases
 
   predecrement-fits : (a k t : Token) (x : List ℕ) → SpanIn m (spanOf a) → SpanIn m (spanOf k) → SpanIn m (spanOf t)
       → Fits m (MaybeIn (OperandIn m)) (Operand.parsePredecrement s a k t x)
-  unfolding Operand.parsePredecrement Operand.predecrementClose Operand.predecremented Operand.registerFrom
+  unfolding Operand.parsePredecrement Operand.predecrementClose Operand.registerFrom
   predecrement-fits a k t x f g h =
       over-fits (over-fits (over-fits (chooses (leb 8 (Operand.registerFrom t x .index))
-      (then (close-fits k 4 g) (elim [ some e ↦ λ q. answers (h, (f .0, q)) | none ↦ λ q. answers tt ])) (not-address-fits 4 t h))))
+      (tries (close-fits k Shapes.predecrement g) λ e q. answers (h, (f .0, q))) (not-address-fits Shapes.predecrement t h))))
 
   indexed-in : (d : Displacement) (b : BaseRegister) (x : IndexRegister) (f : IndexRegister → Span → Operand) (z : Span) → DisplacementIn m d → BaseIn m b
       → IndexRegisterIn m x → SpanIn m z → OperandIn m (f x z) → (c : Bool) → OperandIn m (pick c (O.fullIndex d b (Index.Indexed x) 0 undisplaced z) (f x z))
@@ -199,14 +210,11 @@ module _ {m : ℕ} (s : Setting) (low : s .start ≤ m) where
   base-and-index-fits : (k : Token) (shape : ℕ) (b : BaseRegister) (d : Displacement) (f : IndexRegister → Span → Operand) → SpanIn m (spanOf k) → BaseIn m b
       → DisplacementIn m d → ((x : IndexRegister) (z : Span) → IndexRegisterIn m x → SpanIn m z → OperandIn m (f x z))
       → Fits m (MaybeIn (OperandIn m)) (Operand.baseAndIndex s k shape b d f)
-  unfolding Operand.closedIndex Operand.indexedOperand
-  base-and-index-fits k shape b d f hk hb hd h = then (index-fits shape) (elim [
-    | some x ↦ λ g. then (close-fits k shape hk) (elim [
-      | some e ↦ λ q. answers (indexed-in d b x f (span (s .start) e) hd hb g (low, q) (h x _ g (low, q)) (x .suppressed))
-      | none ↦ λ q. answers tt
-    ])
-    | none ↦ λ g. answers tt
-  ])
+  unfolding Operand.indexedOperand
+  base-and-index-fits k shape b d f hk hb hd h =
+      tries (index-fits shape) λ x g.
+      tries (close-fits k shape hk) λ e q.
+      answers (indexed-in d b x f (span (s .start) e) hd hb g (low, q) (h x _ g (low, q)) (x .suppressed))
 
   closed-base-fits : (r : Register) (d : Displacement) (c : Token) → RegisterIn m r → DisplacementIn m d → SpanIn m (spanOf c)
       → Fits m (MaybeIn (OperandIn m)) (Operand.closedBase s r d c)
@@ -217,22 +225,21 @@ module _ {m : ℕ} (s : Setting) (low : s .start ≤ m) where
   closed-counter-fits : (d : Displacement) (c : Token) → DisplacementIn m d → SpanIn m (spanOf c) → Fits m (MaybeIn (OperandIn m)) (Operand.closedCounter s d c)
   unfolding Operand.closedCounter
   closed-counter-fits (displaced e n) c g q = answers (g, (low, q .1))
-  closed-counter-fits undisplaced c g q = malformed-fits 7 4
+  closed-counter-fits undisplaced c g q = malformed-fits Shapes.pcDisplacement Problems.theDisplacementMissing
 
   base-fits : (k : Token) (d : Displacement) → SpanIn m (spanOf k) → DisplacementIn m d → Fits m (MaybeIn (OperandIn m)) (Operand.parseBaseAndIndex s k d)
   unfolding Operand.parseBaseAndIndex Operand.afterBase Operand.afterCounter Operand.registerFrom
   base-fits k d h g =
       steps (λ t x q. steps (λ c y b. closed-base-fits _ d c q g b)
-      (steps (λ c y b. base-and-index-fits k 6 (BaseRegister.Address _) d (λ x. O.index d _ x) h q g λ x z e f. (g, q, e, f)) (unclosed-fits k _ 3 h)))
+      (steps (λ c y b. base-and-index-fits k Shapes.index (BaseRegister.Address _) d (λ x. O.index d _ x) h q g λ x z e f. (g, q, e, f)) (unclosed-fits k _ Problems.parenMissing h)))
       (steps (λ t x q. steps (λ c y b. closed-counter-fits d c g b)
-      (steps (λ c y b. base-and-index-fits k 8 BaseRegister.ProgramCounter d (λ x. O.pcIndex d x) h tt g λ x z e f. (g, e, f)) (unclosed-fits k 7 3 h)))
-      (steps (λ t x q. not-address-fits _ t q) (unclosed-fits k _ 5 h)))
+      (steps (λ c y b. base-and-index-fits k Shapes.pcIndex BaseRegister.ProgramCounter d (λ x. O.pcIndex d x) h tt g λ x z e f. (g, e, f)) (unclosed-fits k Shapes.pcDisplacement Problems.parenMissing h)))
+      (steps (λ t x q. not-address-fits _ t q) (unclosed-fits k _ Problems.baseMissing h)))
 
   -- ---- the full index
 
   with-index-fits : (shape : ℕ) (b : BaseRegister) → BaseIn m b → Fits m (MaybeIn (RegistersIn m)) (Operand.withIndex s shape b)
-  unfolding Operand.indexAlone
-  with-index-fits shape b h = then (index-fits shape) (elim [ some x ↦ λ g. answers (h, g) | none ↦ λ g. answers tt ])
+  with-index-fits shape b h = tries (index-fits shape) λ x g. answers (h, g)
 
   after-register-fits : (shape : ℕ) (b : BaseRegister) → BaseIn m b → Fits m (MaybeIn (RegistersIn m)) (Operand.afterBaseRegister s shape b)
   unfolding Operand.afterBaseRegister
@@ -241,7 +248,7 @@ module _ {m : ℕ} (s : Setting) (low : s .start ≤ m) where
 
   no-base-fits : (shape : ℕ) → Fits m (MaybeIn (RegistersIn m)) (Operand.noBase s shape)
   unfolding Operand.noBase
-  no-base-fits shape = from-here λ i l g. sees (λ t x h. with-index-fits shape BaseRegister.Omitted tt) (stepped-fits shape 11)
+  no-base-fits shape = from-here λ i l g. sees (λ t x h. with-index-fits shape BaseRegister.Omitted tt) (stepped-fits shape Problems.baseOrIndexMissing)
 
   registers-fits : (shape : ℕ) → Fits m (MaybeIn (RegistersIn m)) (Operand.parseBaseAndIndexRegisters s shape)
   unfolding Operand.parseBaseAndIndexRegisters Operand.registerFrom
@@ -254,11 +261,8 @@ module _ {m : ℕ} (s : Setting) (low : s .start ≤ m) where
       (steps (λ t x h. after-register-fits shape (BaseRegister.SuppressedAddress _) (omega (arith, small-suppressed x))) (no-base-fits shape)))))
 
   full-index-fits : (k : Token) (d : Displacement) → SpanIn m (spanOf k) → DisplacementIn m d → Fits m (MaybeIn (OperandIn m)) (Operand.parseFullIndex s k d)
-  unfolding Operand.parseFullIndex Operand.closedRegisters Operand.fullIndexed
-  full-index-fits k d h g = then (registers-fits 6) (elim [
-    | some r ↦ λ q. then (close-fits k 6 h) (elim [ some e ↦ λ b. answers (g, q .0, q .1, tt, (low, b)) | none ↦ λ b. answers tt ])
-    | none ↦ λ q. answers tt
-  ])
+  unfolding Operand.parseFullIndex
+  full-index-fits k d h g = tries (registers-fits Shapes.index) λ r q. tries (close-fits k Shapes.index h) λ e b. answers (g, q .0, q .1, tt, (low, b))
 
   starts-fits : (p q : Unit {0} → Reader (Maybe Operand)) → Fits m (MaybeIn (OperandIn m)) (p tt) → Fits m (MaybeIn (OperandIn m)) (q tt)
       → Fits m (MaybeIn (OperandIn m)) (Operand.startsAFullIndex s p q)
@@ -270,12 +274,8 @@ module _ {m : ℕ} (s : Setting) (low : s .start ≤ m) where
   -- ---- memory indirect
 
   displacement-fits : Fits m (MaybeIn (DisplacementIn m)) (Operand.parseSizedDisplacement s)
-  unfolding Operand.parseSizedDisplacement Operand.displacementValue Operand.sized
-  displacement-fits = then (expression-fits _) (elim [
-    | read e ↦ λ g. then (suffix-fits _ (root e g .0)) (elim [ suffixed n t ↦ λ q. answers g | bare ↦ λ q. answers g ])
-    | reported ↦ λ g. answers tt
-    | absent ↦ λ g. stepped-fits 9 10
-  ])
+  unfolding Operand.parseSizedDisplacement Operand.sized
+  displacement-fits = expressed (stepped-fits Shapes.memoryIndirect Problems.aDisplacementMissing) λ e g. then (suffix-fits _ (root e g .0)) (elim [ suffixed n t ↦ λ q. answers g | bare ↦ λ q. answers g ])
 
   abbrev InnerIn : Inner → Type 0
   InnerIn n = DisplacementIn m (n .displacement) × RegistersIn m (n .registers)
@@ -284,8 +284,7 @@ module _ {m : ℕ} (s : Setting) (low : s .start ≤ m) where
   OuterIn u = IndexIn m (u .index) × DisplacementIn m (u .displacement)
 
   with-registers-fits : (d : Displacement) → DisplacementIn m d → Fits m (MaybeIn InnerIn) (Operand.withRegisters s d)
-  unfolding Operand.innerRegisters
-  with-registers-fits d h = then (registers-fits 9) (elim [ some r ↦ λ g. answers (h, g) | none ↦ λ g. answers tt ])
+  with-registers-fits d h = tries (registers-fits Shapes.memoryIndirect) λ r g. answers (h, g)
 
   inner-fits : Fits m (MaybeIn InnerIn) (Operand.parseInner s)
   unfolding Operand.parseInner Operand.innerDisplaced
@@ -293,36 +292,26 @@ module _ {m : ℕ} (s : Setting) (low : s .start ≤ m) where
       from-here λ i l h.
       sees (λ k x g. answers (tt, (tt, tt)))
       (sees (λ k x g. with-registers-fits undisplaced tt)
-      (then displacement-fits (elim [
-        | some d ↦ λ g. steps (λ c x q. with-registers-fits d g) (answers (g, (tt, tt)))
-        | none ↦ λ g. answers tt
-      ])))
+      (tries displacement-fits λ d g. steps (λ c x q. with-registers-fits d g) (answers (g, (tt, tt)))))
 
   outer-displacement-fits : (x : Index) (n : ℕ) → IndexIn m x → Fits m (MaybeIn OuterIn) (Operand.outerDisplacement s x n)
-  unfolding Operand.outerDisplaced
-  outer-displacement-fits x n h = then displacement-fits (elim [ some d ↦ λ g. answers (h, g) | none ↦ λ g. answers tt ])
+  outer-displacement-fits x n h = tries displacement-fits λ d g. answers (h, g)
 
   outer-index-fits : (x : Index) → Fits m (MaybeIn OuterIn) (Operand.outerIndex s x)
   unfolding Operand.outerIndex Operand.outerIndexed
-  outer-index-fits (Index.Indexed x) = stepped-fits 9 9
-  outer-index-fits Index.Unindexed = then (index-fits 9) (elim [
-    | some x ↦ λ h. steps (λ c y g. outer-displacement-fits (Index.Indexed x) 2 h) (answers (h, tt))
-    | none ↦ λ h. answers tt
-  ])
+  outer-index-fits (Index.Indexed x) = stepped-fits Shapes.memoryIndirect Problems.indexTwice
+  outer-index-fits Index.Unindexed = tries (index-fits Shapes.memoryIndirect) λ x h. steps (λ c y g. outer-displacement-fits (Index.Indexed x) 2 h) (answers (h, tt))
 
   outer-fits : (x : Index) → IndexIn m x → Fits m (MaybeIn OuterIn) (Operand.parseOuter s x)
   unfolding Operand.parseOuter
   outer-fits x h = steps (λ c y g. from-here λ i l q. sees (λ t z b. outer-index-fits x) (outer-displacement-fits x 1 h)) (answers (h, tt))
 
   memory-fits : (k : Token) → SpanIn m (spanOf k) → Fits m (MaybeIn (OperandIn m)) (Operand.parseMemoryIndirect s k)
-  unfolding Operand.parseMemoryIndirect Operand.innerClosed Operand.outerClosed Operand.memoryIndirect
-  memory-fits k h = then inner-fits (elim [
-    | some n ↦ λ g. steps (λ c x q. then (outer-fits (n .registers .index) (g .1 .1)) (elim [
-      | some u ↦ λ f. then (close-fits k 9 h) (elim [ some e ↦ λ b. answers (g .0, g .1 .0, f .0, f .1, (low, b)) | none ↦ λ b. answers tt ])
-      | none ↦ λ f. answers tt
-    ])) (unclosed-fits k 9 8 h)
-    | none ↦ λ g. answers tt
-  ])
+  unfolding Operand.parseMemoryIndirect
+  memory-fits k h =
+      tries inner-fits λ n g.
+      steps (λ c x q. tries (outer-fits (n .registers .index) (g .1 .1)) λ u f. tries (close-fits k Shapes.memoryIndirect h) λ e b. answers (g .0, g .1 .0, f .0, f .1, (low, b)))
+      (unclosed-fits k Shapes.memoryIndirect Problems.bracketMissing h)
 
   -- ---- expressions
 
@@ -336,12 +325,9 @@ module _ {m : ℕ} (s : Setting) (low : s .start ≤ m) where
   tail-fits e miss h g = steps (λ k x q. base-fits k (displaced e 0) q h) g
 
   expression-operand-fits : Fits m (MaybeIn (OperandIn m)) (Operand.parseExpressionOperand s)
-  unfolding Operand.parseExpressionOperand Operand.expressionOperand Operand.noExpression
-  expression-operand-fits = then (expression-fits _) (elim [
-    | read e ↦ λ h. tail-fits e _ h (finish-fits e h)
-    | reported ↦ λ h. answers tt
-    | absent ↦ λ h. sees (λ k x g. raises (omega arith) (answers tt)) (raises (omega arith) (answers tt))
-  ])
+  unfolding Operand.parseExpressionOperand Operand.noExpression
+  expression-operand-fits =
+      expressed (sees (λ k x g. raises (omega arith) (answers tt)) (raises (omega arith) (answers tt))) λ e h. tail-fits e _ h (finish-fits e h)
 
   -- ---- parentheses
 
@@ -362,12 +348,8 @@ module _ {m : ℕ} (s : Setting) (low : s .start ≤ m) where
       (sees (λ t x q. sees (λ c y b. then (suffix-fits _ (root e g .0)) λ x z. sized-base-fits k e x h g) (unexpected-fits k h)) (unexpected-fits k h)))
 
   parenthesised-fits : (k : Token) → SpanIn m (spanOf k) → Fits m (MaybeIn (OperandIn m)) (Operand.parenthesised s k)
-  unfolding Operand.parenthesised Operand.parenthesisedExpression
-  parenthesised-fits k h = then (expression-fits _) (elim [
-    | read e ↦ λ g. after-expression-fits k e h g
-    | reported ↦ λ g. answers tt
-    | absent ↦ λ g. raises (omega arith) (answers tt)
-  ])
+  unfolding Operand.parenthesised
+  parenthesised-fits k h = expressed (raises (omega arith) (answers tt)) λ e g. after-expression-fits k e h g
 
   starts-base-fits : (p q : Unit {0} → Reader (Maybe Operand)) → Fits m (MaybeIn (OperandIn m)) (p tt) → Fits m (MaybeIn (OperandIn m)) (q tt)
       → Fits m (MaybeIn (OperandIn m)) (Operand.startsABase p q)

@@ -1,5 +1,6 @@
--- `operands::answer_last` is safe: what `finish` writes is in the store.
+-- `operands::answer_last` meets its contract: what `finish` writes is in the store.
 -- Assumes nothing.
+-- Written by tools/proof.py from the answers of the same path: change those, not this file.
 use native.Mathlib.Omega.{arith}
 use Rattle.frames.specs.Bounds.{finish-bound}
 use borrow.Author.Needs.{needs}

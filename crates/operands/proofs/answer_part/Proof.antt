@@ -1,6 +1,7 @@
 -- `operands::answer_part` meets its contract and ends: each call of `batch` consumes a byte at least.
 -- The loop's invariant: the run over what is left leaves what the whole run leaves.
 -- Assumes nothing.
+-- Written by tools/proof.py from the answers of the same path: change those, not this file.
 use mathlib.Core.Path.{refl}
 use Prim.Native.Nat.{_≤_, _-_}
 use native.Mathlib.Omega.{arith}

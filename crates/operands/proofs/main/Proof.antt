@@ -1,7 +1,10 @@
 -- `operands::main` is safe and ends. The measure is the number of turns that are left.
 -- Assumes nothing.
+-- Written by tools/proof.py from the answers of the same path: change those, not this file.
 use mathlib.Core.Path.{_≡_}
+use native.Mathlib.Omega.{arith}
 use lib.ListN.{length}
+use Rattle.operands.proofs.Rests.{moved-on}
 use borrow.Author.Needs.{needs}
 use Rattle.operands.proofs.main.Statement.{statement}
 use Rattle.operands.proofs.main.Tie as tie
@@ -21,11 +24,19 @@ large-buffer-requires-2 c κs = search needs
 loop-holds : tie.Need-loop-holds Inv-loop μ-loop
 loop-holds c = search needs
 
-slice-aggregate-read-part : tie.Need-slice-aggregate-read-part Inv-loop μ-loop
-slice-aggregate-read-part c = search needs
+slice-aggregate-read : tie.Need-slice-aggregate-read Inv-loop μ-loop
+slice-aggregate-read c = search needs
 
-read-part-requires : tie.Need-read-part-requires Inv-loop μ-loop
-read-part-requires c κs = search needs
+read-requires : tie.Need-read-requires Inv-loop μ-loop
+read-requires c κs = search needs
+
+slice-aggregate-answer-read : tie.Need-slice-aggregate-answer-read Inv-loop μ-loop
+slice-aggregate-answer-read c = search needs
+
+answer-read-requires : tie.Need-answer-read-requires Inv-loop μ-loop
+answer-read-requires c κs =
+    let c-read = c .before .before .before .before .read in
+    moved-on (c-read .result) _ _ (record { sfits = c-read .ok }) (omega (arith, c-read .kept)) (c-read .ensures)
 
 sub-turns : tie.Need-sub-turns Inv-loop μ-loop
 sub-turns c = search needs
@@ -51,8 +62,10 @@ main-spec =
     large-buffer-requires
     large-buffer-requires-2
     loop-holds
-    slice-aggregate-read-part
-    read-part-requires
+    slice-aggregate-read
+    read-requires
+    slice-aggregate-answer-read
+    answer-read-requires
     sub-turns
     loop-less
     loop-again

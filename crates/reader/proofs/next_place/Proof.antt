@@ -1,5 +1,6 @@
 -- `reader::next_place` meets its contract: what `lent_token_at` gives says which case of `nextPlace` holds.
 -- Assumes nothing.
+-- Written by tools/proof.py from the answers of the same path: change those, not this file.
 use mathlib.Core.Path.{sym, _∙_}
 use Rattle.names.specs.Places.{live}
 use Rattle.reader.specs.Cursor.{next-there, next-nowhere}

@@ -1,5 +1,6 @@
 -- `reader::place_in` meets its contract: each branch's test says which case of `placeIn` holds.
 -- Assumes nothing.
+-- Written by tools/proof.py from the answers of the same path: change those, not this file.
 use borrow.Author.Tests.{le-leb, lt-leb}
 use Rattle.reader.specs.Cursor.{placeIn}
 use Rattle.reader.proofs.place_in.Statement.{statement}

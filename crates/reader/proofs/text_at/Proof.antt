@@ -1,5 +1,6 @@
 -- `reader::text_at` meets its contract: what `lent_token_at` gives says which case of `textAt` holds.
 -- Assumes nothing.
+-- Written by tools/proof.py from the answers of the same path: change those, not this file.
 use mathlib.Core.Path.{sym, _∙_}
 use Rattle.reader.specs.Cursor.{text-there, text-nowhere}
 use borrow.Author.Needs.{needs}
@@ -9,8 +10,8 @@ use Rattle.reader.proofs.text_at.Tie as tie
 lent-token-at-requires : tie.Need-lent-token-at-requires
 lent-token-at-requires c κs = search needs
 
-enum-known-token : tie.Need-enum-known-token
-enum-known-token c = search needs
+enum-known-p : tie.Need-enum-known-p
+enum-known-p c = search needs
 
 text-of-requires : tie.Need-text-of-requires
 text-of-requires c κs = search needs
@@ -31,8 +32,8 @@ returns : tie.Need-returns
 returns c =
     let c-text-of = c .text-of in
     let c-lent-token-at = c .before .before .before .before .lent-token-at in
-    let c-token = c .before .before .token in
-    c-text-of .ensures ∙ sym (text-there _ _ _ _ (sym (c-lent-token-at .ensures) ∙ c-token .given .1))
+    let c-p = c .before .before .p in
+    c-text-of .ensures ∙ sym (text-there _ _ _ _ (sym (c-lent-token-at .ensures) ∙ c-p .given .1))
 
 returns-2 : tie.Need-returns-2
 returns-2 c =
@@ -45,7 +46,7 @@ text-at-spec =
     tie.close
     (tie.spec
     lent-token-at-requires
-    enum-known-token
+    enum-known-p
     text-of-requires
     enum-told
     sub-result

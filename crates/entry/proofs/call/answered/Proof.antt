@@ -1,6 +1,7 @@
 -- `entry::call::answered` meets its contract.
 -- Assumes nothing.
-use Rattle.entry.specs.Inner.{answerOf}
+-- Written by tools/proof.py from the answers of the same path: change those, not this file.
+use Rattle.entry.specs.Call.{answerOf}
 use borrow.Author.Needs.{needs}
 use Rattle.entry.proofs.call.answered.Statement.{statement}
 use Rattle.entry.proofs.call.answered.Tie as tie

@@ -1,9 +1,10 @@
 -- `entry::call::parse_operand` meets its contract.
 -- Assumes nothing.
+-- Written by tools/proof.py from the answers of the same path: change those, not this file.
 use mathlib.Core.Path.{sym, _∙_}
 use native.Mathlib.Omega.{arith}
 use Rattle.operand.specs.Entry.{Input, call}
-use Rattle.entry.proofs.Refusals.{whole-list, line-refused}
+use Rattle.entry.proofs.call.Refusals.{whole-list, line-refused}
 use borrow.Author.Needs.{needs}
 use Rattle.entry.proofs.call.parse_operand.Statement.{statement}
 use Rattle.entry.proofs.call.parse_operand.Tie as tie

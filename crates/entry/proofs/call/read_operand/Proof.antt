@@ -1,10 +1,11 @@
 -- `entry::call::read_operand` meets its contract.
 -- Assumes nothing.
+-- Written by tools/proof.py from the answers of the same path: change those, not this file.
 use native.Mathlib.Omega.{arith}
 use borrow.Author.Tests.{not-true, not-false}
 use Rattle.operand.specs.Entry.{Input, call}
-use Rattle.entry.proofs.Refusals.{whole-list, decoded-good, token-refused, store-refused, valid}
-use Rattle.entry.proofs.Outcomes.{never-unfit, is-read}
+use Rattle.entry.proofs.call.Refusals.{whole-list, decoded-good, token-refused, store-refused, valid}
+use Rattle.entry.proofs.call.Outcomes.{never-unfit, is-read}
 use borrow.Author.Needs.{needs}
 use Rattle.entry.proofs.call.read_operand.Statement.{statement}
 use Rattle.entry.proofs.call.read_operand.Tie as tie

@@ -1,10 +1,11 @@
 -- `frames::answer::answer` meets its contract.
 -- Assumes nothing.
+-- Written by tools/proof.py from the answers of the same path: change those, not this file.
 use mathlib.Core.Path.{sym}
 use native.Mathlib.Omega.{arith}
 use lib.Seq.{length-take-le}
 use Rattle.frames.specs.Inner.{DecodedAs}
-use Rattle.frames.proofs.Turns.{held-long, held-bad, held-frame, held-fits, put-as}
+use Rattle.frames.proofs.batches.Turns.{held-long, held-bad, held-frame, held-fits, put-as}
 use borrow.Author.Needs.{needs}
 use Rattle.frames.proofs.answer.answer.Statement.{statement}
 use Rattle.frames.proofs.answer.answer.Tie as tie

@@ -1,9 +1,10 @@
 -- `frames::answer::answer_frame` meets its contract.
 -- Assumes nothing.
+-- Written by tools/proof.py from the answers of the same path: change those, not this file.
 use mathlib.Core.Path.{sym}
 use native.Mathlib.Omega.{arith}
 use Rattle.frames.specs.Inner.{FramedAs}
-use Rattle.frames.proofs.Replies.{not-frame, answer-asks, answer-bytes, line-of}
+use Rattle.frames.proofs.answer.Replies.{not-frame, answer-asks, answer-bytes, line-of}
 use borrow.Author.Needs.{needs}
 use Rattle.frames.proofs.answer.answer_frame.Statement.{statement}
 use Rattle.frames.proofs.answer.answer_frame.Tie as tie

@@ -1,6 +1,7 @@
 -- `frames::answer::end_line` meets its contract.
 -- Assumes nothing.
-use Rattle.frames.proofs.Putting.{put-one}
+-- Written by tools/proof.py from the answers of the same path: change those, not this file.
+use Rattle.frames.proofs.answer.Putting.{put-one}
 use borrow.Author.Needs.{needs}
 use Rattle.frames.proofs.answer.end_line.Statement.{statement}
 use Rattle.frames.proofs.answer.end_line.Tie as tie

@@ -1,5 +1,6 @@
 -- `frames::answer::put_answer` meets its contract.
 -- Assumes nothing.
+-- Written by tools/proof.py from the answers of the same path: change those, not this file.
 use Rattle.frames.specs.Inner.{answerBytes, AnswerAsks}
 use borrow.Author.Needs.{needs}
 use Rattle.frames.proofs.answer.put_answer.Statement.{statement}

@@ -1,11 +1,12 @@
 -- `frames::answer::put_found` meets its contract.
 -- Assumes nothing.
+-- Written by tools/proof.py from the answers of the same path: change those, not this file.
 use mathlib.Core.Path.{sym, _∙_, ap}
 use lib.ListN.{length}
 use native.Mathlib.Omega.{arith}
 use Rattle.operand.specs.Lengths.{length-bytes}
 use Rattle.frames.specs.Inner.{foundBytes}
-use Rattle.frames.proofs.Putting.{found-room}
+use Rattle.frames.proofs.answer.Putting.{found-room}
 use borrow.Author.Needs.{needs}
 use Rattle.frames.proofs.answer.put_found.Statement.{statement}
 use Rattle.frames.proofs.answer.put_found.Tie as tie

@@ -1,7 +1,8 @@
 -- `frames::answer::put_parts` meets its contract.
 -- Assumes nothing.
+-- Written by tools/proof.py from the answers of the same path: change those, not this file.
 use native.Mathlib.Omega.{arith}
-use Rattle.frames.proofs.Putting.{next-digits, parts-put}
+use Rattle.frames.proofs.answer.Putting.{next-digits, parts-put}
 use borrow.Author.Needs.{needs}
 use Rattle.frames.proofs.answer.put_parts.Statement.{statement}
 use Rattle.frames.proofs.answer.put_parts.Tie as tie

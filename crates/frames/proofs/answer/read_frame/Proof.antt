@@ -1,9 +1,10 @@
 -- `frames::answer::read_frame` meets its contract.
 -- Assumes nothing.
+-- Written by tools/proof.py from the answers of the same path: change those, not this file.
 use native.Mathlib.Omega.{arith}
 use Prim.Native.Nat.{_-_}
 use lib.ListN.{length}
-use Rattle.frames.proofs.Replies.{read-lent}
+use Rattle.frames.proofs.answer.Replies.{read-lent}
 use borrow.Author.Needs.{needs}
 use Rattle.frames.proofs.answer.read_frame.Statement.{statement}
 use Rattle.frames.proofs.answer.read_frame.Tie as tie

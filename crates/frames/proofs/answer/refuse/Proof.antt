@@ -1,8 +1,9 @@
 -- `frames::answer::refuse` meets its contract.
 -- Assumes nothing.
+-- Written by tools/proof.py from the answers of the same path: change those, not this file.
 use native.Mathlib.Omega.{arith}
 use Rattle.frames.specs.Reply.{refused}
-use Rattle.frames.proofs.Putting.{next-digits, line-put}
+use Rattle.frames.proofs.answer.Putting.{next-digits, line-put}
 use borrow.Author.Needs.{needs}
 use Rattle.frames.proofs.answer.refuse.Statement.{statement}
 use Rattle.frames.proofs.answer.refuse.Tie as tie

@@ -1,12 +1,13 @@
 -- `frames::batches::batch_in` meets its contract. The loop's invariant: the rest of the input takes this state where the whole takes the first one.
 -- Assumes nothing.
+-- Written by tools/proof.py from the answers of the same path: change those, not this file.
 use mathlib.Core.Path.{_≡_, refl}
 use Prim.Native.Nat.{_≤_, _-_}
 use native.Mathlib.Omega.{arith}
 use lib.ListN.{length, drop}
 use Rattle.frames.specs.Machine.{steps, fresh}
 use Rattle.frames.specs.Inner.{BatchAsks, state}
-use Rattle.frames.proofs.Turns.{batch-end, batch-full, batch-on}
+use Rattle.frames.proofs.batches.Turns.{batch-end, batch-full, batch-on}
 use borrow.Author.Needs.{needs}
 use Rattle.frames.proofs.batches.batch_in.Statement.{statement}
 use Rattle.frames.proofs.batches.batch_in.Tie as tie

@@ -1,6 +1,7 @@
 -- `frames::batches::finish` meets its contract.
 -- Assumes nothing.
-use Rattle.frames.proofs.Turns.{finish-none, finish-line}
+-- Written by tools/proof.py from the answers of the same path: change those, not this file.
+use Rattle.frames.proofs.batches.Turns.{finish-none, finish-line}
 use borrow.Author.Needs.{needs}
 use Rattle.frames.proofs.batches.finish.Statement.{statement}
 use Rattle.frames.proofs.batches.finish.Tie as tie

@@ -1,7 +1,8 @@
 -- `frames::batches::hold` meets its contract.
 -- Assumes nothing.
+-- Written by tools/proof.py from the answers of the same path: change those, not this file.
 use native.Mathlib.Omega.{arith}
-use Rattle.frames.proofs.Turns.{hold-more, hold-long}
+use Rattle.frames.proofs.batches.Turns.{hold-more, hold-long}
 use borrow.Author.Needs.{needs}
 use Rattle.frames.proofs.batches.hold.Statement.{statement}
 use Rattle.frames.proofs.batches.hold.Tie as tie

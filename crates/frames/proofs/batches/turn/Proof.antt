@@ -1,6 +1,7 @@
 -- `frames::batches::turn` meets its contract.
 -- Assumes nothing.
-use Rattle.frames.proofs.Turns.{turn-fed, turn-kept}
+-- Written by tools/proof.py from the answers of the same path: change those, not this file.
+use Rattle.frames.proofs.batches.Turns.{turn-fed, turn-kept}
 use borrow.Author.Needs.{needs}
 use Rattle.frames.proofs.batches.turn.Statement.{statement}
 use Rattle.frames.proofs.batches.turn.Tie as tie

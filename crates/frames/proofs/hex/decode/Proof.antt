@@ -1,13 +1,14 @@
 -- `frames::hex::decode` meets its contract. The loop's invariant: the bytes of the first i pairs are in the store, and the rest spells bytes just where the whole does.
 -- Assumes nothing.
+-- Written by tools/proof.py from the answers of the same path: change those, not this file.
 use mathlib.Core.Path.{_≡_, refl}
 use mathlib.Core.List.{_++_}
-use Prim.Native.Nat.{_≤_, _+_, _-_, _*_}
+use Prim.Native.Nat.{_≤_, _-_, _*_}
 use native.Mathlib.Omega.{arith}
 use lib.ListN.{length, take, drop, length-set}
 use Rattle.frames.specs.Hex.{spells, spelled}
 use Rattle.frames.specs.Inner.{DecodedAs}
-use Rattle.frames.proofs.Decoding.{spells-odd, high-bad, low-bad, good-on, bytes-on, decoded}
+use Rattle.frames.proofs.hex.Decoding.{spells-odd, high-bad, low-bad, good-on, bytes-on, decoded}
 use borrow.Author.Needs.{needs}
 use Rattle.frames.proofs.hex.decode.Statement.{statement}
 use Rattle.frames.proofs.hex.decode.Tie as tie

@@ -1,12 +1,13 @@
 -- `frames::hex::put` meets its contract. The loop's invariant: the digits of the first i bytes are written.
 -- Assumes nothing.
+-- Written by tools/proof.py from the answers of the same path: change those, not this file.
 use mathlib.Core.Path.{_≡_, refl}
 use Prim.Native.Nat.{_≤_, _+_, _-_, _*_}
 use native.Mathlib.Omega.{arith}
 use lib.ListN.{length, take, length-set}
 use Rattle.records.specs.Stores.{written}
 use Rattle.frames.specs.Hex.{digits}
-use Rattle.frames.proofs.Digits.{written-none, put-next, put-all}
+use Rattle.frames.proofs.hex.Digits.{written-none, put-next, put-all}
 use borrow.Author.Needs.{needs}
 use Rattle.frames.proofs.hex.put.Statement.{statement}
 use Rattle.frames.proofs.hex.put.Tie as tie

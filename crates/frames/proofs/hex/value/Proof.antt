@@ -1,7 +1,8 @@
 -- `frames::hex::value` meets its contract.
 -- Assumes nothing.
+-- Written by tools/proof.py from the answers of the same path: change those, not this file.
 use native.Mathlib.Omega.{arith}
-use Rattle.frames.proofs.Digits.{value-low, value-figure, value-between, value-letter, value-high}
+use Rattle.frames.proofs.hex.Digits.{value-low, value-figure, value-between, value-letter, value-high}
 use borrow.Author.Needs.{needs}
 use Rattle.frames.proofs.hex.value.Statement.{statement}
 use Rattle.frames.proofs.hex.value.Tie as tie

@@ -1,7 +1,8 @@
 -- `layout::diagnostics::encode_diagnostics` meets its contract.
 -- Assumes nothing.
+-- Written by tools/proof.py from the answers of the same path: change those, not this file.
 use native.Mathlib.Omega.{arith}
-use Rattle.layout.proofs.Encoding.{diagnostics-missing, diagnostics-short, diagnostics-all}
+use Rattle.layout.proofs.store.Encoding.{diagnostics-missing, diagnostics-short, diagnostics-all}
 use borrow.Author.Needs.{needs}
 use Rattle.layout.proofs.diagnostics.encode_diagnostics.Statement.{statement}
 use Rattle.layout.proofs.diagnostics.encode_diagnostics.Tie as tie

@@ -1,7 +1,8 @@
 -- `layout::nodes::encode_node` meets its contract.
 -- Assumes nothing.
+-- Written by tools/proof.py from the answers of the same path: change those, not this file.
 use native.Mathlib.Omega.{arith}
-use Rattle.layout.proofs.Encoding.{node-written}
+use Rattle.layout.proofs.store.Encoding.{node-written}
 use borrow.Author.Needs.{needs}
 use Rattle.layout.proofs.nodes.encode_node.Statement.{statement}
 use Rattle.layout.proofs.nodes.encode_node.Tie as tie

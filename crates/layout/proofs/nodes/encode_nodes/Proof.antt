@@ -1,13 +1,13 @@
 -- `layout::nodes::encode_nodes` meets its contract. The loop's invariant: the first i records are written over the zeros.
 -- Assumes nothing.
-use mathlib.Core.Path.{_≡_, refl, _∙_, ap}
-use Prim.Native.Nat.{_≤_, _-_, _*_}
+-- Written by tools/proof.py from the answers of the same path: change those, not this file.
+use mathlib.Core.Path.{_≡_, _∙_}
+use Prim.Native.Nat.{_≤_, _-_}
 use native.Mathlib.Omega.{arith}
-use lib.ListN.{length}
 use Rattle.records.specs.Stores.{written}
 use Rattle.operand.specs.Layout.{nodeBytes}
 use Rattle.operand.specs.Entry.{node-store}
-use Rattle.layout.proofs.Encoding.{nodes-none, nodes-on, nodes-long, cleared-long, nodes-all, nodes-many, nodes-missing, nodes-short}
+use Rattle.layout.proofs.store.Encoding.{nodes-none, nodes-on, nodes-long, cleared-long, nodes-all, nodes-many, nodes-missing, nodes-short}
 use Rattle.layout.proofs.nodes.encode_nodes.Statement.{statement}
 use Rattle.layout.proofs.nodes.encode_nodes.Tie as tie
 

@@ -1,5 +1,6 @@
 -- `layout::nodes::last_eight` meets its contract.
 -- Assumes nothing.
+-- Written by tools/proof.py from the answers of the same path: change those, not this file.
 use borrow.Author.Tests.{eq-eqb, ne-eqb}
 use Rattle.records.specs.Nodes.{lowFirst}
 use Rattle.operand.specs.Layout.{lastEight}

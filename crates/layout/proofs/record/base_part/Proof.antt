@@ -1,5 +1,6 @@
 -- `layout::record::base_part` meets its contract.
 -- Assumes nothing.
+-- Written by tools/proof.py from the answers of the same path: change those, not this file.
 use Rattle.operand.specs.Layout.{basePart}
 use borrow.Author.Needs.{needs}
 use Rattle.layout.proofs.record.base_part.Statement.{statement}

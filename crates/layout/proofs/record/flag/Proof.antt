@@ -1,5 +1,6 @@
 -- `layout::record::flag` meets its contract.
 -- Assumes nothing.
+-- Written by tools/proof.py from the answers of the same path: change those, not this file.
 use Rattle.operand.specs.Records.{flag}
 use Rattle.layout.proofs.record.flag.Statement.{statement}
 use Rattle.layout.proofs.record.flag.Tie as tie

@@ -1,5 +1,6 @@
 -- `layout::record::index_part` meets its contract.
 -- Assumes nothing.
+-- Written by tools/proof.py from the answers of the same path: change those, not this file.
 use Rattle.operand.specs.Records.{flag}
 use Rattle.operand.specs.Layout.{indexPart}
 use borrow.Author.Needs.{needs}

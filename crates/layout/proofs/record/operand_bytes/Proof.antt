@@ -1,6 +1,7 @@
 -- `layout::record::operand_bytes` meets its contract.
 -- Assumes nothing.
-use Rattle.layout.proofs.Parts.{twenty}
+-- Written by tools/proof.py from the answers of the same path: change those, not this file.
+use Rattle.layout.proofs.record.Parts.{twenty}
 use borrow.Author.Needs.{needs}
 use Rattle.layout.proofs.record.operand_bytes.Statement.{statement}
 use Rattle.layout.proofs.record.operand_bytes.Tie as tie

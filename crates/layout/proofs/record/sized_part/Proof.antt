@@ -1,5 +1,6 @@
 -- `layout::record::sized_part` meets its contract.
 -- Assumes nothing.
+-- Written by tools/proof.py from the answers of the same path: change those, not this file.
 use Rattle.operand.specs.Layout.{sizedPart}
 use borrow.Author.Needs.{needs}
 use Rattle.layout.proofs.record.sized_part.Statement.{statement}

@@ -1,14 +1,15 @@
 -- `layout::store::write_low` meets its contract. The loop's invariant: the low bytes of the first i numbers are written.
 -- Assumes nothing.
+-- Written by tools/proof.py from the answers of the same path: change those, not this file.
 use mathlib.Core.Path.{_≡_, sym, _∙_, ap, ap₂}
 use Prim.Native.Nat.{_≤_, _+_, _-_}
 use native.Mathlib.Omega.{arith}
-use lib.ListN.{length, getD, set}
+use lib.ListN.{length, set}
 use lib.Seq.{paste, paste-zero, length-paste}
 use Rattle.records.specs.Written.{paste-on, paste-all}
 use Rattle.operand.specs.Layout.{lows}
 use Rattle.operand.specs.Lengths.{length-lows}
-use Rattle.layout.proofs.Encoding.{getD-lows}
+use Rattle.layout.proofs.store.Encoding.{getD-lows}
 use borrow.Author.Needs.{needs}
 use Rattle.layout.proofs.store.write_low.Statement.{statement}
 use Rattle.layout.proofs.store.write_low.Tie as tie

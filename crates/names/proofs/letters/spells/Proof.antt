@@ -1,11 +1,12 @@
 -- `names::letters::spells` meets its contract. The loop's invariant: the rest of the name spells the rest of the word just where the whole does.
 -- Assumes nothing.
+-- Written by tools/proof.py from the answers of the same path: change those, not this file.
 use mathlib.Core.Path.{_≡_, refl, sym, _∙_}
 use Prim.Native.Nat.{_≤_, _-_}
 use native.Mathlib.Omega.{arith}
 use lib.ListN.{length, drop}
 use Rattle.names.specs.Letters.{spelled}
-use Rattle.names.proofs.Spelling.{spelled-differ, spelled-on, spelled-no, spelled-end}
+use Rattle.names.proofs.letters.Spelling.{spelled-differ, spelled-on, spelled-no, spelled-end}
 use borrow.Author.Needs.{needs}
 use Rattle.names.proofs.letters.spells.Statement.{statement}
 use Rattle.names.proofs.letters.spells.Tie as tie

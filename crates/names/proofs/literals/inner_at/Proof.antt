@@ -1,7 +1,8 @@
 -- `names::literals::inner_at` meets its contract.
 -- Assumes nothing.
+-- Written by tools/proof.py from the answers of the same path: change those, not this file.
 use native.Mathlib.Omega.{arith}
-use Rattle.names.proofs.Quotes.{quoted-out, quoted-byte, quoted-last, quoted-close, quoted-double}
+use Rattle.names.proofs.literals.Quotes.{quoted-out, quoted-byte, quoted-last, quoted-close, quoted-double}
 use borrow.Author.Needs.{needs}
 use Rattle.names.proofs.literals.inner_at.Statement.{statement}
 use Rattle.names.proofs.literals.inner_at.Tie as tie

@@ -1,11 +1,12 @@
 -- `names::literals::literal_length` meets its contract. The loop's invariant: the bytes counted and those to come are all that the literal has.
 -- Assumes nothing.
-use mathlib.Core.Path.{_≡_, refl, sym, _∙_, ap}
+-- Written by tools/proof.py from the answers of the same path: change those, not this file.
+use mathlib.Core.Path.{_≡_, ap}
 use Prim.Native.Nat.{_≤_, _+_, _-_}
 use native.Mathlib.Omega.{arith}
 use lib.ListN.{length, drop}
 use Rattle.names.specs.Literals.{quoted, literalBytes}
-use Rattle.names.proofs.Quotes.{literal-from}
+use Rattle.names.proofs.literals.Quotes.{literal-from}
 use borrow.Author.Needs.{needs}
 use Rattle.names.proofs.literals.literal_length.Statement.{statement}
 use Rattle.names.proofs.literals.literal_length.Tie as tie

@@ -1,8 +1,9 @@
 -- `names::literals::string_literal_bytes` meets its contract. The loop's invariant: the first n bytes are stored, and the others are the literal from i on.
 -- Assumes nothing.
+-- Written by tools/proof.py from the answers of the same path: change those, not this file.
 use Prim.Native.Nat.{_-_}
 use native.Mathlib.Omega.{arith}
-use Rattle.names.proofs.Quotes.{Storing, storing-first, storing-next, storing-not-end, storing-same, storing-last, stored-not}
+use Rattle.names.proofs.literals.Quotes.{Storing, storing-first, storing-next, storing-not-end, storing-same, storing-last, stored-not}
 use borrow.Author.Needs.{needs}
 use Rattle.names.proofs.literals.string_literal_bytes.Statement.{statement}
 use Rattle.names.proofs.literals.string_literal_bytes.Tie as tie

@@ -1,8 +1,9 @@
 -- `names::numbers::figure` meets its contract.
 -- Assumes nothing.
-use mathlib.Core.Path.{_≡_, sym, _∙_, ap}
+-- Written by tools/proof.py from the answers of the same path: change those, not this file.
+use mathlib.Core.Path.{sym}
 use native.Mathlib.Omega.{arith}
-use Rattle.names.proofs.Figures.{figure-low, figure-digit, figure-gap, figure-past, figure-letter}
+use Rattle.names.proofs.numbers.Figures.{figure-low, figure-digit, figure-gap, figure-past, figure-letter}
 use borrow.Author.Needs.{needs}
 use Rattle.names.proofs.numbers.figure.Statement.{statement}
 use Rattle.names.proofs.numbers.figure.Tie as tie

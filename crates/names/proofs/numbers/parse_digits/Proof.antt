@@ -1,11 +1,12 @@
 -- `names::numbers::parse_digits` meets its contract. The loop's invariant: the rest of the digits, read on from the value, give what all of them give.
 -- Assumes nothing.
+-- Written by tools/proof.py from the answers of the same path: change those, not this file.
 use mathlib.Core.Path.{_≡_, refl, sym, _∙_, ap}
 use Prim.Native.Nat.{_≤_, _+_, _-_, _*_, _^_, min}
 use native.Mathlib.Omega.{arith}
 use lib.ListN.{length, drop}
-use Rattle.names.specs.Numbers.{scan, radixOf}
-use Rattle.names.proofs.Figures.{radix-small, scan-on, scan-stop, scan-value, scan-large, digits-none, digits-some}
+use Rattle.names.specs.Numbers.{scan}
+use Rattle.names.proofs.numbers.Figures.{radix-small, scan-on, scan-stop, scan-value, scan-large, digits-none, digits-some}
 use borrow.Author.Needs.{needs}
 use Rattle.names.proofs.numbers.parse_digits.Statement.{statement}
 use Rattle.names.proofs.numbers.parse_digits.Tie as tie

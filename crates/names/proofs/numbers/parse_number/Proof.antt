@@ -1,8 +1,10 @@
 -- `names::numbers::parse_number` meets its contract.
 -- Assumes nothing.
+-- Written by tools/proof.py from the answers of the same path: change those, not this file.
 use mathlib.Core.Path.{_∙_, ap}
 use borrow.Author.Tests.{lt-ltb, le-ltb}
 use Rattle.names.specs.Numbers.{digitsOf, inBase, numberOf}
+use Rattle.names.proofs.Cases.{told-number}
 use borrow.Author.Needs.{needs}
 use Rattle.names.proofs.numbers.parse_number.Statement.{statement}
 use Rattle.names.proofs.numbers.parse_number.Tie as tie
@@ -11,7 +13,7 @@ returns : tie.Need-returns
 unfolding numberOf inBase
 returns c =
     let c-if1 = c .if1 in
-    rw (le-ltb _ 4 (c-if1 .taken))
+    told-number (rw (le-ltb _ 4 (c-if1 .taken)))
 
 of-detail-requires : tie.Need-of-detail-requires
 of-detail-requires c κs = search needs
@@ -30,7 +32,7 @@ returns-2 c =
     let c-digits = c .before .digits in
     let c-args = c .before .before .before .before .before .args in
     let c-of-detail = c .before .before .of-detail in
-    rw (lt-ltb _ 4 (c-if1 .left)) (c-parse-digits .ensures ∙ ap (digitsOf _) (c-digits .ensures) ∙ ap (λ b. inBase b (c-args .text .now)) (c-of-detail .ensures))
+    told-number (rw (lt-ltb _ 4 (c-if1 .left)) (c-parse-digits .ensures ∙ ap (digitsOf _) (c-digits .ensures) ∙ ap (λ b. inBase b (c-args .text .now)) (c-of-detail .ensures)))
 
 pub parse-number-spec : {M : Type 1} → statement M
 parse-number-spec =

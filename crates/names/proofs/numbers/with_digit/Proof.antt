@@ -1,7 +1,8 @@
 -- `names::numbers::with_digit` meets its contract.
 -- Assumes nothing.
+-- Written by tools/proof.py from the answers of the same path: change those, not this file.
 use native.Mathlib.Omega.{arith}
-use Rattle.names.proofs.Figures.{small-next, large-next, past-next}
+use Rattle.names.proofs.numbers.Figures.{small-next, large-next, past-next}
 use borrow.Author.Needs.{needs}
 use Rattle.names.proofs.numbers.with_digit.Statement.{statement}
 use Rattle.names.proofs.numbers.with_digit.Tie as tie

@@ -1,5 +1,6 @@
 -- `names::registers::is_program_counter` meets its contract.
 -- Assumes nothing.
+-- Written by tools/proof.py from the answers of the same path: change those, not this file.
 use Rattle.names.specs.Registers.{programCounter}
 use borrow.Author.Needs.{needs}
 use Rattle.names.proofs.registers.is_program_counter.Statement.{statement}

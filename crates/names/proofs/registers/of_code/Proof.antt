@@ -1,5 +1,6 @@
 -- `names::registers::of_code` meets its contract.
 -- Assumes nothing.
+-- Written by tools/proof.py from the answers of the same path: change those, not this file.
 use borrow.Author.Tests.{ne-eqb}
 use Rattle.names.specs.Codes.{coded, codedNumber, codedSpecial}
 use Rattle.names.proofs.registers.of_code.Statement.{statement}

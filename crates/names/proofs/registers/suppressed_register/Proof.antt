@@ -1,9 +1,11 @@
 -- `names::registers::suppressed_register` meets its contract.
 -- Assumes nothing.
-use mathlib.Core.Path.{sym, _∙_, ap}
+-- Written by tools/proof.py from the answers of the same path: change those, not this file.
+use mathlib.Core.Path.{sym}
 use borrow.Author.Tests.{eq-eqb, ne-eqb}
-use Rattle.names.specs.Registers.{programCounter, registerOf, suppressing}
-use Rattle.names.proofs.Pairs.{suppressed-none, suppressed-some}
+use Rattle.names.specs.Registers.{suppressing}
+use Rattle.names.proofs.Cases.{told-suppressed}
+use Rattle.names.proofs.registers.Pairs.{suppressed-none, suppressed-some}
 use borrow.Author.Needs.{needs}
 use Rattle.names.proofs.registers.suppressed_register.Statement.{statement}
 use Rattle.names.proofs.registers.suppressed_register.Tie as tie
@@ -11,7 +13,7 @@ use Rattle.names.proofs.registers.suppressed_register.Tie as tie
 returns : tie.Need-returns
 returns c =
     let c-if1 = c .if1 in
-    sym (suppressed-none _ (c-if1 .taken))
+    told-suppressed (sym (suppressed-none _ (c-if1 .taken)))
 
 shared-slice-read-lower : tie.Need-shared-slice-read-lower
 shared-slice-read-lower c = search needs
@@ -24,7 +26,7 @@ returns-2 c =
     let c-if1 = c .before .before .before .if1 in
     let c-lower = c .before .lower in
     let c-if2 = c .if2 in
-    rw (suppressed-some _ (c-if1 .left), ← c-lower .ensures, ne-eqb _ 122 (c-if2 .taken))
+    told-suppressed (rw (suppressed-some _ (c-if1 .left), ← c-lower .ensures, ne-eqb _ 122 (c-if2 .taken)))
 
 behind-first-requires : tie.Need-behind-first-requires
 behind-first-requires c κs = search needs
@@ -40,7 +42,7 @@ returns-3 c =
     let c-behind-first = c .before .before .behind-first in
     let c-is-program-counter = c .before .is-program-counter in
     let c-if3 = c .if3 in
-    rw (suppressed-some _ (c-if1 .left), ← c-lower .ensures, eq-eqb _ 122 (c-if2 .left), ← c-behind-first .ensures, ← c-is-program-counter .ensures, c-if3 .taken)
+    told-suppressed (rw (suppressed-some _ (c-if1 .left), ← c-lower .ensures, eq-eqb _ 122 (c-if2 .left), ← c-behind-first .ensures, ← c-is-program-counter .ensures, c-if3 .taken))
 
 parse-requires : tie.Need-parse-requires
 parse-requires c κs = search needs
@@ -62,7 +64,7 @@ returns-4 c =
     let c-if3 = c .before .before .before .before .if3 in
     let c-parse = c .before .before .before .parse in
     let c-register = c .before .register in
-    rw (suppressed-some _ (c-if1 .left), ← c-lower .ensures, eq-eqb _ 122 (c-if2 .left), ← c-behind-first .ensures, ← c-is-program-counter .ensures, c-if3 .left, ← c-parse .ensures, c-register .given .1)
+    told-suppressed (rw (suppressed-some _ (c-if1 .left), ← c-lower .ensures, eq-eqb _ 122 (c-if2 .left), ← c-behind-first .ensures, ← c-is-program-counter .ensures, c-if3 .left, ← c-parse .ensures .register, c-register .given .1))
 
 returns-5 : tie.Need-returns-5
 unfolding suppressing
@@ -75,7 +77,7 @@ returns-5 c =
     let c-if3 = c .before .before .before .if3 in
     let c-parse = c .before .before .parse in
     let c-enum-told = c .enum-told in
-    rw (suppressed-some _ (c-if1 .left), ← c-lower .ensures, eq-eqb _ 122 (c-if2 .left), ← c-behind-first .ensures, ← c-is-program-counter .ensures, c-if3 .left, ← c-parse .ensures, c-enum-told .given .1)
+    told-suppressed (rw (suppressed-some _ (c-if1 .left), ← c-lower .ensures, eq-eqb _ 122 (c-if2 .left), ← c-behind-first .ensures, ← c-is-program-counter .ensures, c-if3 .left, ← c-parse .ensures .register, c-enum-told .given .1))
 
 pub suppressed-register-spec : {M : Type 1} → statement M
 suppressed-register-spec =

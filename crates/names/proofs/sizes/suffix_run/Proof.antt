@@ -1,5 +1,6 @@
 -- `names::sizes::suffix_run` meets its contract.
 -- Assumes nothing.
+-- Written by tools/proof.py from the answers of the same path: change those, not this file.
 use Rattle.names.specs.Sizes.{runOf}
 use borrow.Author.Needs.{needs}
 use Rattle.names.proofs.sizes.suffix_run.Statement.{statement}

@@ -1,5 +1,6 @@
 -- `names::tokens::detail_defined` meets its contract.
 -- Assumes nothing.
+-- Written by tools/proof.py from the answers of the same path: change those, not this file.
 use borrow.Author.Tests.{eq-eqb, ne-eqb}
 use Rattle.names.specs.Tokens.{detailDefined}
 use Rattle.names.proofs.tokens.detail_defined.Statement.{statement}

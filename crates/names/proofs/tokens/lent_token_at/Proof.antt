@@ -1,6 +1,7 @@
 -- `names::tokens::lent_token_at` meets its contract.
 -- Assumes nothing.
-use Rattle.names.proofs.Peeks.{end-at, token-below}
+-- Written by tools/proof.py from the answers of the same path: change those, not this file.
+use Rattle.names.proofs.tokens.Peeks.{end-at, token-below}
 use borrow.Author.Needs.{needs}
 use Rattle.names.proofs.tokens.lent_token_at.Statement.{statement}
 use Rattle.names.proofs.tokens.lent_token_at.Tie as tie

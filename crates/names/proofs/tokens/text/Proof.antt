@@ -1,5 +1,6 @@
 -- `names::tokens::text` meets its contract.
 -- Assumes nothing.
+-- Written by tools/proof.py from the answers of the same path: change those, not this file.
 use borrow.Author.Tests.{le-leb, lt-leb}
 use Rattle.names.specs.Places.{textOf}
 use borrow.Author.Needs.{needs}

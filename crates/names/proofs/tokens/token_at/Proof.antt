@@ -1,7 +1,8 @@
 -- `names::tokens::token_at` meets its contract.
 -- Assumes nothing.
+-- Written by tools/proof.py from the answers of the same path: change those, not this file.
 use mathlib.Core.Path.{refl}
-use Rattle.names.proofs.Peeks.{end-at, token-below}
+use Rattle.names.proofs.tokens.Peeks.{end-at, token-below}
 use borrow.Author.Needs.{needs}
 use Rattle.names.proofs.tokens.token_at.Statement.{statement}
 use Rattle.names.proofs.tokens.token_at.Tie as tie

@@ -1,5 +1,6 @@
 -- `records::nodes::put_node` meets its contract.
 -- Assumes nothing.
+-- Written by tools/proof.py from the answers of the same path: change those, not this file.
 use Rattle.records.specs.Nodes.{words}
 use borrow.Author.Needs.{needs}
 use Rattle.records.proofs.nodes.put_node.Statement.{statement}

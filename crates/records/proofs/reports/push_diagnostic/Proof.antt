@@ -1,5 +1,6 @@
 -- `records::reports::push_diagnostic` meets its contract.
 -- Assumes nothing.
+-- Written by tools/proof.py from the answers of the same path: change those, not this file.
 use Rattle.records.specs.Diagnostics.{diagnosticRecord}
 use borrow.Author.Needs.{needs}
 use Rattle.records.proofs.reports.push_diagnostic.Statement.{statement}

@@ -1,6 +1,7 @@
 -- `terminal::call::put_found` meets its contract.
 -- Assumes nothing.
-use Rattle.terminal.proofs.Puts.{found-put}
+-- Written by tools/proof.py from the answers of the same path: change those, not this file.
+use Rattle.terminal.proofs.call.Puts.{found-put}
 use borrow.Author.Needs.{needs}
 use Rattle.terminal.proofs.call.put_found.Statement.{statement}
 use Rattle.terminal.proofs.call.put_found.Tie as tie

@@ -1,6 +1,7 @@
 -- `terminal::call::put_missed` meets its contract.
 -- Assumes nothing.
-use Rattle.terminal.proofs.Puts.{missed-put}
+-- Written by tools/proof.py from the answers of the same path: change those, not this file.
+use Rattle.terminal.proofs.call.Puts.{missed-put}
 use borrow.Author.Needs.{needs}
 use Rattle.terminal.proofs.call.put_missed.Statement.{statement}
 use Rattle.terminal.proofs.call.put_missed.Tie as tie

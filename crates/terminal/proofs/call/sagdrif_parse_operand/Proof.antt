@@ -1,8 +1,9 @@
 -- `terminal::call::sagdrif_parse_operand` meets its contract.
 -- Assumes nothing.
+-- Written by tools/proof.py from the answers of the same path: change those, not this file.
 use native.Mathlib.Omega.{arith}
 use Rattle.operand.specs.Entry.{Input, call}
-use Rattle.terminal.proofs.Puts.{refused-put, short, whole, found-asks, missed-asks}
+use Rattle.terminal.proofs.call.Puts.{refused-put, short, whole, found-asks, missed-asks}
 use borrow.Author.Needs.{needs}
 use Rattle.terminal.proofs.call.sagdrif_parse_operand.Statement.{statement}
 use Rattle.terminal.proofs.call.sagdrif_parse_operand.Tie as tie

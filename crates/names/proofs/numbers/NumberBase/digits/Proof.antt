@@ -1,5 +1,6 @@
 -- `names::numbers::NumberBase::digits` meets its contract.
 -- Assumes nothing.
+-- Written by tools/proof.py from the answers of the same path: change those, not this file.
 use Rattle.names.specs.Numbers.{width}
 use borrow.Author.Needs.{needs}
 use Rattle.names.proofs.numbers.NumberBase.digits.Statement.{statement}

@@ -1,5 +1,6 @@
 -- `names::numbers::NumberBase::of_detail` meets its contract.
 -- Assumes nothing.
+-- Written by tools/proof.py from the answers of the same path: change those, not this file.
 use borrow.Author.Tests.{ne-eqb}
 use Rattle.names.specs.Numbers.{baseOf}
 use Rattle.names.proofs.numbers.NumberBase.of_detail.Statement.{statement}

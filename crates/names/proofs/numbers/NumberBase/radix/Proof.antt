@@ -1,5 +1,6 @@
 -- `names::numbers::NumberBase::radix` meets its contract.
 -- Assumes nothing.
+-- Written by tools/proof.py from the answers of the same path: change those, not this file.
 use Rattle.names.specs.Numbers.{radixOf}
 use borrow.Author.Needs.{needs}
 use Rattle.names.proofs.numbers.NumberBase.radix.Statement.{statement}

@@ -1,8 +1,10 @@
 -- `names::registers::Reg::parse` meets its contract.
 -- Assumes nothing.
-use mathlib.Core.Path.{_≡_, sym, _∙_, ap₂}
+-- Written by tools/proof.py from the answers of the same path: change those, not this file.
+use mathlib.Core.Path.{sym, _∙_, ap₂}
 use Rattle.names.specs.Registers.{pair}
-use Rattle.names.proofs.Pairs.{register-not, register-pair}
+use Rattle.names.proofs.Cases.{told-register}
+use Rattle.names.proofs.registers.Pairs.{register-not, register-pair}
 use borrow.Author.Needs.{needs}
 use Rattle.names.proofs.registers.Reg.parse.Statement.{statement}
 use Rattle.names.proofs.registers.Reg.parse.Tie as tie
@@ -10,7 +12,7 @@ use Rattle.names.proofs.registers.Reg.parse.Tie as tie
 returns : tie.Need-returns
 returns c =
     let c-if1 = c .if1 in
-    sym (register-not _ (c-if1 .taken))
+    told-register (sym (register-not _ (c-if1 .taken)))
 
 shared-slice-read-lower : tie.Need-shared-slice-read-lower
 shared-slice-read-lower c = search needs
@@ -33,7 +35,7 @@ returns-2 c =
     let c-lower = c .before .before .before .lower in
     let c-lower2 = c .before .lower2 in
     let c-if1 = c .before .before .before .before .before .if1 in
-    c-of-pair .ensures ∙ ap₂ pair (c-lower .ensures) (c-lower2 .ensures) ∙ sym (register-pair _ (c-if1 .left))
+    told-register (c-of-pair .ensures ∙ ap₂ pair (c-lower .ensures) (c-lower2 .ensures) ∙ sym (register-pair _ (c-if1 .left)))
 
 pub parse-spec : {M : Type 1} → statement M
 parse-spec =

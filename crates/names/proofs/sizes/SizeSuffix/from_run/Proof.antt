@@ -1,9 +1,11 @@
 -- `names::sizes::SizeSuffix::from_run` meets its contract.
 -- Assumes nothing.
-use mathlib.Core.Path.{_≡_, sym, _∙_, ap}
-use borrow.Author.Tests.{eq-eqb, ne-eqb}
-use Rattle.names.specs.Sizes.{letterSize, sizeOf}
-use Rattle.names.proofs.Pairs.{size-not, size-letter}
+-- Written by tools/proof.py from the answers of the same path: change those, not this file.
+use mathlib.Core.Path.{sym}
+use borrow.Author.Tests.{ne-eqb}
+use Rattle.names.specs.Sizes.{letterSize}
+use Rattle.names.proofs.Cases.{told-size}
+use Rattle.names.proofs.registers.Pairs.{size-not, size-letter}
 use borrow.Author.Needs.{needs}
 use Rattle.names.proofs.sizes.SizeSuffix.from_run.Statement.{statement}
 use Rattle.names.proofs.sizes.SizeSuffix.from_run.Tie as tie
@@ -11,7 +13,7 @@ use Rattle.names.proofs.sizes.SizeSuffix.from_run.Tie as tie
 returns : tie.Need-returns
 returns c =
     let c-if1 = c .if1 in
-    sym (size-not _ (c-if1 .taken))
+    told-size (sym (size-not _ (c-if1 .taken)))
 
 shared-slice-read-lower : tie.Need-shared-slice-read-lower
 shared-slice-read-lower c = search needs
@@ -25,7 +27,7 @@ returns-2 c =
     let c-if1 = c .before .before .before .if1 in
     let c-lower = c .before .lower in
     let c-match = c .match in
-    rw (size-letter _ (c-if1 .left), ← c-lower .ensures, c-match .keys1)
+    told-size (rw (size-letter _ (c-if1 .left), ← c-lower .ensures, c-match .keys1))
 
 returns-3 : tie.Need-returns-3
 unfolding letterSize
@@ -33,7 +35,7 @@ returns-3 c =
     let c-if1 = c .before .before .before .if1 in
     let c-lower = c .before .lower in
     let c-match = c .match in
-    rw (size-letter _ (c-if1 .left), ← c-lower .ensures, c-match .keys2)
+    told-size (rw (size-letter _ (c-if1 .left), ← c-lower .ensures, c-match .keys2))
 
 returns-4 : tie.Need-returns-4
 unfolding letterSize
@@ -41,7 +43,7 @@ returns-4 c =
     let c-if1 = c .before .before .before .if1 in
     let c-lower = c .before .lower in
     let c-match = c .match in
-    rw (size-letter _ (c-if1 .left), ← c-lower .ensures, c-match .keys3)
+    told-size (rw (size-letter _ (c-if1 .left), ← c-lower .ensures, c-match .keys3))
 
 returns-5 : tie.Need-returns-5
 unfolding letterSize
@@ -49,7 +51,7 @@ returns-5 c =
     let c-if1 = c .before .before .before .if1 in
     let c-lower = c .before .lower in
     let c-match = c .match in
-    rw (size-letter _ (c-if1 .left), ← c-lower .ensures, c-match .keys4)
+    told-size (rw (size-letter _ (c-if1 .left), ← c-lower .ensures, c-match .keys4))
 
 returns-6 : tie.Need-returns-6
 unfolding letterSize
@@ -57,7 +59,7 @@ returns-6 c =
     let c-if1 = c .before .before .before .if1 in
     let c-lower = c .before .lower in
     let c-match = c .match in
-    rw (size-letter _ (c-if1 .left), ← c-lower .ensures) (simp (ne-eqb _ 98 (c-match .rest .0 .0 .0 .1), ne-eqb _ 119 (c-match .rest .0 .0 .1), ne-eqb _ 108 (c-match .rest .0 .1), ne-eqb _ 115 (c-match .rest .1)))
+    told-size (rw (size-letter _ (c-if1 .left), ← c-lower .ensures) (simp (ne-eqb _ 98 (c-match .rest .0 .0 .0 .1), ne-eqb _ 119 (c-match .rest .0 .0 .1), ne-eqb _ 108 (c-match .rest .0 .1), ne-eqb _ 115 (c-match .rest .1))))
 
 pub from-run-spec : {M : Type 1} → statement M
 from-run-spec =

@@ -1,0 +1,3 @@
+-- The tokens of a call.
+-- what is told
+pub mod Tokens

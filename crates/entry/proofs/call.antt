@@ -1,0 +1,3 @@
+-- What the proofs of call.rt share.
+pub mod Refusals
+pub mod Outcomes

@@ -1,0 +1,37 @@
+-- What the functions within the crate ask and tell.
+-- Assumes nothing.
+use mathlib.Core.Path.{_≡_}
+use mathlib.Core.List.{List}
+use Prim.Native.Nat.{ℕ, _+_, _*_, _≤_}
+use lib.ListN.{length}
+use Rattle.names.specs.Tokens.{count}
+use Rattle.records.specs.declared.counters.Counters.{Counters}
+use Rattle.operand.specs.declared.forms.OperandRead.{OperandRead}
+use Rattle.operand.specs.declared.forms.OperandStep.{OperandStep}
+use Rattle.operand.specs.RefusalNumbers
+use Rattle.operand.specs.Entry.{lineAndList, firstOf}
+use Rattle.layout.specs.declared.answer.Answer.{Answer}
+use Rattle.layout.specs.Coding.{nodesEncoded, diagnosticsEncoded}
+
+-- neither the line nor the list is refused, and it has at most n tokens
+pub record ListAsks (L T : List ℕ) (n : ℕ) : Type 0 where
+  pub passed : firstOf RefusalNumbers.longLine (lineAndList L T) ≡ 0
+  pub few : count T ≤ n
+
+-- and the call's own stores have room for whatever is read of it: its numbers, a node for each token, a diagnostic for each and one more
+pub record StoresAsk (L T list records reports : List ℕ) : Type 0 where
+  pub passed : firstOf RefusalNumbers.longLine (lineAndList L T) ≡ 0
+  pub tokens : 4 * count T ≤ length list
+  pub nodes : 10 * count T ≤ length records
+  pub diagnostics : 10 * (count T + 1) ≤ length reports
+
+-- what is read, as it is answered
+unfoldable pub answerOf : OperandRead → Counters → Answer
+answerOf (OperandRead.Is x) c = Answer.Operand (record { operand = x; cursor = c .at; nodes = c .nodes; diagnostics = c .diagnostics })
+answerOf OperandRead.Not c = Answer.NoOperand (record { cursor = c .at; diagnostics = c .diagnostics })
+
+-- and its records are in the lent stores
+pub record AnswerTold (s : OperandStep) (records reports N D N′ D′ : List ℕ) (used : ℕ) (r : Answer) : Type 0 where
+  pub answer : r ≡ answerOf (s .operand) (s .counters)
+  pub nodes : N′ ≡ nodesEncoded records (s .counters .nodes) N
+  pub diagnostics : D′ ≡ diagnosticsEncoded reports (s .counters .diagnostics) D used

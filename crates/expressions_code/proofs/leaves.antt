@@ -1,0 +1,2 @@
+-- What the proofs of leaves.rt share.
+pub mod Returns

@@ -1,0 +1,2 @@
+-- What the proofs of levels.rt share.
+pub mod Operators

@@ -1,0 +1,2 @@
+-- What the proofs of batches.rt share.
+pub mod Turns

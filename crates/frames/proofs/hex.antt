@@ -1,0 +1,3 @@
+-- What the proofs of hex.rt share.
+pub mod Digits
+pub mod Decoding

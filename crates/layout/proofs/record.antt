@@ -1,0 +1,2 @@
+-- What the proofs of record.rt share.
+pub mod Parts

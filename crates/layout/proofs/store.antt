@@ -1,0 +1,2 @@
+-- What the proofs of store.rt share.
+pub mod Encoding

@@ -1,0 +1,2 @@
+-- What the proofs of letters.rt share.
+pub mod Spelling

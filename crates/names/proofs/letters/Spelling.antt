@@ -1,0 +1,33 @@
+-- A name against a word, letter by letter.
+-- Assumes nothing.
+use mathlib.Core.Path.{_≡_, refl, ap}
+use mathlib.Core.Bool.{true, false}
+use mathlib.Core.List.{List, [], _∷_}
+use Prim.Native.Nat.{ℕ, suc, _+_, _≤_, _<_}
+use borrow.Author.Tests.{eq-eqb, ne-eqb}
+use lib.ListN.{length, getD, drop, drop-of-length-le}
+use Rattle.names.specs.Letters.{lower, lowered, same, spelled}
+use Rattle.names.specs.Laws.{differ}
+use Rattle.names.proofs.tokens.Lists.{from}
+
+pub length-lowered : (n : List ℕ) → length (lowered n) ≡ length n
+unfolding lowered
+length-lowered [] = refl
+length-lowered (c ∷ cs) = ap suc (length-lowered cs)
+
+pub spelled-differ : (w n : List ℕ) → (length n ≡ length w → ⊥) → spelled w n ≡ false
+unfolding spelled
+spelled-differ w n h = differ (lowered n) w (rw length-lowered h)
+
+module _ (w n : List ℕ) (i : ℕ) (a : i < length n) (b : i < length w) where
+  pub spelled-on : lower (getD n i 0) ≡ getD w i 0 → spelled (drop i w) (drop i n) ≡ spelled (drop (i + 1) w) (drop (i + 1) n)
+  unfolding spelled same lowered
+  spelled-on e = rw (from w i b, from n i a, eq-eqb _ _ e)
+
+  pub spelled-no : (lower (getD n i 0) ≡ getD w i 0 → ⊥) → spelled (drop i w) (drop i n) ≡ false
+  unfolding spelled same lowered
+  spelled-no e = rw (from w i b, from n i a, ne-eqb _ _ e)
+
+pub spelled-end : (w n : List ℕ) (i : ℕ) → length n ≤ i → length w ≤ i → spelled (drop i w) (drop i n) ≡ true
+unfolding spelled same lowered
+spelled-end w n i a b = rw (drop-of-length-le w b, drop-of-length-le n a)

@@ -1,0 +1,2 @@
+-- What the proofs of literals.rt share.
+pub mod Quotes

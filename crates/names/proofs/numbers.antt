@@ -1,0 +1,2 @@
+-- What the proofs of numbers.rt share.
+pub mod Figures

@@ -1,0 +1,3 @@
+-- What the proofs of tokens.rt share.
+pub mod Peeks
+pub mod Lists

@@ -1,0 +1,3 @@
+-- What the proofs of several modules share; what those of one share stands in its folder.
+pub mod Rooms
+pub mod Holdings

@@ -1,0 +1,3 @@
+-- What the proofs of expressed.rt share.
+pub mod Fitting
+pub mod Trees

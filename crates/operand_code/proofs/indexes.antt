@@ -1,0 +1,2 @@
+-- What the proofs of indexes.rt share.
+pub mod Returns

@@ -1,0 +1,3 @@
+-- What the proofs of lists.rt share.
+pub mod Ranges
+pub mod Turns

@@ -1,0 +1,3 @@
+-- What the proofs of lookahead.rt share.
+pub mod Names
+pub mod Starts

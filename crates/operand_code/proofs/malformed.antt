@@ -1,0 +1,2 @@
+-- What the proofs of malformed.rt share.
+pub mod Failures

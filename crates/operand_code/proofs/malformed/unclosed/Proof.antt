@@ -1,0 +1,25 @@
+-- `operand_code::malformed::unclosed` meets its contract.
+-- Assumes nothing.
+-- Written by tools/proof.py from the answers of the same path: change those, not this file.
+use Rattle.expressions.specs.Paths.{raised-as}
+use borrow.Author.Needs.{needs}
+use Rattle.operand_code.proofs.malformed.unclosed.Statement.{statement}
+use Rattle.operand_code.proofs.malformed.unclosed.Tie as tie
+
+span-of-requires : tie.Need-span-of-requires
+span-of-requires c κs = search needs
+
+raise-requires : tie.Need-raise-requires
+raise-requires c κs = search needs
+
+same-length : tie.Need-same-length
+same-length c = search needs
+
+returns : tie.Need-returns
+returns c =
+    let c-span-of = c .before .before .before .before .span-of in
+    let c-raise = c .before .before .raise in
+    raised-as (rw (c-span-of .ensures)) (c-raise .ensures)
+
+pub unclosed-spec : {M : Type 1} → statement M
+unclosed-spec = tie.close (tie.spec span-of-requires raise-requires same-length returns)

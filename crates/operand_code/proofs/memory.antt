@@ -1,0 +1,2 @@
+-- What the proofs of memory.rt share.
+pub mod Inners

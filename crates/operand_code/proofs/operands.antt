@@ -1,0 +1,2 @@
+-- What the proofs of operands.rt share.
+pub mod Returns

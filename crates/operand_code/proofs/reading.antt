@@ -1,0 +1,3 @@
+-- What the proofs of reading.rt share.
+pub mod Cleared
+pub mod Marked

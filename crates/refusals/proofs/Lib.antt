@@ -1,0 +1,1 @@
+-- What the proofs of a module share stands in the folder of that module.

@@ -1,0 +1,2 @@
+-- What the proofs of refusals.rt share.
+pub mod Checks

@@ -1,0 +1,3 @@
+-- The refusals of a call, but for those of its tokens.
+-- the laws
+pub mod Refusals

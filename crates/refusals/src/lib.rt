@@ -1,0 +1,5 @@
+// The refusals of a call, but for those of its tokens.
+mod refusals;
+
+pub use refusals::refuse_line_and_list;
+pub use refusals::refuse_start_and_stores;

@@ -1,0 +1,97 @@
+// The refusals of a call, but for those of its tokens: what is lent is looked at in the order of their numbers, and nothing is written.
+use operand::refusal_numbers::BAD_LIST;
+use operand::refusal_numbers::BAD_START;
+use operand::refusal_numbers::FOREIGN_BYTE;
+use operand::refusal_numbers::LONG_LINE;
+use operand::refusal_numbers::SHORT_DIAGNOSTICS;
+use operand::refusal_numbers::SHORT_NODES;
+ghost use mathlib.Core.Path.{_≡_};
+ghost use Prim.Native.Nat.{_+_, _/_};
+ghost use lib.Dec.{ltb};
+ghost use Rattle.names.specs.Choice.{either};
+ghost use Rattle.operand.specs.RefusalNumbers;
+ghost use Rattle.operand.specs.Entry.{freeRecords, foreign, lineAndList, startAndStores, firstOf};
+
+// The bytes of the longest line, and the tokens of the longest list.
+const LINE: usize = 255;
+
+const TOKENS: usize = 255;
+// The bytes of a node store.
+const NODES: usize = 3570;
+// The diagnostic records that must be free.
+const FREE: usize = 511;
+
+// Whether a byte is not printable.
+fn is_foreign(byte: u8) -> bool
+    ensures { λ r. ⌜ r ≡ either (ltb byte 32) (ltb 126 byte) ⌝ }
+{
+    if byte < 32 {
+        return true;
+    }
+    126 < byte
+}
+
+// Whether a byte of the line is not printable. All are looked at, and nothing branches, so that several are looked at in one step.
+fn foreign(line: &[u8]) -> bool
+    ensures { λ r. ⌜ r ≡ foreign (now (line .entry)) ⌝ }
+{
+    let mut i = 0;
+    let mut found = false;
+    while i < line.len() {
+        found = found | is_foreign(line[i]);
+        i += 1;
+    }
+    found
+}
+
+// The number 1 to 3 of the refusal of the line or the list, 0 for none.
+pub fn refuse_line_and_list(line: &[u8], tokens: &[u8]) -> u8
+    ensures { λ r. ⌜ r ≡ firstOf RefusalNumbers.longLine (lineAndList (now (line .entry)) (now (tokens .entry))) ⌝ }
+{
+    if LINE < line.len() {
+        return LONG_LINE;
+    }
+    if foreign(line) {
+        return FOREIGN_BYTE;
+    }
+    if tokens.len() % 4 != 0 {
+        return BAD_LIST;
+    }
+    if TOKENS < tokens.len() / 4 {
+        return BAD_LIST;
+    }
+    0
+}
+
+// Whether too few records are free in a diagnostic list of so many bytes. `used + FREE` may not fit, so nothing is added.
+fn crowded(bytes: usize, used: usize) -> bool
+    ensures { λ r. ⌜ r ≡ ltb (bytes / 10) (used + freeRecords) ⌝ }
+{
+    let records = bytes / 10;
+    if records < FREE {
+        return true;
+    }
+    records - FREE < used
+}
+
+// The number 5 to 7 of the refusal of the start or a store, 0 for none: by the tokens' number and the stores' bytes.
+pub fn refuse_start_and_stores(
+    tokens: usize,
+    start: usize,
+    nodes: usize,
+    diagnostics: usize,
+    used: usize,
+) -> u8
+    ensures { λ r. ⌜ r ≡ firstOf RefusalNumbers.badStart (startAndStores tokens start nodes diagnostics used) ⌝ }
+{
+    if tokens < start {
+        return BAD_START;
+    }
+    if nodes < NODES {
+        return SHORT_NODES;
+    }
+    if crowded(diagnostics, used) {
+        return SHORT_DIAGNOSTICS;
+    }
+    0
+}

@@ -1,0 +1,2 @@
+-- What the proofs of call.rt share.
+pub mod Puts

@@ -1,0 +1,343 @@
+-- The buyer's conditions, of what the exported call returns and writes. They follow from the entry's (layout `Answers`, spelling `Answers`), as the number
+-- and the bytes are its answer. Words in quotes are document 01's.
+-- Assumes nothing.
+use mathlib.Core.Path.{_≡_, refl, sym, _∙_, ap}
+use mathlib.Core.Bool.{Bool, true, false}
+use mathlib.Core.List.{List, _∷_, _++_}
+use Prim.Native.Nat.{ℕ, zero, suc, _+_, _-_, _*_, _≤_, _<_}
+use native.Mathlib.Omega.{arith}
+use borrow.Author.Tests.{le-ltb, ltb-true, ltb-false}
+use lib.Dec.{eqb, ltb}
+use lib.ListN.{length, take, drop, getD, replicate, length-append}
+use lib.Seq.{take-at, drop-at}
+use Rattle.names.specs.Choice.{pick}
+use Rattle.names.specs.Kinds
+use Rattle.names.specs.Tokens.{count}
+use Rattle.names.specs.Places.{Place, stands}
+use Rattle.names.specs.declared.tokens.Token.{Token}
+use Rattle.records.specs.Nodes.{lowFirst}
+use Rattle.records.specs.Written.{written-fits}
+use Rattle.expressions.specs.Reader.{Reading}
+use Rattle.operand.specs.Operands.{Operand, Maybe, some, none}
+use Rattle.operand.specs.Records.{sizeM}
+use Rattle.operand.specs.Forms.{recordOf, maskO}
+use Rattle.operand.specs.Layout.{operandRecord}
+use Rattle.operand.specs.Lengths.{length-bytes}
+use Rattle.operand.specs.Entry.{Input, placeOf, nodeStore, refusal, readingAt, nodesAfter, outcome, outcomeOf, answerNumber, outcome-number}
+use Rattle.operand.specs.Marks.{remarked, MarksAgree, MarksPast, marks-agree, outcome-same}
+use Rattle.operand.specs.Conditions.{Valid, records-enough, AlikeThrough, alike-before, recordAt, SameButPlus}
+use Rattle.layout.specs.Promise.{nesting, nesting-some, given, resultOf, resultAt, given-result, EntryPromise}
+use Rattle.layout.specs.Answers as Answers
+use Rattle.layout.specs.declared.answer.Answer.{Answer}
+use Rattle.layout.specs.declared.answer.Missed.{Missed}
+use Rattle.spelling.specs.Signs.{unreserved, ordinary}
+use Rattle.spelling.specs.Spelling.{Closed, Spelled}
+use Rattle.spelling.specs.Silence.{Unerring}
+use Rattle.spelling.specs.Answers as Spellings
+use Rattle.terminal.specs.Exported.{Exported, told, answerLaid, outAfter, answered, answerBytes, shortAnswer, exported}
+use Rattle.terminal.specs.Stays.{number-roomy, number-short, stays}
+
+-- ---- what a caller finds in the answer store
+
+-- 0 for an operand, 1 for none
+abbrev pub kindIn : List ℕ → ℕ
+kindIn O = getD O 0 0
+
+abbrev pub cursorIn : List ℕ → ℕ
+cursorIn O = getD O 1 0
+
+abbrev pub nodesIn : List ℕ → ℕ
+nodesIn O = getD O 2 0
+
+abbrev pub addedIn : List ℕ → ℕ
+addedIn O = getD O 3 0 + 256 * getD O 4 0
+
+-- ---- the bytes of an answer
+
+laid-long : (r : Reading (Maybe Operand)) (v : Maybe Operand) → length (answerLaid (given (resultOf r v))) ≡ answerBytes
+unfolding answerLaid given resultOf lowFirst
+laid-long r (some x) = simp length-append (omega (arith, length-bytes (recordOf x)))
+laid-long r none = refl
+
+-- the entry's answer, as it stands in a store
+record Stands (r : Answer) (O : List ℕ) : Type 0 where
+  kind : kindIn O ≡ Answers.gapOf r
+  cursor : cursorIn O ≡ Answers.cursorOf r
+  nodes : nodesIn O ≡ Answers.nodesUsed r
+  added : addedIn O ≡ Answers.diagnosticsAdded r
+
+stood : (r : Reading (Maybe Operand)) (v : Maybe Operand) (R : List ℕ) → length (r .raised) < 65536
+    → Stands (resultOf r v) (answerLaid (given (resultOf r v)) ++ R)
+unfolding answerLaid given resultOf lowFirst
+stood r (some x) R h = record { kind = refl; cursor = refl; nodes = refl; added = omega arith }
+stood r none R h = record { kind = refl; cursor = refl; nodes = refl; added = omega arith }
+
+-- ---- it is the entry's call
+
+given-at : (a : Input) (k : ℕ) → given (resultAt nesting a k) ≡ outcomeOf nesting a k .answer
+unfolding given resultAt outcomeOf
+given-at a zero = given-result (readingAt nesting a) (readingAt nesting a .value)
+given-at a (suc k) = refl
+
+exported-is : (a : Input) (O : List ℕ) → answerBytes ≤ length O → exported a O ≡ answered (outcome nesting a) O
+unfolding exported
+exported-is a O room = rw (le-ltb (length O) answerBytes room)
+
+-- with room for the answer, the number and the stores are those of a call that keeps the entry's promise: what holds of every such call holds of this one
+pub entry-kept : (a : Input) (O : List ℕ) → answerBytes ≤ length O
+    → EntryPromise a (exported a O .nodes) (exported a O .diagnostics) (resultAt nesting a (refusal a))
+unfolding answered outcome
+entry-kept a O room =
+    let e = exported-is a O room in
+    record { answer = given-at a (refusal a); number = ap answerNumber (given-at a (refusal a)) ∙ outcome-number nesting a; nodes = ap (λ x. x .nodes) e; diagnostics = ap (λ x. x .diagnostics) e; value = refl }
+
+-- ---- of a valid input, with room for the answer
+
+module _ (a : Input) (O : List ℕ) (v : Valid a) (room : answerBytes ≤ length O) where
+  abbrev s : Reading (Maybe Operand)
+  s = readingAt nesting a
+
+  -- the entry's answer
+  abbrev r : Answer
+  r = resultOf s (s .value)
+
+  abbrev N′ : List ℕ
+  N′ = exported a O .nodes
+
+  abbrev D′ : List ℕ
+  D′ = exported a O .diagnostics
+
+  abbrev O′ : List ℕ
+  O′ = exported a O .out
+
+  promise : EntryPromise a N′ D′ r
+  unfolding resultAt
+  promise =
+      let p = entry-kept a O room in
+      record {
+        answer = ap (λ k. given (resultAt nesting a k)) (sym v) ∙ p .answer;
+        number = ap (λ k. answerNumber (given (resultAt nesting a k))) (sym v) ∙ p .number;
+        nodes = p .nodes;
+        diagnostics = p .diagnostics;
+        value = ap (resultAt nesting a) (sym v);
+      }
+
+  out-is : O′ ≡ answerLaid (given r) ++ drop answerBytes O
+  unfolding answered outAfter
+  out-is =
+      let long = laid-long s (s .value) in
+      ap (λ x. x .out) (exported-is a O room)
+      ∙ ap (λ x. outAfter x O) (sym (promise .answer))
+      ∙ written-fits O 0 (answerLaid (given r)) (omega arith)
+      ∙ ap (λ n. answerLaid (given r) ++ drop (0 + n) O) long
+
+  there : Stands r O′
+  there = rw out-is (stood s (s .value) (drop answerBytes O) (omega (arith, records-enough nesting nesting-some a v)))
+
+  -- the answer's bytes
+  first : take answerBytes O′ ≡ answerLaid (given r)
+  first = ap (take answerBytes) out-is ∙ take-at (answerLaid (given r)) _ answerBytes (laid-long s (s .value))
+
+  -- ---- condition 1
+
+  -- the cursor neither goes back nor passes the end
+  pub cursor-bounds : (a .start ≤ cursorIn O′) × (cursorIn O′ ≤ count (a .tokens))
+  cursor-bounds = rw (there .cursor) (Answers.cursor-bounds a N′ D′ r promise v)
+
+  -- no operand is never silent, unless the start is the end or an Error token stood from there on
+  pub never-silent : (k : Token) (x : List ℕ) → placeOf a (a .start) ≡ stands k x
+      → ((j : ℕ) (t : Token) (y : List ℕ) → a .start ≤ j → placeOf a j ≡ stands t y → eqb (t .kind) Kinds.error ≡ false)
+      → kindIn O′ ≡ 1 → 0 < addedIn O′
+  never-silent k x here quiet e = rw (there .added) (go r (sym (there .kind) ∙ e) λ m. Answers.never-silent a N′ D′ r promise v k x here quiet m)
+    where
+      go : (q : Answer) → Answers.gapOf q ≡ 1 → ((m : Missed) → q ≡ Answer.NoOperand m → 0 < m .diagnostics) → 0 < Answers.diagnosticsAdded q
+      go (Answer.Operand y) f h = absurd (omega arith)
+      go (Answer.NoOperand m) f h = h m refl
+      go (Answer.Refused n) f h = absurd (omega arith)
+
+  -- "A reading adds at most twice its consumed tokens plus one."
+  pub diagnostics-bound : addedIn O′ + 2 * a .start ≤ 2 * cursorIn O′ + 1
+  diagnostics-bound = rw (there .added, there .cursor) (Answers.diagnostics-bound a N′ D′ r promise v)
+
+  -- so 511 records are enough
+  pub diagnostics-enough : addedIn O′ ≤ 511
+  diagnostics-enough = rw (there .added) (Answers.records-enough a N′ D′ r promise v)
+
+  -- the nodes are at most the consumed tokens
+  pub nodes-bound : nodesIn O′ + a .start ≤ cursorIn O′
+  nodes-bound = rw (there .nodes, there .cursor) (Answers.nodes-bound a N′ D′ r promise v)
+
+  -- so 255 of fourteen bytes are enough
+  pub nodes-enough : 14 * nodesIn O′ ≤ 3570
+  nodes-enough = rw (there .nodes) (Answers.nodes-enough a N′ D′ r promise v)
+
+  -- ---- what stays with an answer
+
+  -- the answer store's other bytes
+  pub answer-past : drop answerBytes O′ ≡ drop answerBytes O
+  answer-past = ap (drop answerBytes) out-is ∙ drop-at (answerLaid (given r)) _ answerBytes (laid-long s (s .value))
+
+  -- earlier diagnostics
+  pub earlier-stand : take (10 * a .used) D′ ≡ take (10 * a .used) (a .diagnostics)
+  earlier-stand = Answers.earlier-stand a N′ D′ r promise v
+
+  -- "Bytes past the added records stay."
+  pub later-stand : drop (10 * (a .used + addedIn O′)) D′ ≡ drop (10 * (a .used + addedIn O′)) (a .diagnostics)
+  later-stand = rw (there .added) (Answers.later-stand a N′ D′ r promise v)
+
+  -- "Unused node records of the 255 are zero; bytes past 3,570 stay."
+  pub unused-zero : drop (14 * nodesIn O′) N′ ≡ replicate (nodeStore - 14 * nodesIn O′) 0 ++ drop nodeStore (a .nodes)
+  unused-zero = rw (there .nodes) (Answers.unused-zero a N′ D′ r promise v)
+
+  -- "Start equal to the count gives no operand and no diagnostic."
+  pub at-the-end : a .start ≡ count (a .tokens) → take answerBytes O′ ≡ 1 ∷ a .start ∷ 0 ∷ 0 ∷ 0 ∷ replicate 22 0
+  unfolding answerLaid given lowFirst
+  at-the-end e = first ∙ ap (λ q. answerLaid (given q)) (Answers.at-the-end a N′ D′ r promise v e .answer)
+
+  -- ---- condition 2
+
+  -- the operand y up to the place j, its nodes, and no diagnostic: the number, the answer's 27 bytes and both stores
+  pub record Returns (y : Operand) (j : ℕ) : Type 0 where
+    pub number : exported a O .number ≡ 0
+    pub answer : take answerBytes O′ ≡ 0 ∷ j ∷ sizeM (some y) ∷ 0 ∷ 0 ∷ (operandRecord y ++ lowFirst 2 (maskO y))
+    pub nodes : N′ ≡ nodesAfter (some y) (a .nodes)
+    pub diagnostics : D′ ≡ a .diagnostics
+
+  returned : {y : Operand} {j : ℕ} → Spellings.Returns a N′ D′ r y j → Returns y j
+  unfolding answerLaid given lowFirst
+  returned h = record {
+    number = number-roomy a O room ∙ v;
+    answer = first ∙ ap (λ q. answerLaid (given q)) (h .answer);
+    nodes = h .nodes;
+    diagnostics = h .diagnostics;
+  }
+
+  -- each addressing mode of Motorola's manual, spelled and closed as document 01 says, is read as that mode without diagnostic
+  pub spelled-is-answered : {j : ℕ} {y : Operand} → Spelled nesting (a .mark) (placeOf a) (ordinary (a .mark)) (a .start) j y → Closed (placeOf a) j → Returns y j
+  spelled-is-answered h c = returned (Spellings.spelled-is-answered a N′ D′ r promise v h c)
+
+  -- and an operand read without diagnostic has such a spelling up to the cursor
+  pub record Spelt : Type 0 where
+    pub operand : Operand
+    pub returns : Returns operand (cursorIn O′)
+    pub spelled : Spelled nesting (a .mark) (placeOf a) unreserved (a .start) (cursorIn O′) operand
+
+  spelt : {j : ℕ} → cursorIn O′ ≡ j → Spellings.Spelt a N′ D′ r promise v j → Spelt
+  spelt c h =
+      let g : Spellings.Spelt a N′ D′ r promise v (cursorIn O′) = rw c h in
+      record { operand = g .operand; returns = returned (g .returns); spelled = g .spelled }
+
+  pub answered-is-spelled : kindIn O′ ≡ 0 → addedIn O′ ≡ 0 → Unerring (placeOf a) (a .start) (cursorIn O′) → Spelt
+  answered-is-spelled k d u = go r refl (Answers.total a N′ D′ r promise)
+    where
+      go : (q : Answer) → r ≡ q → Answers.Total a N′ D′ q → Spelt
+      go (Answer.Operand x) e t =
+          let c : cursorIn O′ ≡ x .cursor = there .cursor ∙ ap Answers.cursorOf e in
+          spelt c (Spellings.answered-is-spelled a N′ D′ r promise v x e (sym (there .added ∙ ap Answers.diagnosticsAdded e) ∙ d) (rw c at u))
+      go (Answer.NoOperand x) e t = absurd (omega (arith, there .kind ∙ ap Answers.gapOf e))
+      go (Answer.Refused n) e (Answers.Total.refused _ f one most x y) = absurd (omega arith)
+
+-- ---- every call
+
+-- an operand or none where no refusal applies; else the number of the first that does, before them the library's own. "It returns its number; all lent bytes
+-- stay."
+pub data Total (a : Input) (O : List ℕ) (x : Exported) : Type 0 where
+  operand : Valid a → answerBytes ≤ length O → x .number ≡ 0 → kindIn (x .out) ≡ 0 → Total a O x
+  noOperand : Valid a → answerBytes ≤ length O → x .number ≡ 0 → kindIn (x .out) ≡ 1 → Total a O x
+  refused : answerBytes ≤ length O → x .number ≡ refusal a → 1 ≤ x .number → x .number ≤ 7 → x ≡ told (x .number) (a .nodes) (a .diagnostics) O → Total a O x
+  short : length O < answerBytes → x .number ≡ shortAnswer → x ≡ told (x .number) (a .nodes) (a .diagnostics) O → Total a O x
+
+pub total : (a : Input) (O : List ℕ) → Total a O (exported a O)
+unfolding resultAt
+total a O = go (ltb (length O) answerBytes) refl
+  where
+    roomy : (room : answerBytes ≤ length O) (q : Answer) → resultAt nesting a (refusal a) ≡ q → Answers.Total a (exported a O .nodes) (exported a O .diagnostics) q → Total a O (exported a O)
+    roomy room (Answer.Operand x) e (Answers.Total.operand _ v) =
+        operand v room (number-roomy a O room ∙ v) (there a O v room .kind ∙ ap (λ k. Answers.gapOf (resultAt nesting a k)) (sym v) ∙ ap Answers.gapOf e)
+    roomy room (Answer.NoOperand x) e (Answers.Total.noOperand _ v) =
+        noOperand v room (number-roomy a O room ∙ v) (there a O v room .kind ∙ ap (λ k. Answers.gapOf (resultAt nesting a k)) (sym v) ∙ ap Answers.gapOf e)
+    roomy room (Answer.Refused n) e (Answers.Total.refused _ f one most x y) =
+        let m = number-roomy a O room in
+        refused room m (omega arith) (omega arith) (stays a O (omega arith))
+
+    go : (b : Bool) → ltb (length O) answerBytes ≡ b → Total a O (exported a O)
+    go true e = let less = ltb-true (length O) answerBytes e in let n = number-short a O less in short less n (stays a O (omega arith))
+    go false e =
+        let room = ltb-false (length O) answerBytes e in
+        roomy room (resultAt nesting a (refusal a)) refl (Answers.total a _ _ _ (entry-kept a O room))
+
+-- a caller that is returned 0 lent a valid input and room for the answer, so that all above holds of its call
+pub read-valid : (a : Input) (O : List ℕ) → exported a O .number ≡ 0 → Valid a × (answerBytes ≤ length O)
+read-valid a O = go (total a O)
+  where
+    go : {x : Exported} → Total a O x → x .number ≡ 0 → Valid a × (answerBytes ≤ length O)
+    go (Total.operand v room n k) e = (v, room)
+    go (Total.noOperand v room n k) e = (v, room)
+    go (Total.refused room n one most h) e = absurd (omega arith)
+    go (Total.short less n h) e = absurd (omega arith)
+
+-- and one that is returned the library's own number lent no room
+pub short-only : (a : Input) (O : List ℕ) → exported a O .number ≡ shortAnswer → length O < answerBytes
+short-only a O = go (total a O)
+  where
+    go : {x : Exported} → Total a O x → x .number ≡ shortAnswer → length O < answerBytes
+    go (Total.operand v room n k) e = absurd (omega arith)
+    go (Total.noOperand v room n k) e = absurd (omega arith)
+    go (Total.refused room n one most h) e = absurd (omega arith)
+    go (Total.short less n h) e = less
+
+-- ---- condition 3
+
+-- the same number, the same bytes of the answer, the same records of the used nodes and of the added diagnostics
+pub record SameBytes (a b : Input) (O P : List ℕ) : Type 0 where
+  pub number : exported a O .number ≡ exported b P .number
+  pub answer : take answerBytes (exported a O .out) ≡ take answerBytes (exported b P .out)
+  pub nodes : take (14 * nodesIn (exported a O .out)) (exported a O .nodes) ≡ take (14 * nodesIn (exported b P .out)) (exported b P .nodes)
+  pub diagnostics : take (10 * addedIn (exported a O .out)) (drop (10 * a .used) (exported a O .diagnostics))
+      ≡ take (10 * addedIn (exported b P .out)) (drop (10 * b .used) (exported b P .diagnostics))
+
+-- but for a kind 13 with its plus at this place, which is the same in all but its kind
+pub record SameBytesButPlus (w : Place) (a b : Input) (O P : List ℕ) : Type 0 where
+  pub number : exported a O .number ≡ exported b P .number
+  pub answer : take answerBytes (exported a O .out) ≡ take answerBytes (exported b P .out)
+  pub nodes : take (14 * nodesIn (exported a O .out)) (exported a O .nodes) ≡ take (14 * nodesIn (exported b P .out)) (exported b P .nodes)
+  pub diagnostics : (i : ℕ)
+      → SameButPlus w (recordAt (take (10 * addedIn (exported a O .out)) (drop (10 * a .used) (exported a O .diagnostics))) i)
+      (recordAt (take (10 * addedIn (exported b P .out)) (drop (10 * b .used) (exported b P .diagnostics))) i)
+
+module _ (a b : Input) (O P : List ℕ) (va : Valid a) (vb : Valid b) (ra : answerBytes ≤ length O) (rb : answerBytes ≤ length P) where
+  -- two valid inputs alike from the start through the cursor (one place further where there is no operand: the kind is 1) have the same answer, without
+  -- exception
+  pub local : AlikeThrough a b (cursorIn (exported a O .out) + kindIn (exported a O .out)) → SameBytes a b O P
+  local alike =
+      let p = there a O va ra in
+      let q = there b P vb rb in
+      let h = Answers.local a b _ _ _ _ _ _ (promise a O va ra) (promise b P vb rb) va vb (rw (p .cursor, p .kind) at alike) in
+      record {
+        number = number-roomy a O ra ∙ va ∙ sym vb ∙ sym (number-roomy b P rb);
+        answer = first a O va ra ∙ ap (λ x. answerLaid (given x)) (h .answer) ∙ sym (first b P vb rb);
+        nodes = rw (p .nodes, q .nodes) (h .nodes);
+        diagnostics = rw (p .added, q .added) (h .diagnostics);
+      }
+
+  -- as condition 3 is asked for (operand `Conditions.two-readings`): alike through the cursor, the same but for such a plus at the cursor; alike one token
+  -- further, the same without exception
+  pub two-calls : (AlikeThrough a b (cursorIn (exported a O .out) + kindIn (exported a O .out)) → SameBytesButPlus (placeOf a (cursorIn (exported a O .out))) a b O P)
+      × (AlikeThrough a b (cursorIn (exported a O .out) + 1) → SameBytes a b O P)
+  two-calls = (
+    (λ alike.
+        let h = local alike in
+        record { number = h .number; answer = h .answer; nodes = h .nodes; diagnostics = λ i. SameButPlus.same (ap (λ D. recordAt D i) (h .diagnostics)) }),
+    λ alike. local (alike-before (omega (arith, there a O va ra .kind, Answers.gap-small (r a O va ra))) alike),
+  )
+
+-- ---- the mark
+
+-- marks that agree wherever a token stands give the same number, and the same bytes in all three stores
+pub marks-same : (a : Input) (n : ℕ) (O : List ℕ) → MarksAgree a n → exported a O ≡ exported (remarked a n) O
+unfolding exported
+marks-same a n O agree = ap (λ x. pick (ltb (length O) answerBytes) (told shortAnswer (a .nodes) (a .diagnostics) O) (answered x O)) (outcome-same nesting a n agree)
+
+-- "one at or past the token count means none": so do any two such marks
+pub marks-past : (a : Input) (n : ℕ) (O : List ℕ) → MarksPast a n → exported a O ≡ exported (remarked a n) O
+marks-past a n O past = marks-same a n O (marks-agree a n past)
