@@ -51,7 +51,7 @@ enum sagdrif_answer {
  *   line, line_length                  the line, read only
  *   tokens, tokens_length              the tokens, SAGDRIF_TOKEN bytes each, read only
  *   start                              the token that the operand begins at
- *   mark                               the token that is read as a symbol; one at or past the token count means none
+ *   mark                               the token that is not read as a suppressed register (zd0, za0, zpc); one at or past the token count means none
  *   nodes, nodes_length                the node store. With an answer its first 3,570 bytes are the used records and zeros; the others stay
  *   diagnostics, diagnostics_length    the diagnostic list. With an answer the added records stand behind the used ones; all other bytes stay
  *   used                               how many records of the list are used

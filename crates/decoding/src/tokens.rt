@@ -6,6 +6,7 @@ ghost use mathlib.Core.List.{[], _∷_};
 ghost use Prim.Native.Nat.{_+_, _-_, _*_, _≤_, _<_};
 ghost use lib.ListN.{length};
 ghost use Rattle.names.specs.Choice.{both};
+ghost use Rattle.names.specs.Kinds;
 ghost use Rattle.names.specs.Letters.{same};
 ghost use Rattle.names.specs.Tokens.{count, tokenFrom};
 ghost use Rattle.records.specs.Stores.{written};
@@ -37,8 +38,8 @@ fn twice(text: &[u8], byte: u8) -> bool
 
 // Whether a sign is spelled as its kind says; a kind beyond the signs may be spelled in any way.
 fn spelled(kind: u16, text: &[u8]) -> bool
-    requires { ⌜ 5 ≤ kind ⌝ }
-    ensures { λ r. ⌜ r ≡ spelledAs signs (kind - 5) (now (text .entry)) ⌝ }
+    requires { ⌜ Kinds.hash ≤ kind ⌝ }
+    ensures { λ r. ⌜ r ≡ spelledAs signs (kind - Kinds.hash) (now (text .entry)) ⌝ }
 {
     if kinds::SHIFT_RIGHT < kind {
         return true;
@@ -75,7 +76,7 @@ fn prefixed(base: u16, text: &[u8]) -> bool
 fn well_spelled(kind: u16, detail: u16, text: &[u8]) -> bool
     ensures { λ r. ⌜ r ≡ wellSpelled kind detail (now (text .entry)) ⌝ }
 {
-    if 4 < kind {
+    if kinds::SIZE_SUFFIX < kind {
         return spelled(kind, text);
     }
     if text.len() == 0 {

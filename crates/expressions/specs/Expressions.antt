@@ -1,4 +1,5 @@
--- How an expression is read: the functions of parser.rs, under their names.
+-- How an expression is read: the functions of parser.rs, under their names. A letter means one thing: k, x: a token that is stepped over or looked at, and its text;
+-- u: nothing, which a test that fails hands on; i, l: the cursor, and the end of the last token; e: an expression; v: a number's value.
 -- Assumes nothing.
 pub mod Suffixes
 pub mod Levels
@@ -14,7 +15,7 @@ pub use Leaves.{Term, read, reported, absent}
 unfoldable pub use Leaves.{valued, named, numberTerm, leafTerm}
 unfoldable pub use Terms.{operated, parseExpressionFrom, climbed, parseExpressionOf, negated, plussed, grouped, parsePrefixTerm, tooDeep, parsePrefix}
 
--- fuel for every climb: as many turns as the longest list has tokens. Shut, so that nothing computes it
+-- fuel for every climb: more turns than the longest list has tokens. Shut, so that nothing computes it
 unfoldable pub fuel : ℕ
 fuel = 1023
 

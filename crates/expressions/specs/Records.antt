@@ -11,8 +11,8 @@ use Rattle.expressions.specs.Trees.{Expr, number, characterLiteral, symb
 -- the records of a tree, the first of which has the number b
 unfoldable pub nodes : ℕ → Expr → List ℕ
 nodes b (number base v s) = nodeRecord 1 base absent absent s (words 4 v)
-nodes b (characterLiteral q o s) = nodeRecord 2 q absent absent s (own o)
-nodes b (symbol o s) = nodeRecord 3 0 absent absent s (own o)
+nodes b (characterLiteral q w s) = nodeRecord 2 q absent absent s (own w)
+nodes b (symbol w s) = nodeRecord 3 0 absent absent s (own w)
 nodes b (currentAddress s) = nodeRecord 4 0 absent absent s zeros
 nodes b (unary o e s) = nodes b e ++ nodeRecord 5 o (b + size e - 1) absent s zeros
 nodes b (binary o l r s) = nodes b l ++ (nodes (b + size l) r ++ nodeRecord 6 o (b + size l - 1) (b + size l + size r - 1) s zeros)
@@ -20,8 +20,8 @@ nodes b (binary o l r s) = nodes b l ++ (nodes (b + size l) r ++ nodeRecord 6 o 
 pub length-nodes : (b : ℕ) (e : Expr) → length (nodes b e) ≡ 10 * size e
 unfolding nodes size words
 length-nodes b (number base v s) = refl
-length-nodes b (characterLiteral q o s) = refl
-length-nodes b (symbol o s) = refl
+length-nodes b (characterLiteral q w s) = refl
+length-nodes b (symbol w s) = refl
 length-nodes b (currentAddress s) = refl
 length-nodes b (unary o e s) = simp length-append (omega (arith, length-nodes b e))
 length-nodes b (binary o l r s) = simp length-append (omega (arith, length-nodes b l, length-nodes (b + size l) r))

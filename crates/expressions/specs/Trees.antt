@@ -15,8 +15,8 @@ pub data Expr : Type 0 where
 
 unfoldable pub spanE : Expr → Span
 spanE (number b v s) = s
-spanE (characterLiteral q o s) = s
-spanE (symbol o s) = s
+spanE (characterLiteral q w s) = s
+spanE (symbol w s) = s
 spanE (currentAddress s) = s
 spanE (unary o e s) = s
 spanE (binary o l r s) = s
@@ -24,8 +24,8 @@ spanE (binary o l r s) = s
 -- `with_span`: the same tree, with another span at its root
 unfoldable pub withSpan : Expr → Span → Expr
 withSpan (number b v s) t = number b v t
-withSpan (characterLiteral q o s) t = characterLiteral q o t
-withSpan (symbol o s) t = symbol o t
+withSpan (characterLiteral q w s) t = characterLiteral q w t
+withSpan (symbol w s) t = symbol w t
 withSpan (currentAddress s) t = currentAddress t
 withSpan (unary o e s) t = unary o e t
 withSpan (binary o l r s) t = binary o l r t
@@ -33,8 +33,8 @@ withSpan (binary o l r s) t = binary o l r t
 -- the number of a tree's nodes
 unfoldable pub size : Expr → ℕ
 size (number b v s) = 1
-size (characterLiteral q o s) = 1
-size (symbol o s) = 1
+size (characterLiteral q w s) = 1
+size (symbol w s) = 1
 size (currentAddress s) = 1
 size (unary o e s) = size e + 1
 size (binary o l r s) = size l + size r + 1

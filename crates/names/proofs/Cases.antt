@@ -10,6 +10,7 @@ use borrow.Author.Tests.{eqb-true, ne-eqb, le-leb, lt-leb, leb-true, leb-false}
 use lib.Dec.{leb, ltb, eqb}
 use lib.ListN.{drop}
 use Rattle.names.specs.Choice.{pick, both}
+use Rattle.names.specs.Laws.{both-false}
 use Rattle.names.specs.Letters.{bytes, lower, lowered, same}
 use Rattle.names.specs.Registers.{pair, register, registerOf, numbered, specialNames, specialOf, suppressing, suppressed, suppressedOf}
 use Rattle.names.specs.Sizes.{letterSize, sizeOf}
@@ -21,10 +22,6 @@ use Rattle.names.specs.declared.registers.Suppressed.{Suppressed}
 use Rattle.names.specs.declared.sizes.SizeSuffix.{SizeSuffix}
 use Rattle.names.specs.declared.numbers.NumberBase.{NumberBase}
 use Rattle.names.specs.declared.numbers.Number.{Number}
-
-both-no : (b : Bool) → both b false ≡ false
-both-no true = refl
-both-no false = refl
 
 -- ---- special registers
 
@@ -57,7 +54,7 @@ size-place (c ∷ []) = go (eqb (lower c) 98) (eqb (lower c) 119) (eqb (lower c)
     go false false true s = refl
     go false false false true = refl
     go false false false false = refl
-size-place (c ∷ d ∷ ds) = simp both-no
+size-place (c ∷ d ∷ ds) = simp both-false
 
 pub told-size : {run : List ℕ} {r : SizeSuffix} → r ≡ sizeOf run → SizeTold run r
 told-size {run = run} e = record { size = e; number = ap sizeNumber e ∙ size-place run }
@@ -151,9 +148,9 @@ pair-place c d = data-bank (eqb c 100) refl
 register-place : (l : List ℕ) → registerNumber (register l) ≡ lettered l
 unfolding register placeIn same
 register-place [] = refl
-register-place (c ∷ []) = simp both-no
+register-place (c ∷ []) = simp both-false
 register-place (c ∷ d ∷ []) = pair-place c d
-register-place (c ∷ d ∷ e ∷ es) = simp both-no
+register-place (c ∷ d ∷ e ∷ es) = simp both-false
 
 pub told-register : {name : List ℕ} {r : Reg} → r ≡ registerOf name → RegisterTold name r
 unfolding registerOf namedRegister
@@ -187,7 +184,7 @@ pair-based c d = address (eqb c 97) refl
         go : (b : Bool) → leb 8 (d - 48) ≡ false → asBase (pick (both b true) (Reg.Is (d - 48)) Reg.Not) ≡ 255
         go true h = rw h
         go false h = refl
-    no-base false q = rw (both-no (leb 48 d))
+    no-base false q = rw (both-false (leb 48 d))
 
     stack : (b : Bool) → eqb c 115 ≡ b → eqb c 100 ≡ false → eqb c 97 ≡ false → asBase (pair c d) ≡ based (c ∷ d ∷ [])
     stack true q x y = rw (eqb-true c 115 q) (stacked (eqb d 112))
@@ -209,9 +206,9 @@ pair-based c d = address (eqb c 97) refl
 register-based : (l : List ℕ) → asBase (register l) ≡ based l
 unfolding suppressing register placeIn same
 register-based [] = refl
-register-based (c ∷ []) = simp both-no
+register-based (c ∷ []) = simp both-false
 register-based (c ∷ d ∷ []) = pair-based c d
-register-based (c ∷ d ∷ e ∷ es) = simp both-no
+register-based (c ∷ d ∷ e ∷ es) = simp both-false
 
 as-index : (r : Reg) → indexNumber (suppressing r) ≡ registerNumber r
 unfolding suppressing

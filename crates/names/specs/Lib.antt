@@ -9,7 +9,7 @@ pub mod Registers
 pub mod Sizes
 pub mod Numbers
 pub mod Literals
--- what is told
+-- the definition: numbers of the cases, and what is told
 pub mod Cases
 -- the laws
 pub mod Laws

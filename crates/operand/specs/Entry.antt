@@ -99,9 +99,9 @@ prefixed base (c ∷ cs) =
 -- by its kind: a number has its prefix, one of kind 0 to 4 is not empty, a sign is spelled so
 unfoldable pub wellSpelled : ℕ → ℕ → List ℕ → Bool
 wellSpelled kind detail x =
-    pick (leb kind 4)
+    pick (leb kind Kinds.sizeSuffix)
     (both (not (eqb (length x) 0)) (either (not (eqb kind Kinds.number)) (prefixed detail x)))
-    (spelledAs signs (kind - 5) x)
+    (spelledAs signs (kind - Kinds.hash) x)
 
 -- a token behind one that ends at p
 unfoldable pub goodToken : List ℕ → ℕ → ℕ → ℕ → ℕ → ℕ → Bool

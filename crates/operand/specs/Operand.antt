@@ -1,6 +1,6 @@
 -- How an operand is read: the functions of parser.rs that `parse_operand` reaches, under their names. Above each production stands its rule, as in parser.rs.
 -- A letter means one thing in all of these files. s: the setting. k, x: a token that is stepped over or looked at, and its text; t, y: a second one's.
--- u: nothing, which a test that fails hands on. i, l: the cursor (in Tests a place), and the end of the last token. e: an expression. d: a displacement.
+-- u: nothing, which a test that fails hands on. i, l: the cursor (in Lookahead a place), and the end of the last token. e: an expression. d: a displacement.
 -- r, q: registers. v: a number's value. z: a span. f, p: a function, a reader. What else there is has a word: minus, paren, close, shape, problem, size, index, end.
 -- Assumes nothing.
 pub mod Tries

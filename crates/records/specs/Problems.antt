@@ -1,4 +1,4 @@
--- The problems of malformed operands, by their texts in the Rust, from 1 in the order in which `parser.rs` first has them;
+-- The problems of malformed operands, by their texts in the Rust, from 1 in the order in which the functions that `parse_operand` reaches first have them;
 -- and the signs that kind 9 has in a problem's place.
 -- Assumes nothing.
 use Prim.Native.Nat.{ℕ}

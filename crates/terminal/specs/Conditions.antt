@@ -21,7 +21,7 @@ use Rattle.expressions.specs.Reader.{Reading}
 use Rattle.operand.specs.Operands.{Operand, Maybe, some, none}
 use Rattle.operand.specs.Records.{sizeM}
 use Rattle.operand.specs.Forms.{recordOf, maskO}
-use Rattle.operand.specs.Layout.{operandRecord}
+use Rattle.operand.specs.Layout.{operandRecord, operandNumber, noOperandNumber}
 use Rattle.operand.specs.Lengths.{length-bytes}
 use Rattle.operand.specs.Entry.{Input, placeOf, nodeStore, refusal, readingAt, nodesAfter, outcome, outcomeOf, answerNumber, outcome-number}
 use Rattle.operand.specs.Marks.{remarked, MarksAgree, MarksPast, marks-agree, outcome-same}
@@ -147,7 +147,7 @@ module _ (a : Input) (O : List ℕ) (v : Valid a) (room : answerBytes ≤ length
   -- no operand is never silent, unless the start is the end or an Error token stood from there on
   pub never-silent : (k : Token) (x : List ℕ) → placeOf a (a .start) ≡ stands k x
       → ((j : ℕ) (t : Token) (y : List ℕ) → a .start ≤ j → placeOf a j ≡ stands t y → eqb (t .kind) Kinds.error ≡ false)
-      → kindIn O′ ≡ 1 → 0 < addedIn O′
+      → kindIn O′ ≡ noOperandNumber → 0 < addedIn O′
   never-silent k x here quiet e = rw (there .added) (go r (sym (there .kind) ∙ e) λ m. Answers.never-silent a N′ D′ r promise v k x here quiet m)
     where
       go : (q : Answer) → Answers.gapOf q ≡ 1 → ((m : Missed) → q ≡ Answer.NoOperand m → 0 < m .diagnostics) → 0 < Answers.diagnosticsAdded q
@@ -190,7 +190,7 @@ module _ (a : Input) (O : List ℕ) (v : Valid a) (room : answerBytes ≤ length
   unused-zero = rw (there .nodes) (Answers.unused-zero a N′ D′ r promise v)
 
   -- "Start equal to the count gives no operand and no diagnostic."
-  pub at-the-end : a .start ≡ count (a .tokens) → take answerBytes O′ ≡ 1 ∷ a .start ∷ 0 ∷ 0 ∷ 0 ∷ replicate 22 0
+  pub at-the-end : a .start ≡ count (a .tokens) → take answerBytes O′ ≡ noOperandNumber ∷ a .start ∷ 0 ∷ 0 ∷ 0 ∷ replicate 22 0
   unfolding answerLaid given lowFirst
   at-the-end e = first ∙ ap (λ q. answerLaid (given q)) (Answers.at-the-end a N′ D′ r promise v e .answer)
 
@@ -199,7 +199,7 @@ module _ (a : Input) (O : List ℕ) (v : Valid a) (room : answerBytes ≤ length
   -- the operand y up to the place j, its nodes, and no diagnostic: the number, the answer's 27 bytes and both stores
   pub record Returns (y : Operand) (j : ℕ) : Type 0 where
     pub number : exported a O .number ≡ 0
-    pub answer : take answerBytes O′ ≡ 0 ∷ j ∷ sizeM (some y) ∷ 0 ∷ 0 ∷ (operandRecord y ++ lowFirst 2 (maskO y))
+    pub answer : take answerBytes O′ ≡ operandNumber ∷ j ∷ sizeM (some y) ∷ 0 ∷ 0 ∷ (operandRecord y ++ lowFirst 2 (maskO y))
     pub nodes : N′ ≡ nodesAfter (some y) (a .nodes)
     pub diagnostics : D′ ≡ a .diagnostics
 
@@ -227,7 +227,7 @@ module _ (a : Input) (O : List ℕ) (v : Valid a) (room : answerBytes ≤ length
       let g : Spellings.Spelt a N′ D′ r promise v (cursorIn O′) = rw c h in
       record { operand = g .operand; returns = returned (g .returns); spelled = g .spelled }
 
-  pub answered-is-spelled : kindIn O′ ≡ 0 → addedIn O′ ≡ 0 → Unerring (placeOf a) (a .start) (cursorIn O′) → Spelt
+  pub answered-is-spelled : kindIn O′ ≡ operandNumber → addedIn O′ ≡ 0 → Unerring (placeOf a) (a .start) (cursorIn O′) → Spelt
   answered-is-spelled k d u = go r refl (Answers.total a N′ D′ r promise)
     where
       go : (q : Answer) → r ≡ q → Answers.Total a N′ D′ q → Spelt
@@ -242,8 +242,8 @@ module _ (a : Input) (O : List ℕ) (v : Valid a) (room : answerBytes ≤ length
 -- an operand or none where no refusal applies; else the number of the first that does, before them the library's own. "It returns its number; all lent bytes
 -- stay."
 pub data Total (a : Input) (O : List ℕ) (x : Exported) : Type 0 where
-  operand : Valid a → answerBytes ≤ length O → x .number ≡ 0 → kindIn (x .out) ≡ 0 → Total a O x
-  noOperand : Valid a → answerBytes ≤ length O → x .number ≡ 0 → kindIn (x .out) ≡ 1 → Total a O x
+  operand : Valid a → answerBytes ≤ length O → x .number ≡ 0 → kindIn (x .out) ≡ operandNumber → Total a O x
+  noOperand : Valid a → answerBytes ≤ length O → x .number ≡ 0 → kindIn (x .out) ≡ noOperandNumber → Total a O x
   refused : answerBytes ≤ length O → x .number ≡ refusal a → 1 ≤ x .number → x .number ≤ 7 → x ≡ told (x .number) (a .nodes) (a .diagnostics) O → Total a O x
   short : length O < answerBytes → x .number ≡ shortAnswer → x ≡ told (x .number) (a .nodes) (a .diagnostics) O → Total a O x
 
