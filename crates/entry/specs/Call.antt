@@ -11,7 +11,8 @@ use Rattle.operand.specs.declared.forms.OperandStep.{OperandStep}
 use Rattle.operand.specs.RefusalNumbers
 use Rattle.operand.specs.Entry.{lineAndList, firstOf}
 use Rattle.layout.specs.declared.answer.Answer.{Answer}
-use Rattle.layout.specs.Coding.{nodesEncoded, diagnosticsEncoded}
+use Rattle.layout.specs.Nodes.{nodesEncoded}
+use Rattle.layout.specs.Diagnostics.{diagnosticsEncoded}
 
 -- neither the line nor the list is refused, and it has at most n tokens
 pub record ListAsks (L T : List ℕ) (n : ℕ) : Type 0 where

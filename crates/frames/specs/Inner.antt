@@ -14,7 +14,7 @@ use Rattle.frames.specs.Hex.{spells, spelled}
 use Rattle.frames.specs.Frame.{lineLength, tokenCount}
 use Rattle.frames.specs.Reply.{refused}
 use Rattle.frames.specs.Machine.{State, heldOn, carryOn, step}
-use Rattle.frames.specs.declared.answer.Framed.{Framed}
+use Rattle.frames.specs.declared.reply.Framed.{Framed}
 use Rattle.frames.specs.declared.hex.Decoded.{Decoded}
 use Rattle.frames.specs.declared.batches.Turned.{Turned}
 

@@ -1,6 +1,6 @@
 // A part of the input, of any length, cut anywhere.
-use crate::answer::LONGEST;
-use crate::answer::answer;
+use crate::reply::LONGEST;
+use crate::reply::answer;
 ghost use mathlib.Core.Path.{_≡_};
 ghost use lib.ListN.{length};
 ghost use Rattle.frames.specs.Batches.{BatchTold, FinishTold};

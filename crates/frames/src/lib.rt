@@ -1,7 +1,7 @@
 // Frames in, answer lines out: the program's work on bytes.
-mod answer;
 mod batches;
 mod hex;
+mod reply;
 
 pub use batches::Batched;
 pub use batches::batch;

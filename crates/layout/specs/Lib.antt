@@ -1,7 +1,8 @@
 -- The bytes of docs/FORMAT.md: the entry's promise and what follows from it; how the lent bytes are read and written.
 -- what is told
 pub mod Promise
-pub mod Coding
+pub mod Nodes
+pub mod Diagnostics
 -- the laws
 pub mod Answers
 pub mod Stored

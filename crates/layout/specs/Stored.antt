@@ -17,7 +17,8 @@ use Rattle.operand.specs.Records.{sizeM, nodesM, diagnosticRecords}
 use Rattle.operand.specs.Layout.{nodeFrom, nodeBytes, nodesLaid, lows, diagnosticsLaid}
 use Rattle.operand.specs.Lengths.{length-nodes, length-node-bytes, length-diagnostic, length-diagnostics, length-laid}
 use Rattle.operand.specs.Entry.{nodeStore, nodesAfter}
-use Rattle.layout.specs.Coding.{nodesEncoded, diagnosticsEncoded}
+use Rattle.layout.specs.Nodes.{nodesEncoded}
+use Rattle.layout.specs.Diagnostics.{diagnosticsEncoded}
 
 -- ---- nodes
 

@@ -1,7 +1,7 @@
 // Diagnostic records: ten numbers within, ten bytes in the lent list.
 use crate::store::write_low;
 ghost use mathlib.Core.Path.{_≡_};
-ghost use Rattle.layout.specs.Coding.{diagnosticsEncoded};
+ghost use Rattle.layout.specs.Diagnostics.{diagnosticsEncoded};
 
 // Writes the first n records into the diagnostic list, behind the used ones.
 pub fn encode_diagnostics(numbers: &[u16], n: usize, diagnostics: &mut [u8], used: usize)

@@ -6,7 +6,7 @@ ghost use Prim.Native.Nat.{_+_, _≤_};
 ghost use lib.ListN.{length};
 ghost use Rattle.records.specs.Stores.{written};
 ghost use Rattle.operand.specs.Layout.{lastEight, nodeFrom};
-ghost use Rattle.layout.specs.Coding.{nodesEncoded};
+ghost use Rattle.layout.specs.Nodes.{nodesEncoded};
 
 // A number's kind.
 const NUMBER: u16 = 1;

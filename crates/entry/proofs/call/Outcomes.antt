@@ -15,7 +15,8 @@ use Rattle.operand.specs.Readings.{raised-few}
 use Rattle.operand.specs.Conditions.{Valid, valid-bounds, valid-stores, cursor-bounds, nodes-enough}
 use Rattle.operand.specs.declared.forms.OperandStep.{OperandStep}
 use Rattle.decoding.specs.Tokens.{decoded, tokens-stored}
-use Rattle.layout.specs.Coding.{nodesEncoded, diagnosticsEncoded}
+use Rattle.layout.specs.Nodes.{nodesEncoded}
+use Rattle.layout.specs.Diagnostics.{diagnosticsEncoded}
 use Rattle.layout.specs.Stored.{nodes-stored, diagnostics-stored}
 use Rattle.layout.specs.Promise.{nesting, nesting-is, nesting-some, given, resultOf, resultAt, given-result, EntryPromise}
 use Rattle.layout.specs.declared.answer.Answer.{Answer}

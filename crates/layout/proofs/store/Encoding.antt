@@ -13,7 +13,8 @@ use Rattle.records.specs.Written.{written-fits, written-more, written-not, leng
 use Rattle.operand.specs.Layout.{low, lastEight, nodeFrom, nodeBytes, lows}
 use Rattle.operand.specs.Lengths.{length-last, length-node, length-node-bytes, length-lows}
 use Rattle.operand.specs.Entry.{nodeStore, node-store}
-use Rattle.layout.specs.Coding.{nodesEncoded, diagnosticsEncoded}
+use Rattle.layout.specs.Nodes.{nodesEncoded}
+use Rattle.layout.specs.Diagnostics.{diagnosticsEncoded}
 
 pub getD-lows : (vs : List ℕ) (i : ℕ) → getD (lows vs) i 0 ≡ low (getD vs i 0)
 unfolding lows

@@ -1,3 +1,0 @@
--- What the proofs of answer.rt share.
-pub mod Putting
-pub mod Replies

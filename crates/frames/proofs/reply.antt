@@ -1,0 +1,3 @@
+-- What the proofs of reply.rt share.
+pub mod Putting
+pub mod Replies
