@@ -1,4 +1,4 @@
--- The bytes of docs/FORMAT.md: the entry's promise and what follows from it; how the lent bytes are read and written.
+-- The bytes of docs/FORMAT.md: the entry's promise and what follows from it; how the lent bytes are written.
 -- what is told
 pub mod Promise
 pub mod Nodes

@@ -1,7 +1,7 @@
 // What a call answers.
 use operand::OperandRecord;
 
-// Document 01's number of each case of an answer.
+// The number of each case of an answer (docs/FORMAT.md).
 pub const OPERAND: u8 = 0;
 
 pub const NO_OPERAND: u8 = 1;

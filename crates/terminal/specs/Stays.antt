@@ -30,7 +30,7 @@ unfolding numberOf outcomeOf
 number-at a zero = none-refused (readingAt nesting a) (readingAt nesting a .value)
 number-at a (suc k) = refl
 
--- with room for an answer it is document 01's number, 0 for none of the table
+-- with room for an answer it is the refusal's number, 0 for none
 pub number-roomy : (a : Input) (O : List ℕ) → answerBytes ≤ length O → exported a O .number ≡ refusal a
 unfolding exported answered outcome
 number-roomy a O h = rw (le-ltb (length O) answerBytes h) (number-at a (refusal a))

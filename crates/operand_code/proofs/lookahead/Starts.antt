@@ -26,7 +26,7 @@ use Rattle.records.specs.declared.counters.Counters.{Counters}
 use Rattle.operand.specs.Operands.{Maybe}
 use Rattle.operand.specs.Operand.{isAddress, isSuppressed, isSuppressedRegister, isSuppressedAddress, aRegister, anAddressRegister, aProgramCounter, unmarked, suppressedIndex, registerFrom, afterBaseRegister, sizeOrScale, noBase, parseBaseAndIndexRegisters, closes, startsAFullIndex, startsABase}
 use Rattle.expressions.specs.Told.{Told}
-use Rattle.operand_code.specs.Lookahead.{regAt, suppressedAt, fullIndexStarts, baseStarts, addressBase, suppressedBase, isCounter, baseAt}
+use Rattle.operand_code.specs.Lookahead.{regAt, suppressedAt, fullIndexStarts, baseStarts, addressBase, suppressedBase, isCounter, baseAt, isBase}
 use Rattle.operand.specs.declared.forms.BaseRegister.{BaseRegister}
 use Rattle.operand.specs.declared.forms.Registers.{Registers}
 use Rattle.expressions.specs.Paths.{hereby, hit, miss, done, passed, unseen, whether}
@@ -214,21 +214,13 @@ module _ {A E : Type 0} {f : A → E} {Q : A → Counters → Type 0} {L T D D�
     pub base-not : baseStarts (place L T) (c .at) ≡ false → Told f Q (n tt) L T D D′ c v r → Told f Q (startsABase y n) L T D D′ c v r
     base-not e g = based-or-not (λ q. absurd (true-false (sym q ∙ e))) (λ q. g)
 
--- some base
-abbrev isBase : BaseRegister → Bool
-isBase (BaseRegister.Address r) = true
-isBase BaseRegister.ProgramCounter = true
-isBase (BaseRegister.SuppressedAddress r) = true
-isBase BaseRegister.SuppressedProgramCounter = true
-isBase BaseRegister.Omitted = false
-
 module _ {E : Type 0} {f : Maybe Registers → E} {Q : Maybe Registers → Counters → Type 0} {L T D D′ : List ℕ} {c : Counters} {v : E} {r : Counters} (s : Setting) (shape : ℕ) where
   module _ {k : Token} (h : tokenAt T (c .at) ≡ peeked.Is k) where
     base-or-none : {c₁ : Counters} → c₁ ≡ stepped c k
         → ((b : BaseRegister) → baseAt s (place L T) (c .at) k (textOf L (k .start) (k .end)) ≡ b → isBase b ≡ true → Told f Q (afterBaseRegister s shape b) L T D D′ c₁ v r)
         → (baseAt s (place L T) (c .at) k (textOf L (k .start) (k .end)) ≡ BaseRegister.Omitted → Told f Q (noBase s shape) L T D D′ c v r)
         → Told f Q (parseBaseAndIndexRegisters s shape) L T D D′ c v r
-    unfolding parseBaseAndIndexRegisters
+    unfolding parseBaseAndIndexRegisters isBase
     base-or-none e y n =
         let w = base-tests s (c .at) k (textOf L (k .start) (k .end)) (place L T) in
         hereby (tried h e (λ a. y BaseRegister.ProgramCounter (w ∙ rw a) refl)
@@ -249,6 +241,7 @@ module _ {E : Type 0} {f : Maybe Registers → E} {Q : Maybe Registers → Count
 
     pub base-none : baseAt s (place L T) (c .at) k (textOf L (k .start) (k .end)) ≡ BaseRegister.Omitted → Told f Q (noBase s shape) L T D D′ c v r
         → Told f Q (parseBaseAndIndexRegisters s shape) L T D D′ c v r
+    unfolding isBase
     base-none e g = base-or-none {c₁ = stepped c k} refl (λ b q p. absurd (true-false (sym p ∙ ap isBase (sym q ∙ e)))) (λ q. g)
 
   pub base-end : tokenAt T (c .at) ≡ peeked.End → Told f Q (noBase s shape) L T D D′ c v r → Told f Q (parseBaseAndIndexRegisters s shape) L T D D′ c v r
