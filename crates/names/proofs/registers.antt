@@ -1,3 +1,3 @@
 -- What the proofs of registers.rt share.
-pub mod Coding
 pub mod Pairs
+pub mod Specials

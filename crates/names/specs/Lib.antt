@@ -13,5 +13,5 @@ pub mod Literals
 pub mod Cases
 -- the laws
 pub mod Laws
+pub mod Lowered
 pub mod Reserved
-pub mod Codes

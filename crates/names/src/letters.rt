@@ -1,5 +1,6 @@
 // Names are matched letter by letter, whatever their case; no lowered copy of a name is made.
 ghost use mathlib.Core.Path.{_≡_};
+ghost use lib.Dec.{eqb};
 ghost use Rattle.names.specs.Letters.{lower, spelled};
 
 // The small letter of a letter, and any other byte itself.
@@ -15,6 +16,13 @@ pub(crate) fn lower(byte: u8) -> u8
     byte + 32
 }
 
+// Whether a byte in small is this letter: one letter of a name is lowered, compared and forgotten.
+pub(crate) fn is_letter(byte: u8, letter: u8) -> bool
+    ensures { λ r. ⌜ r ≡ eqb (lower byte) letter ⌝ }
+{
+    lower(byte) == letter
+}
+
 // Whether a name in small letters is this word.
 pub(crate) fn spells(name: &[u8], word: &[u8]) -> bool
     ensures { λ r. ⌜ r ≡ spelled (now (word .entry)) (now (name .entry)) ⌝ }
@@ -24,16 +32,10 @@ pub(crate) fn spells(name: &[u8], word: &[u8]) -> bool
     }
     let mut i = 0;
     while i < name.len() {
-        if lower(name[i]) != word[i] {
+        if !is_letter(name[i], word[i]) {
             return false;
         }
         i += 1;
     }
     true
-}
-
-pub(crate) fn wide(x: u8) -> u64
-    ensures { λ r. ⌜ r ≡ x ⌝ }
-{
-    x as u64
 }

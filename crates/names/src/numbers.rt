@@ -1,6 +1,5 @@
 // Numbers: their bases and their digits.
 use crate::letters::lower;
-use crate::letters::wide;
 use crate::tokens::behind_first;
 ghost use mathlib.Core.Path.{_≡_};
 ghost use Prim.Native.Nat.{_+_, _*_, _^_, min};
@@ -95,6 +94,12 @@ fn with_digit(value: u64, radix: u64, digit: u64) -> u64
         return value * radix + digit;
     }
     0x8000_0000_0000_0000
+}
+
+fn wide(x: u8) -> u64
+    ensures { λ r. ⌜ r ≡ x ⌝ }
+{
+    x as u64
 }
 
 fn parse_digits(base: NumberBase, digits: &[u8]) -> Number

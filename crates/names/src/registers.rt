@@ -1,12 +1,15 @@
 // Registers by name. A register is its mask index: d0 to d7 are 0 to 7, a0 to a7 are 8 to 15, and `sp` is a7.
+use crate::letters::is_letter;
 use crate::letters::lower;
 use crate::letters::spells;
-use crate::letters::wide;
 use crate::tokens::behind_first;
 ghost use mathlib.Core.Path.{_≡_};
-ghost use Rattle.names.specs.Registers.{pair, programCounter, reserved};
-ghost use Rattle.names.specs.Codes.{codedSpecial};
+ghost use lib.ListN.{length};
+ghost use Rattle.names.specs.Choice.{pick};
+ghost use Rattle.names.specs.Letters.{lower, spelled};
+ghost use Rattle.names.specs.Registers.{pair, programCounter, specialOf, reserved};
 ghost use Rattle.names.specs.Cases.{RegisterTold, SpecialTold, SuppressedTold};
+ghost use Rattle.names.specs.declared.registers.SpecialRegister.{SpecialRegister};
 
 pub enum Reg {
     Is(u8),
@@ -26,27 +29,38 @@ pub enum Suppressed {
     Not,
 }
 
-// The register whose name is these two small letters.
-fn of_pair(bank: u8, digit: u8) -> Reg
-    ensures { λ r. ⌜ r ≡ pair bank digit ⌝ }
+// What d and this digit are. A digit has no capital, so it is not lowered.
+fn data_register(digit: u8) -> Reg
+    ensures { λ r. ⌜ r ≡ pair 100 (lower digit) ⌝ }
 {
-    if bank == 115 {
-        if digit == 112 {
-            return Reg::Is(15);
-        }
+    if digit < b'0' {
         return Reg::Not;
     }
-    if digit < 48 {
+    if b'7' < digit {
         return Reg::Not;
     }
-    if 55 < digit {
-        return Reg::Not;
+    Reg::Is(digit - b'0')
+}
+
+// What a and this digit are: eight above the data register.
+fn address_register(digit: u8) -> Reg
+    ensures { λ r. ⌜ r ≡ pair 97 (lower digit) ⌝ }
+{
+    let register = data_register(digit);
+    match register {
+        Reg::Is(r) => Reg::Is(r + 8),
+        Reg::Not => Reg::Not,
     }
-    match bank {
-        100 => Reg::Is(digit - 48),
-        97 => Reg::Is(digit - 48 + 8),
-        _ => Reg::Not,
+}
+
+// What s and this letter are: `sp`, or no register.
+fn stack_pointer(letter: u8) -> Reg
+    ensures { λ r. ⌜ r ≡ pair 115 (lower letter) ⌝ }
+{
+    if is_letter(letter, b'p') {
+        return Reg::Is(15);
     }
+    Reg::Not
 }
 
 impl Reg {
@@ -56,7 +70,12 @@ impl Reg {
         if name.len() != 2 {
             return Reg::Not;
         }
-        of_pair(lower(name[0]), lower(name[1]))
+        match lower(name[0]) {
+            b'd' => data_register(name[1]),
+            b'a' => address_register(name[1]),
+            b's' => stack_pointer(name[1]),
+            _ => Reg::Not,
+        }
     }
 }
 
@@ -66,40 +85,66 @@ pub fn is_program_counter(name: &[u8]) -> bool
     spells(name, b"pc")
 }
 
-// The special register whose name has this code: its small letters, the last one first, behind a 1.
-fn of_code(code: u64) -> SpecialRegister
-    ensures { λ r. ⌜ r ≡ codedSpecial code ⌝ }
+// The special register of this number, where the letters are this word.
+fn if_spelled(letters: &[u8], word: &[u8], number: u8) -> SpecialRegister
+    ensures { λ r. ⌜ r ≡ pick (spelled (now (word .entry)) (now (letters .entry))) (SpecialRegister.Is number) SpecialRegister.Not ⌝ }
 {
-    match code {
-        0x01_72_73 => SpecialRegister::Is(1), // sr
-        0x01_72_63_63 => SpecialRegister::Is(2), // ccr
-        0x01_70_73_75 => SpecialRegister::Is(3), // usp
-        0x01_63_66_73 => SpecialRegister::Is(4), // sfc
-        0x01_63_66_64 => SpecialRegister::Is(5), // dfc
-        0x01_72_62_76 => SpecialRegister::Is(6), // vbr
-        0x01_72_63_61_63 => SpecialRegister::Is(7), // cacr
-        0x01_72_61_61_63 => SpecialRegister::Is(8), // caar
-        0x01_70_73_6d => SpecialRegister::Is(9), // msp
-        0x01_70_73_69 => SpecialRegister::Is(10), // isp
+    if spells(letters, word) {
+        return SpecialRegister::Is(number);
+    }
+    SpecialRegister::Not
+}
+
+// A name of three letters: the first one leaves one register, or none.
+fn of_three(name: &[u8]) -> SpecialRegister
+    requires { ⌜ length (now name) ≡ 3 ⌝ }
+    ensures { λ r. ⌜ r ≡ specialOf (now (name .entry)) ⌝ }
+{
+    let rest = behind_first(name);
+    match lower(name[0]) {
+        b'c' => if_spelled(rest, b"cr", 2),
+        b'u' => if_spelled(rest, b"sp", 3),
+        b's' => if_spelled(rest, b"fc", 4),
+        b'd' => if_spelled(rest, b"fc", 5),
+        b'v' => if_spelled(rest, b"br", 6),
+        b'm' => if_spelled(rest, b"sp", 9),
+        b'i' => if_spelled(rest, b"sp", 10),
+        _ => SpecialRegister::Not,
+    }
+}
+
+// A name of four letters: `cacr` or `caar`, which the third one tells apart.
+fn of_four(name: &[u8]) -> SpecialRegister
+    requires { ⌜ length (now name) ≡ 4 ⌝ }
+    ensures { λ r. ⌜ r ≡ specialOf (now (name .entry)) ⌝ }
+{
+    if !is_letter(name[0], b'c') {
+        return SpecialRegister::Not;
+    }
+    if !is_letter(name[1], b'a') {
+        return SpecialRegister::Not;
+    }
+    if !is_letter(name[3], b'r') {
+        return SpecialRegister::Not;
+    }
+    match lower(name[2]) {
+        b'c' => SpecialRegister::Is(7),
+        b'a' => SpecialRegister::Is(8),
         _ => SpecialRegister::Not,
     }
 }
 
 impl SpecialRegister {
-    // No special register has a longer name than four letters; a shorter name is told by its code in one step.
+    // By its length, its first letter and then the rest, in place: no more than four letters are looked at.
     pub fn parse(name: &[u8]) -> SpecialRegister
         ensures { λ r. ⌜ SpecialTold (now (name .entry)) r ⌝ }
     {
-        if 4 < name.len() {
-            return SpecialRegister::Not;
+        match name.len() {
+            2 => if_spelled(name, b"sr", 1),
+            3 => of_three(name),
+            4 => of_four(name),
+            _ => SpecialRegister::Not,
         }
-        let mut code: u64 = 1;
-        let mut i = name.len();
-        while 0 < i {
-            i -= 1;
-            code = code * 256 + wide(lower(name[i]));
-        }
-        of_code(code)
     }
 }
 
@@ -109,7 +154,7 @@ pub fn suppressed_register(name: &[u8]) -> Suppressed
     if name.len() == 0 {
         return Suppressed::Not;
     }
-    if lower(name[0]) != 122 {
+    if !is_letter(name[0], b'z') {
         return Suppressed::Not;
     }
     let rest = behind_first(name);

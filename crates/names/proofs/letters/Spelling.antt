@@ -3,8 +3,9 @@
 use mathlib.Core.Path.{_≡_, refl, ap}
 use mathlib.Core.Bool.{true, false}
 use mathlib.Core.List.{List, [], _∷_}
-use Prim.Native.Nat.{ℕ, suc, _+_, _≤_, _<_}
-use borrow.Author.Tests.{eq-eqb, ne-eqb}
+use Prim.Native.Nat.{ℕ, zero, suc, _+_, _≤_, _<_}
+use native.Mathlib.Omega.{arith}
+use lib.Dec.{eqb}
 use lib.ListN.{length, getD, drop, drop-of-length-le}
 use Rattle.names.specs.Letters.{lower, lowered, same, spelled}
 use Rattle.names.specs.Laws.{differ}
@@ -20,14 +21,25 @@ unfolding spelled
 spelled-differ w n h = differ (lowered n) w (rw length-lowered h)
 
 module _ (w n : List ℕ) (i : ℕ) (a : i < length n) (b : i < length w) where
-  pub spelled-on : lower (getD n i 0) ≡ getD w i 0 → spelled (drop i w) (drop i n) ≡ spelled (drop (i + 1) w) (drop (i + 1) n)
+  pub spelled-on : eqb (lower (getD n i 0)) (getD w i 0) ≡ true → spelled (drop i w) (drop i n) ≡ spelled (drop (i + 1) w) (drop (i + 1) n)
   unfolding spelled same lowered
-  spelled-on e = rw (from w i b, from n i a, eq-eqb _ _ e)
+  spelled-on e = rw (from w i b, from n i a, e)
 
-  pub spelled-no : (lower (getD n i 0) ≡ getD w i 0 → ⊥) → spelled (drop i w) (drop i n) ≡ false
+  pub spelled-no : eqb (lower (getD n i 0)) (getD w i 0) ≡ false → spelled (drop i w) (drop i n) ≡ false
   unfolding spelled same lowered
-  spelled-no e = rw (from w i b, from n i a, ne-eqb _ _ e)
+  spelled-no e = rw (from w i b, from n i a, e)
 
 pub spelled-end : (w n : List ℕ) (i : ℕ) → length n ≤ i → length w ≤ i → spelled (drop i w) (drop i n) ≡ true
 unfolding spelled same lowered
 spelled-end w n i a b = rw (drop-of-length-le w b, drop-of-length-le n a)
+
+-- k letters from place i on, in small
+abbrev pub letters : ℕ → ℕ → List ℕ → List ℕ
+letters i zero n = []
+letters i (suc k) n = lower (getD n i 0) ∷ letters (i + 1) k n
+
+-- a name of a known length, letter by letter
+pub lowered-letters : (n : List ℕ) (i k : ℕ) → length n ≡ i + k → lowered (drop i n) ≡ letters i k n
+unfolding lowered
+lowered-letters n i zero h = rw (drop-of-length-le n {i = i} (omega arith))
+lowered-letters n i (suc k) h = rw (from n i (omega arith)) (ap (_∷_ (lower (getD n i 0))) (lowered-letters n (i + 1) k (omega arith)))

@@ -1,0 +1,30 @@
+-- Special registers by the length of the name.
+-- Assumes nothing.
+use mathlib.Core.Path.{_≡_, refl, ap}
+use mathlib.Core.List.{List, [], _∷_}
+use Prim.Native.Nat.{ℕ, _+_}
+use native.Mathlib.Omega.{arith}
+use lib.ListN.{length, drop}
+use Rattle.names.specs.Laws.{both-false}
+use Rattle.names.specs.Letters.{lowered, same, spelled}
+use Rattle.names.specs.Registers.{numbered, specialNames, specialOf}
+use Rattle.names.specs.declared.registers.SpecialRegister.{SpecialRegister}
+use Rattle.names.proofs.letters.Spelling.{letters, lowered-letters}
+
+pub special-letters : (n : List ℕ) (k : ℕ) → length n ≡ k → specialOf n ≡ numbered 1 specialNames (letters 0 k n)
+unfolding specialOf
+special-letters n k h = ap (numbered 1 specialNames) (lowered-letters n 0 k (omega arith))
+
+pub spelled-letters : (w n : List ℕ) (i k : ℕ) → length n ≡ i + k → spelled w (drop i n) ≡ same (letters i k n) w
+unfolding spelled
+spelled-letters w n i k h = ap (λ l. same l w) (lowered-letters n i k h)
+
+-- no special register has another length
+pub special-other : (n : List ℕ) → (length n ≡ 2 → ⊥) → (length n ≡ 3 → ⊥) → (length n ≡ 4 → ⊥) → specialOf n ≡ SpecialRegister.Not
+unfolding specialOf numbered lowered same
+special-other [] x y z = refl
+special-other (c ∷ []) x y z = simp both-false
+special-other (c ∷ d ∷ []) x y z = absurd (x refl)
+special-other (c ∷ d ∷ e ∷ []) x y z = absurd (y refl)
+special-other (c ∷ d ∷ e ∷ f ∷ []) x y z = absurd (z refl)
+special-other (c ∷ d ∷ e ∷ f ∷ g ∷ gs) x y z = simp both-false

@@ -1,0 +1,68 @@
+-- Names whatever their case: what a name is, its small letters are.
+-- Assumes nothing.
+use mathlib.Core.Path.{_≡_, refl, ap, ap₂}
+use mathlib.Core.Bool.{Bool, true, false}
+use mathlib.Core.List.{List, [], _∷_}
+use Prim.Native.Nat.{ℕ, _+_, _≤_, _<_}
+use native.Mathlib.Omega.{arith}
+use borrow.Author.Tests.{leb-true, lt-leb}
+use lib.Dec.{leb}
+use Rattle.names.specs.Choice.{pick, both}
+use Rattle.names.specs.Laws.{both-false}
+use Rattle.names.specs.Letters.{bytes, lower, lowered, same, spelled}
+use Rattle.names.specs.Registers.{register, registerOf, programCounter, numbered, specialNames, specialOf, suppressed, suppressedOf, oneOf, reservedNames, reserved}
+
+-- ---- letters
+
+-- what is no capital stays
+pub lower-below : (c : ℕ) → c < 65 → lower c ≡ c
+unfolding lower
+lower-below c h = simp (lt-leb 65 c h)
+
+pub lower-above : (c : ℕ) → 90 < c → lower c ≡ c
+unfolding lower
+lower-above c h = simp (lt-leb c 90 h, both-false)
+
+pub lower-rises : (c : ℕ) → c ≤ lower c
+unfolding lower
+lower-rises c = go (both (leb 65 c) (leb c 90))
+  where
+    go : (b : Bool) → c ≤ pick b (c + 32) c
+    go true = omega arith
+    go false = omega arith
+
+lower-twice : (c : ℕ) → lower (lower c) ≡ lower c
+unfolding lower
+lower-twice c = go (leb 65 c) refl (leb c 90) refl
+  where
+    go : (a : Bool) → leb 65 c ≡ a → (b : Bool) → leb c 90 ≡ b → lower (lower c) ≡ lower c
+    go true p true q = simp (p, q) (lower-above (c + 32) (omega (arith, leb-true 65 c p)))
+    go true p false q = simp (p, q)
+    go false p b q = simp p
+
+-- ---- names
+
+pub lowered-twice : (n : List ℕ) → lowered (lowered n) ≡ lowered n
+unfolding lowered
+lowered-twice [] = refl
+lowered-twice (c ∷ cs) = ap₂ _∷_ (lower-twice c) (lowered-twice cs)
+
+pub register-lowered : (n : List ℕ) → registerOf (lowered n) ≡ registerOf n
+unfolding registerOf
+register-lowered n = ap register (lowered-twice n)
+
+pub counter-lowered : (n : List ℕ) → programCounter (lowered n) ≡ programCounter n
+unfolding programCounter spelled
+counter-lowered n = ap (λ l. same l (bytes "pc")) (lowered-twice n)
+
+pub special-lowered : (n : List ℕ) → specialOf (lowered n) ≡ specialOf n
+unfolding specialOf
+special-lowered n = ap (numbered 1 specialNames) (lowered-twice n)
+
+pub suppressed-lowered : (n : List ℕ) → suppressedOf (lowered n) ≡ suppressedOf n
+unfolding suppressedOf
+suppressed-lowered n = ap suppressed (lowered-twice n)
+
+pub reserved-lowered : (n : List ℕ) → reserved (lowered n) ≡ reserved n
+unfolding reserved
+reserved-lowered n = ap (oneOf reservedNames) (lowered-twice n)
