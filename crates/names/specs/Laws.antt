@@ -8,11 +8,15 @@ use native.Mathlib.Omega.{arith}
 use borrow.Author.Tests.{eqb-true}
 use lib.Dec.{eqb}
 use lib.ListN.{length}
-use Rattle.names.specs.Choice.{both, either}
+use Rattle.names.specs.Choice.{pick, both, either}
 use Rattle.names.specs.Letters.{same}
 
 pub true-false : true ≡ false → ⊥
 true-false z = let y : _≡_ {A = ℕ} 0 1 = cc in omega arith
+
+pub pick-both : {A : Type 0} (b : Bool) (a : A) → pick b a a ≡ a
+pick-both true a = refl
+pick-both false a = refl
 
 -- ---- both
 

@@ -10,7 +10,7 @@ use borrow.Author.Tests.{eqb-true, ne-eqb, leb-true, leb-false}
 use lib.Dec.{leb, eqb}
 use Rattle.names.specs.Choice.{pick, both, either}
 use Rattle.names.specs.Letters.{bytes, lowered, same, spelled}
-use Rattle.names.specs.Laws.{both-false, either-assoc}
+use Rattle.names.specs.Laws.{pick-both, both-false, either-assoc}
 use Rattle.names.specs.Registers.{pair, register, registerOf, programCounter, numbered, specialNames, specialOf, oneOf, reserved}
 use Rattle.names.specs.declared.registers.Reg.{Reg}
 use Rattle.names.specs.declared.registers.SpecialRegister.{SpecialRegister}
@@ -100,10 +100,6 @@ picked : (b : Bool) (r : ℕ) → b ≡ isRegister (pick b (Reg.Is r) Reg.Not)
 picked true r = refl
 picked false r = refl
 
-unpicked : (b : Bool) → false ≡ isRegister (pick b Reg.Not Reg.Not)
-unpicked true = refl
-unpicked false = refl
-
 stacked : (b : Bool) → either (both b true) false ≡ isRegister (pick b (Reg.Is 15) Reg.Not)
 stacked true = refl
 stacked false = refl
@@ -113,7 +109,7 @@ unfolding oneOf same pair
 pairs c d = data-bank (eqb c 100) refl
   where
     other : eqb c 100 ≡ false → eqb c 97 ≡ false → eqb c 115 ≡ false → oneOf registerNames (c ∷ d ∷ []) ≡ isRegister (pair c d)
-    other x y z = simp (x, y, z) (unpicked (both (leb 48 d) (leb d 55)))
+    other x y z = simp (x, y, z) (sym (ap isRegister (pick-both (both (leb 48 d) (leb d 55)) Reg.Not)))
 
     stack : (b : Bool) → eqb c 115 ≡ b → eqb c 100 ≡ false → eqb c 97 ≡ false → oneOf registerNames (c ∷ d ∷ []) ≡ isRegister (pair c d)
     stack true q x y = rw (eqb-true c 115 q) (stacked (eqb d 112))

@@ -1,7 +1,7 @@
 // Names are matched letter by letter, whatever their case; no lowered copy of a name is made.
 ghost use mathlib.Core.Path.{_≡_};
 ghost use lib.Dec.{eqb};
-ghost use Rattle.names.specs.Letters.{lower, spelled};
+ghost use Rattle.names.specs.Letters.{SmallLetter, lower, spelled};
 
 // The small letter of a letter, and any other byte itself.
 pub(crate) fn lower(byte: u8) -> u8
@@ -16,11 +16,15 @@ pub(crate) fn lower(byte: u8) -> u8
     byte + 32
 }
 
-// Whether a byte in small is this letter: one letter of a name is lowered, compared and forgotten.
+// Whether a byte is this small letter or its capital, compared where it stands.
 pub(crate) fn is_letter(byte: u8, letter: u8) -> bool
+    requires { ⌜ SmallLetter letter ⌝ }
     ensures { λ r. ⌜ r ≡ eqb (lower byte) letter ⌝ }
 {
-    lower(byte) == letter
+    if byte == letter {
+        return true;
+    }
+    byte == letter - 32
 }
 
 // Whether a name in small letters is this word.
@@ -32,7 +36,7 @@ pub(crate) fn spells(name: &[u8], word: &[u8]) -> bool
     }
     let mut i = 0;
     while i < name.len() {
-        if !is_letter(name[i], word[i]) {
+        if lower(name[i]) != word[i] {
             return false;
         }
         i += 1;

@@ -6,8 +6,8 @@ use crate::tokens::behind_first;
 ghost use mathlib.Core.Path.{_≡_};
 ghost use lib.ListN.{length};
 ghost use Rattle.names.specs.Choice.{pick};
-ghost use Rattle.names.specs.Letters.{lower, spelled};
-ghost use Rattle.names.specs.Registers.{pair, programCounter, specialOf, reserved};
+ghost use Rattle.names.specs.Letters.{spelled};
+ghost use Rattle.names.specs.Registers.{programCounter, specialOf, reserved};
 ghost use Rattle.names.specs.Cases.{RegisterTold, SpecialTold, SuppressedTold};
 ghost use Rattle.names.specs.declared.registers.SpecialRegister.{SpecialRegister};
 
@@ -29,51 +29,28 @@ pub enum Suppressed {
     Not,
 }
 
-// What d and this digit are. A digit has no capital, so it is not lowered.
-fn data_register(digit: u8) -> Reg
-    ensures { λ r. ⌜ r ≡ pair 100 (lower digit) ⌝ }
-{
-    if digit < b'0' {
-        return Reg::Not;
-    }
-    if b'7' < digit {
-        return Reg::Not;
-    }
-    Reg::Is(digit - b'0')
-}
-
-// What a and this digit are: eight above the data register.
-fn address_register(digit: u8) -> Reg
-    ensures { λ r. ⌜ r ≡ pair 97 (lower digit) ⌝ }
-{
-    let register = data_register(digit);
-    match register {
-        Reg::Is(r) => Reg::Is(r + 8),
-        Reg::Not => Reg::Not,
-    }
-}
-
-// What s and this letter are: `sp`, or no register.
-fn stack_pointer(letter: u8) -> Reg
-    ensures { λ r. ⌜ r ≡ pair 115 (lower letter) ⌝ }
-{
-    if is_letter(letter, b'p') {
-        return Reg::Is(15);
-    }
-    Reg::Not
-}
-
 impl Reg {
+    // As in the Rust: `sp`, or a bank's letter and a digit. A digit has no capital, so it is compared as it stands.
     pub fn parse(name: &[u8]) -> Reg
         ensures { λ r. ⌜ RegisterTold (now (name .entry)) r ⌝ }
     {
         if name.len() != 2 {
             return Reg::Not;
         }
-        match lower(name[0]) {
-            b'd' => data_register(name[1]),
-            b'a' => address_register(name[1]),
-            b's' => stack_pointer(name[1]),
+        if spells(name, b"sp") {
+            return Reg::Is(15);
+        }
+        let bank = lower(name[0]);
+        let digit = name[1];
+        if digit < b'0' {
+            return Reg::Not;
+        }
+        if b'7' < digit {
+            return Reg::Not;
+        }
+        match bank {
+            b'd' => Reg::Is(digit - b'0'),
+            b'a' => Reg::Is(digit - b'0' + 8),
             _ => Reg::Not,
         }
     }
@@ -168,10 +145,13 @@ pub fn suppressed_register(name: &[u8]) -> Suppressed
     }
 }
 
-// Whether a name is one of the 28 that no symbol may have.
+// Whether a name is one of the 28 that no symbol may have. None is longer than four letters.
 pub fn is_reserved_name(name: &[u8]) -> bool
     ensures { λ r. ⌜ r ≡ reserved (now (name .entry)) ⌝ }
 {
+    if 4 < name.len() {
+        return false;
+    }
     let register = Reg::parse(name);
     if let Reg::Is(_) = register {
         return true;

@@ -1,15 +1,16 @@
 -- Names of a known length.
 -- Assumes nothing.
-use mathlib.Core.Path.{_≡_, refl, ap}
+use mathlib.Core.Path.{_≡_, refl, sym, _∙_, ap}
 use mathlib.Core.Bool.{Bool, true, false}
 use mathlib.Core.List.{List, [], _∷_}
-use Prim.Native.Nat.{ℕ, _+_, _-_, _<_}
+use Prim.Native.Nat.{ℕ, _+_, _-_}
 use native.Mathlib.Omega.{arith}
-use borrow.Author.Tests.{ne-eqb, leb-true}
+use borrow.Author.Tests.{eqb-true}
 use lib.Dec.{leb, eqb}
 use lib.ListN.{length, getD, drop}
 use Rattle.names.specs.Choice.{pick, both}
-use Rattle.names.specs.Letters.{lower, lowered, spelled}
+use Rattle.names.specs.Laws.{true-false, pick-both, same-true}
+use Rattle.names.specs.Letters.{bytes, lower, lowered, same, spelled}
 use Rattle.names.specs.Registers.{pair, register, registerOf, programCounter, suppressing, suppressed, suppressedOf}
 use Rattle.names.specs.Sizes.{letterSize, sizeOf}
 use Rattle.names.specs.declared.registers.Reg.{Reg}
@@ -24,48 +25,28 @@ register-not (c ∷ []) h = refl
 register-not (c ∷ d ∷ []) h = absurd (h refl)
 register-not (c ∷ d ∷ e ∷ es) h = refl
 
-pub register-pair : (n : List ℕ) → length n ≡ 2 → registerOf n ≡ pair (lower (getD n 0 0)) (lower (getD n 1 0))
-unfolding registerOf register
-register-pair n h = ap register (lowered-letters n 0 2 h)
+pub register-stack : (n : List ℕ) → spelled (bytes "sp") n ≡ true → registerOf n ≡ Reg.Is 15
+unfolding spelled registerOf register pair
+register-stack n h = ap register (same-true (lowered n) (bytes "sp") h)
 
--- a name of two letters by its first one
-module _ (d : ℕ) where
-  -- an address register is eight above the data register of its digit
-  abbrev raised : Reg → Reg
-  raised (Reg.Is r) = Reg.Is (r + 8)
-  raised Reg.Not = Reg.Not
+-- what is not `sp`: a digit behind the letter of a bank
+abbrev banked : ℕ → ℕ → Reg
+banked c d = pick (both (leb 48 d) (leb d 55)) (pick (eqb c 100) (Reg.Is (d - 48)) (pick (eqb c 97) (Reg.Is (d - 48 + 8)) Reg.Not)) Reg.Not
 
-  abbrev index : Reg → ℕ
-  index (Reg.Is r) = r
-  index Reg.Not = 0
+pair-banked : (c d : ℕ) → same (c ∷ d ∷ []) (bytes "sp") ≡ false → pair c d ≡ banked c d
+unfolding pair same
+pair-banked c d h = go (eqb c 115) refl (eqb d 112) refl h
+  where
+    go : (a : Bool) → eqb c 115 ≡ a → (b : Bool) → eqb d 112 ≡ b → both a (both b true) ≡ false → pair c d ≡ banked c d
+    go true p true q g = absurd (true-false g)
+    go true p false q g = rw (eqb-true c 115 p, q) (sym (pick-both (both (leb 48 d) (leb d 55)) Reg.Not))
+    go false p b q g = simp p
 
-  pub address-raised : pair 97 d ≡ raised (pair 100 d)
-  unfolding pair
-  address-raised = go (both (leb 48 d) (leb d 55))
-    where
-      go : (b : Bool) → pick b (Reg.Is (d - 48 + 8)) Reg.Not ≡ raised (pick b (Reg.Is (d - 48)) Reg.Not)
-      go true = refl
-      go false = refl
-
-  data-index : index (pair 100 d) < 8
-  unfolding pair
-  data-index = go (leb 48 d) (leb d 55) refl
-    where
-      go : (a b : Bool) → leb d 55 ≡ b → index (pick (both a b) (Reg.Is (d - 48)) Reg.Not) < 8
-      go true true q = omega (arith, leb-true d 55 q)
-      go true false q = omega arith
-      go false b q = omega arith
-
-  pub data-below : (r : ℕ) → pair 100 d ≡ Reg.Is r → r < 8
-  data-below r e = rw e at data-index
-
-  pub pair-other : (c : ℕ) → (c ≡ 100 → ⊥) → (c ≡ 97 → ⊥) → (c ≡ 115 → ⊥) → pair c d ≡ Reg.Not
-  unfolding pair
-  pair-other c x y z = simp (ne-eqb c 115 z, ne-eqb c 100 x, ne-eqb c 97 y) (go (both (leb 48 d) (leb d 55)))
-    where
-      go : (b : Bool) → pick b Reg.Not Reg.Not ≡ Reg.Not
-      go true = refl
-      go false = refl
+pub register-digit : (n : List ℕ) → length n ≡ 2 → spelled (bytes "sp") n ≡ false → registerOf n ≡ banked (lower (getD n 0 0)) (lower (getD n 1 0))
+unfolding registerOf register spelled
+register-digit n h g =
+    let e = lowered-letters n 0 2 h in
+    ap register e ∙ pair-banked (lower (getD n 0 0)) (lower (getD n 1 0)) (rw (sym e) g)
 
 pub size-not : (n : List ℕ) → (length n ≡ 1 → ⊥) → sizeOf n ≡ SizeSuffix.Not
 unfolding sizeOf

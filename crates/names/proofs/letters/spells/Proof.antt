@@ -4,7 +4,6 @@
 use mathlib.Core.Path.{_≡_, refl, sym, _∙_}
 use Prim.Native.Nat.{_≤_, _-_}
 use native.Mathlib.Omega.{arith}
-use borrow.Author.Tests.{not-true, not-false}
 use lib.ListN.{length, drop}
 use Rattle.names.specs.Letters.{spelled}
 use Rattle.names.proofs.letters.Spelling.{spelled-differ, spelled-on, spelled-no, spelled-end}
@@ -28,22 +27,22 @@ loop-holds c =
     let c-if1 = c .if1 in
     (omega arith, c-if1 .left, refl)
 
-shared-slice-read-is-letter : tie.Need-shared-slice-read-is-letter Inv-loop μ-loop
-shared-slice-read-is-letter c = search needs
+shared-slice-read-lower : tie.Need-shared-slice-read-lower Inv-loop μ-loop
+shared-slice-read-lower c = search needs
 
-shared-slice-read-is-letter-2 : tie.Need-shared-slice-read-is-letter-2 Inv-loop μ-loop
-shared-slice-read-is-letter-2 c = search needs
+lower-requires : tie.Need-lower-requires Inv-loop μ-loop
+lower-requires c κs = search needs
 
-is-letter-requires : tie.Need-is-letter-requires Inv-loop μ-loop
-is-letter-requires c κs = search needs
+shared-slice-read-if2 : tie.Need-shared-slice-read-if2 Inv-loop μ-loop
+shared-slice-read-if2 c = search needs
 
 returns-2 : tie.Need-returns-2 Inv-loop μ-loop
 returns-2 c =
     let c-args = c .before .before .before .before .before .before .before .before .before .args in
     let c-loop = c .before .before .before .before .before .loop in
-    let c-is-letter = c .before .is-letter in
     let c-if2 = c .if2 in
-    sym (spelled-no (c-args .word .now) (c-args .name .now) (c-loop .i) (omega arith) (omega arith) (sym (c-is-letter .ensures) ∙ not-true _ (c-if2 .taken))) ∙ c-loop .inv .2
+    let c-lower = c .before .before .lower in
+    sym (spelled-no (c-args .word .now) (c-args .name .now) (c-loop .i) (omega arith) (omega arith) (λ e. c-if2 .taken (c-lower .ensures ∙ e))) ∙ c-loop .inv .2
 
 add-i : tie.Need-add-i Inv-loop μ-loop
 add-i c = search needs
@@ -55,9 +54,9 @@ loop-again : tie.Need-loop-again Inv-loop μ-loop
 loop-again c =
     let c-loop = c .before .before .before .before .before .loop in
     let c-args = c .before .before .before .before .before .before .before .before .before .args in
-    let c-is-letter = c .before .is-letter in
+    let c-lower = c .before .before .lower in
     let c-if2 = c .if2 in
-    (omega arith, c-loop .inv .1, sym (spelled-on (c-args .word .now) (c-args .name .now) (c-loop .i) (omega arith) (omega arith) (sym (c-is-letter .ensures) ∙ not-false _ (c-if2 .left))) ∙ c-loop .inv .2)
+    (omega arith, c-loop .inv .1, sym (spelled-on (c-args .word .now) (c-args .name .now) (c-loop .i) (omega arith) (omega arith) (sym (c-lower .ensures) ∙ c-if2 .left)) ∙ c-loop .inv .2)
 
 returns-3 : tie.Need-returns-3 Inv-loop μ-loop
 returns-3 c =
@@ -73,9 +72,9 @@ spells-spec =
     μ-loop
     returns
     loop-holds
-    shared-slice-read-is-letter
-    shared-slice-read-is-letter-2
-    is-letter-requires
+    shared-slice-read-lower
+    lower-requires
+    shared-slice-read-if2
     returns-2
     add-i
     loop-less

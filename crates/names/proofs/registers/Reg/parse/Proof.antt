@@ -1,9 +1,15 @@
 -- `names::registers::Reg::parse` meets its contract.
 -- Assumes nothing.
 -- Written by tools/proof.py from the answers of the same path: change those, not this file.
-use mathlib.Core.Path.{sym}
+use mathlib.Core.Path.{sym, _∙_}
+use native.Mathlib.Omega.{arith}
+use lib.ListN.{getD}
+use borrow.Author.Tests.{ne-eqb, le-leb, lt-leb}
+use Rattle.names.specs.Laws.{both-false}
+use Rattle.names.specs.Letters.{lower}
+use Rattle.names.specs.Lowered.{lower-below, lower-rises}
 use Rattle.names.proofs.Cases.{told-register}
-use Rattle.names.proofs.registers.Pairs.{register-not, register-pair, pair-other}
+use Rattle.names.proofs.registers.Pairs.{register-not, register-stack, register-digit}
 use borrow.Author.Needs.{needs}
 use Rattle.names.proofs.registers.Reg.parse.Statement.{statement}
 use Rattle.names.proofs.registers.Reg.parse.Tie as tie
@@ -13,75 +19,100 @@ returns c =
     let c-if1 = c .if1 in
     told-register (sym (register-not _ (c-if1 .taken)))
 
+slice-aggregate-spells : tie.Need-slice-aggregate-spells
+slice-aggregate-spells c = search needs
+
+spells-requires : tie.Need-spells-requires
+spells-requires c κs = search needs
+
+returns-2 : tie.Need-returns-2
+returns-2 c =
+    let c-spells = c .before .spells in
+    let c-if2 = c .if2 in
+    told-register (sym (register-stack _ (sym (c-spells .ensures) ∙ c-if2 .taken)))
+
 shared-slice-read-lower : tie.Need-shared-slice-read-lower
 shared-slice-read-lower c = search needs
 
 lower-requires : tie.Need-lower-requires
 lower-requires c κs = search needs
 
-shared-slice-read-data-register : tie.Need-shared-slice-read-data-register
-shared-slice-read-data-register c = search needs
-
-data-register-requires : tie.Need-data-register-requires
-data-register-requires c κs = search needs
-
-shared-slice-read-address-register : tie.Need-shared-slice-read-address-register
-shared-slice-read-address-register c = search needs
-
-address-register-requires : tie.Need-address-register-requires
-address-register-requires c κs = search needs
-
-shared-slice-read-stack-pointer : tie.Need-shared-slice-read-stack-pointer
-shared-slice-read-stack-pointer c = search needs
-
-stack-pointer-requires : tie.Need-stack-pointer-requires
-stack-pointer-requires c κs = search needs
-
-returns-2 : tie.Need-returns-2
-returns-2 c =
-    let c-if1 = c .before .before .before .before .before .if1 in
-    let c-lower = c .before .before .before .lower in
-    let c-match = c .before .before .match in
-    let c-data-register = c .data-register in
-    told-register (rw (register-pair _ (c-if1 .left), ← c-lower .ensures, c-match .keys1) (c-data-register .ensures))
+shared-slice-read-digit : tie.Need-shared-slice-read-digit
+shared-slice-read-digit c = search needs
 
 returns-3 : tie.Need-returns-3
 returns-3 c =
-    let c-if1 = c .before .before .before .before .before .if1 in
-    let c-lower = c .before .before .before .lower in
-    let c-match = c .before .before .match in
-    let c-address-register = c .address-register in
-    told-register (rw (register-pair _ (c-if1 .left), ← c-lower .ensures, c-match .keys2) (c-address-register .ensures))
+    let c-if1 = c .before .before .before .before .before .before .before .if1 in
+    let c-spells = c .before .before .before .before .before .spells in
+    let c-if2 = c .before .before .before .before .if2 in
+    let c-lower = c .before .before .lower in
+    let c-args = c .before .before .before .before .before .before .before .before .before .args in
+    let c-if3 = c .if3 in
+    told-register (rw (register-digit _ (c-if1 .left) (sym (c-spells .ensures) ∙ c-if2 .left), ← c-lower .ensures, lower-below (getD (c-args .name .now) 1 0) (omega arith)) (simp (lt-leb 48 (getD (c-args .name .now) 1 0) (c-if3 .taken))))
 
 returns-4 : tie.Need-returns-4
 returns-4 c =
-    let c-if1 = c .before .before .before .before .before .if1 in
+    let c-if1 = c .before .before .before .before .before .before .before .before .if1 in
+    let c-spells = c .before .before .before .before .before .before .spells in
+    let c-if2 = c .before .before .before .before .before .if2 in
     let c-lower = c .before .before .before .lower in
-    let c-match = c .before .before .match in
-    let c-stack-pointer = c .stack-pointer in
-    told-register (rw (register-pair _ (c-if1 .left), ← c-lower .ensures, c-match .keys3) (c-stack-pointer .ensures))
+    let c-args = c .before .before .before .before .before .before .before .before .before .before .args in
+    let c-if4 = c .if4 in
+    told-register (rw (register-digit _ (c-if1 .left) (sym (c-spells .ensures) ∙ c-if2 .left), ← c-lower .ensures) (simp (lt-leb (lower (getD (c-args .name .now) 1 0)) 55 (omega (arith, c-if4 .taken, lower-rises (getD (c-args .name .now) 1 0))), both-false)))
+
+add-t16 : tie.Need-add-t16
+add-t16 c = search needs
 
 returns-5 : tie.Need-returns-5
 returns-5 c =
-    let c-if1 = c .before .before .before .if1 in
-    let c-lower = c .before .lower in
+    let c-if1 = c .before .before .before .before .before .before .before .before .before .if1 in
+    let c-spells = c .before .before .before .before .before .before .before .spells in
+    let c-if2 = c .before .before .before .before .before .before .if2 in
+    let c-lower = c .before .before .before .before .lower in
+    let c-args = c .before .before .before .before .before .before .before .before .before .before .before .args in
     let c-match = c .match in
-    told-register (rw (register-pair _ (c-if1 .left), ← c-lower .ensures) (sym (pair-other _ _ (c-match .rest .0 .0 .1) (c-match .rest .0 .1) (c-match .rest .1))))
+    let c-if3 = c .before .before .if3 in
+    let c-if4 = c .before .if4 in
+    told-register (rw (register-digit _ (c-if1 .left) (sym (c-spells .ensures) ∙ c-if2 .left), ← c-lower .ensures, lower-below (getD (c-args .name .now) 1 0) (omega arith), c-match .keys1) (simp (le-leb 48 (getD (c-args .name .now) 1 0) (c-if3 .left), le-leb (getD (c-args .name .now) 1 0) 55 (c-if4 .left))))
+
+returns-6 : tie.Need-returns-6
+returns-6 c =
+    let c-if1 = c .before .before .before .before .before .before .before .before .before .if1 in
+    let c-spells = c .before .before .before .before .before .before .before .spells in
+    let c-if2 = c .before .before .before .before .before .before .if2 in
+    let c-lower = c .before .before .before .before .lower in
+    let c-args = c .before .before .before .before .before .before .before .before .before .before .before .args in
+    let c-match = c .match in
+    let c-if3 = c .before .before .if3 in
+    let c-if4 = c .before .if4 in
+    told-register (rw (register-digit _ (c-if1 .left) (sym (c-spells .ensures) ∙ c-if2 .left), ← c-lower .ensures, lower-below (getD (c-args .name .now) 1 0) (omega arith), c-match .keys2) (simp (le-leb 48 (getD (c-args .name .now) 1 0) (c-if3 .left), le-leb (getD (c-args .name .now) 1 0) 55 (c-if4 .left))))
+
+returns-7 : tie.Need-returns-7
+returns-7 c =
+    let c-if1 = c .before .before .before .before .before .before .before .before .before .if1 in
+    let c-spells = c .before .before .before .before .before .before .before .spells in
+    let c-if2 = c .before .before .before .before .before .before .if2 in
+    let c-lower = c .before .before .before .before .lower in
+    let c-args = c .before .before .before .before .before .before .before .before .before .before .before .args in
+    let c-if3 = c .before .before .if3 in
+    let c-if4 = c .before .if4 in
+    let c-match = c .match in
+    told-register (rw (register-digit _ (c-if1 .left) (sym (c-spells .ensures) ∙ c-if2 .left), ← c-lower .ensures, lower-below (getD (c-args .name .now) 1 0) (omega arith)) (simp (le-leb 48 (getD (c-args .name .now) 1 0) (c-if3 .left), le-leb (getD (c-args .name .now) 1 0) 55 (c-if4 .left), ne-eqb _ 100 (c-match .rest .0 .1), ne-eqb _ 97 (c-match .rest .1))))
 
 pub parse-spec : {M : Type 1} → statement M
 parse-spec =
     tie.close
     (tie.spec
     returns
+    slice-aggregate-spells
+    spells-requires
+    returns-2
     shared-slice-read-lower
     lower-requires
-    shared-slice-read-data-register
-    data-register-requires
-    shared-slice-read-address-register
-    address-register-requires
-    shared-slice-read-stack-pointer
-    stack-pointer-requires
-    returns-2
+    shared-slice-read-digit
     returns-3
     returns-4
-    returns-5)
+    add-t16
+    returns-5
+    returns-6
+    returns-7)
