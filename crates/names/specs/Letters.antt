@@ -5,7 +5,7 @@ use mathlib.Core.List.{List, [], _∷_}
 use Prim.Native.Char.{code}
 use Prim.Native.String.{String}
 use Prim.Native.String as S
-use Prim.Native.Nat.{ℕ, _+_, _≤_}
+use Prim.Native.Nat.{ℕ, _+_}
 use lib.Dec.{leb, eqb}
 use Rattle.names.specs.Choice.{pick, both}
 
@@ -17,11 +17,6 @@ bytes (S._∷_ c cs) = code c ∷ bytes cs
 -- a letter in small, as Rust's `to_ascii_lowercase`: A to Z are 65 to 90
 unfoldable pub lower : ℕ → ℕ
 lower c = pick (both (leb 65 c) (leb c 90)) (c + 32) c
-
--- a to z, what a letter of a name is compared with
-pub record SmallLetter (c : ℕ) : Type 0 where
-  pub from : 97 ≤ c
-  pub to : c ≤ 122
 
 unfoldable pub lowered : List ℕ → List ℕ
 lowered [] = []

@@ -1,7 +1,8 @@
 // Names are matched letter by letter, whatever their case; no lowered copy of a name is made.
 ghost use mathlib.Core.Path.{_≡_};
+ghost use Prim.Native.Nat.{_≤_};
 ghost use lib.Dec.{eqb};
-ghost use Rattle.names.specs.Letters.{SmallLetter, lower, spelled};
+ghost use Rattle.names.specs.Letters.{lower, spelled};
 
 // The small letter of a letter, and any other byte itself.
 pub(crate) fn lower(byte: u8) -> u8
@@ -18,7 +19,7 @@ pub(crate) fn lower(byte: u8) -> u8
 
 // Whether a byte is this small letter or its capital, compared where it stands.
 pub(crate) fn is_letter(byte: u8, letter: u8) -> bool
-    requires { ⌜ SmallLetter letter ⌝ }
+    requires { ⌜ (97 ≤ letter) × (letter ≤ 122) ⌝ }
     ensures { λ r. ⌜ r ≡ eqb (lower byte) letter ⌝ }
 {
     if byte == letter {

@@ -8,7 +8,7 @@ use native.Mathlib.Omega.{arith}
 use borrow.Author.Tests.{eq-eqb, ne-eqb, eqb-true, eqb-false, leb-false}
 use lib.Dec.{leb, eqb}
 use lib.ListN.{length, getD, drop, drop-of-length-le}
-use Rattle.names.specs.Letters.{SmallLetter, lower, lowered, same, spelled}
+use Rattle.names.specs.Letters.{lower, lowered, same, spelled}
 use Rattle.names.specs.Laws.{differ}
 use Rattle.names.proofs.tokens.Lists.{from}
 
@@ -35,12 +35,12 @@ unfolding spelled same lowered
 spelled-end w n i a b = rw (drop-of-length-le w b, drop-of-length-le n a)
 
 -- a byte that is not this small letter is its capital just where it is 32 below
-pub letter-capital : (c l : ℕ) → SmallLetter l → (c ≡ l → ⊥) → eqb c (l - 32) ≡ eqb (lower c) l
+pub letter-capital : (c l : ℕ) → (97 ≤ l) × (l ≤ 122) → (c ≡ l → ⊥) → eqb c (l - 32) ≡ eqb (lower c) l
 unfolding lower
 letter-capital c l s h = go (leb 65 c) refl (leb c 90) refl
   where
-    small : (x : ℕ) → x ≡ c → (c ≡ l - 32 → ⊥) → eqb c (l - 32) ≡ eqb x l
-    small x e g = ne-eqb c (l - 32) g ∙ sym (ne-eqb x l (λ f. h (sym e ∙ f)))
+    neither : (c ≡ l - 32 → ⊥) → eqb c (l - 32) ≡ eqb c l
+    neither g = ne-eqb c (l - 32) g ∙ sym (ne-eqb c l h)
 
     go : (a : Bool) → leb 65 c ≡ a → (b : Bool) → leb c 90 ≡ b → eqb c (l - 32) ≡ eqb (lower c) l
     go true p true q = simp (p, q) (capital (eqb c (l - 32)) refl)
@@ -48,8 +48,8 @@ letter-capital c l s h = go (leb 65 c) refl (leb c 90) refl
         capital : (b : Bool) → eqb c (l - 32) ≡ b → b ≡ eqb (c + 32) l
         capital true e = sym (eq-eqb (c + 32) l (omega (arith, eqb-true c (l - 32) e)))
         capital false e = sym (ne-eqb (c + 32) l (λ f. eqb-false c (l - 32) e (omega arith)))
-    go true p false q = simp (p, q) (small c refl (λ e. omega (arith, leb-false c 90 q)))
-    go false p b q = simp p (small c refl (λ e. omega (arith, leb-false 65 c p)))
+    go true p false q = simp (p, q) (neither (λ e. omega (arith, leb-false c 90 q)))
+    go false p b q = simp p (neither (λ e. omega (arith, leb-false 65 c p)))
 
 -- k letters from place i on, in small
 abbrev pub letters : ℕ → ℕ → List ℕ → List ℕ

@@ -14,7 +14,7 @@ returns : tie.Need-returns
 returns c =
     let c-if1 = c .if1 in
     let c-pre = c .before .pre in
-    sym (eq-eqb _ _ (lower-above _ (omega (arith, c-if1 .taken, c-pre .from)) ∙ c-if1 .taken))
+    sym (eq-eqb _ _ (lower-above _ (omega (arith, c-if1 .taken, c-pre .0)) ∙ c-if1 .taken))
 
 sub-result : tie.Need-sub-result
 sub-result c = search needs
