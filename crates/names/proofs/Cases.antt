@@ -10,7 +10,7 @@ use borrow.Author.Tests.{eqb-true, ne-eqb, le-leb, lt-leb, leb-true, leb-false}
 use lib.Dec.{leb, ltb, eqb}
 use lib.ListN.{drop}
 use Rattle.names.specs.Choice.{pick, both}
-use Rattle.names.specs.Laws.{pick-both, both-false}
+use Rattle.names.specs.Laws.{pick-same, both-false}
 use Rattle.names.specs.Letters.{bytes, lower, lowered, same}
 use Rattle.names.specs.Registers.{pair, register, registerOf, numbered, specialNames, specialOf, suppressing, suppressed, suppressedOf}
 use Rattle.names.specs.Sizes.{letterSize, sizeOf}
@@ -129,7 +129,7 @@ pair-place c d = data-bank (eqb c 100) refl
 
     stack : (b : Bool) → eqb c 115 ≡ b → eqb c 100 ≡ false → eqb c 97 ≡ false → registerNumber (pair c d) ≡ lettered (c ∷ d ∷ [])
     stack true q x y = rw (eqb-true c 115 q) (stacked (eqb d 112))
-    stack false q x y = simp (q, x, y) (ap registerNumber (pick-both (both (leb 48 d) (leb d 55)) Reg.Not))
+    stack false q x y = simp (q, x, y) (ap registerNumber (pick-same (both (leb 48 d) (leb d 55)) Reg.Not))
 
     address : (b : Bool) → eqb c 97 ≡ b → eqb c 100 ≡ false → registerNumber (pair c d) ≡ lettered (c ∷ d ∷ [])
     address true q x =
@@ -180,7 +180,7 @@ pair-based c d = address (eqb c 97) refl
 
     stack : (b : Bool) → eqb c 115 ≡ b → eqb c 100 ≡ false → eqb c 97 ≡ false → asBase (pair c d) ≡ based (c ∷ d ∷ [])
     stack true q x y = rw (eqb-true c 115 q) (stacked (eqb d 112))
-    stack false q x y = simp (q, x, y) (ap asBase (pick-both (both (leb 48 d) (leb d 55)) Reg.Not))
+    stack false q x y = simp (q, x, y) (ap asBase (pick-same (both (leb 48 d) (leb d 55)) Reg.Not))
 
     data-bank : (b : Bool) → eqb c 100 ≡ b → eqb c 97 ≡ false → asBase (pair c d) ≡ based (c ∷ d ∷ [])
     data-bank true q y = rw (eqb-true c 100 q) (no-base (leb d 55) refl)

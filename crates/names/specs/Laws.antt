@@ -14,9 +14,9 @@ use Rattle.names.specs.Letters.{same}
 pub true-false : true ≡ false → ⊥
 true-false z = let y : _≡_ {A = ℕ} 0 1 = cc in omega arith
 
-pub pick-both : {A : Type 0} (b : Bool) (a : A) → pick b a a ≡ a
-pick-both true a = refl
-pick-both false a = refl
+pub pick-same : {A : Type 0} (b : Bool) (a : A) → pick b a a ≡ a
+pick-same true a = refl
+pick-same false a = refl
 
 -- ---- both
 

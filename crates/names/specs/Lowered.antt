@@ -1,11 +1,11 @@
--- Names whatever their case: what a name is, its small letters are.
+-- A name and its small letters are the same register, program counter, special or suppressed register, reserved name.
 -- Assumes nothing.
 use mathlib.Core.Path.{_≡_, refl, ap, ap₂}
 use mathlib.Core.Bool.{Bool, true, false}
 use mathlib.Core.List.{List, [], _∷_}
 use Prim.Native.Nat.{ℕ, _+_, _≤_, _<_}
 use native.Mathlib.Omega.{arith}
-use borrow.Author.Tests.{leb-true, lt-leb}
+use borrow.Author.Tests.{leb-true, leb-false, le-leb, lt-leb}
 use lib.Dec.{leb}
 use Rattle.names.specs.Choice.{pick, both}
 use Rattle.names.specs.Laws.{both-false}
@@ -14,15 +14,20 @@ use Rattle.names.specs.Registers.{register, registerOf, programCounter, 
 
 -- ---- letters
 
--- what is no capital stays
+-- A to Z are raised by 32, all else stays
 pub lower-below : (c : ℕ) → c < 65 → lower c ≡ c
 unfolding lower
 lower-below c h = simp (lt-leb 65 c h)
+
+pub lower-capital : (c : ℕ) → 65 ≤ c → c ≤ 90 → lower c ≡ c + 32
+unfolding lower
+lower-capital c h g = simp (le-leb 65 c h, le-leb c 90 g)
 
 pub lower-above : (c : ℕ) → 90 < c → lower c ≡ c
 unfolding lower
 lower-above c h = simp (lt-leb c 90 h, both-false)
 
+-- so no byte is lowered into a digit
 pub lower-rises : (c : ℕ) → c ≤ lower c
 unfolding lower
 lower-rises c = go (both (leb 65 c) (leb c 90))
@@ -32,13 +37,12 @@ lower-rises c = go (both (leb 65 c) (leb c 90))
     go false = omega arith
 
 lower-twice : (c : ℕ) → lower (lower c) ≡ lower c
-unfolding lower
 lower-twice c = go (leb 65 c) refl (leb c 90) refl
   where
     go : (a : Bool) → leb 65 c ≡ a → (b : Bool) → leb c 90 ≡ b → lower (lower c) ≡ lower c
-    go true p true q = simp (p, q) (lower-above (c + 32) (omega (arith, leb-true 65 c p)))
-    go true p false q = simp (p, q)
-    go false p b q = simp p
+    go true p true q = rw (lower-capital c (leb-true 65 c p) (leb-true c 90 q)) (lower-above (c + 32) (omega (arith, leb-true 65 c p)))
+    go true p false q = ap lower (lower-above c (leb-false c 90 q))
+    go false p b q = ap lower (lower-below c (leb-false 65 c p))
 
 -- ---- names
 

@@ -10,7 +10,7 @@ use borrow.Author.Tests.{eqb-true, ne-eqb, leb-true, leb-false}
 use lib.Dec.{leb, eqb}
 use Rattle.names.specs.Choice.{pick, both, either}
 use Rattle.names.specs.Letters.{bytes, lowered, same, spelled}
-use Rattle.names.specs.Laws.{pick-both, both-false, either-assoc}
+use Rattle.names.specs.Laws.{pick-same, both-false, either-assoc}
 use Rattle.names.specs.Registers.{pair, register, registerOf, programCounter, numbered, specialNames, specialOf, oneOf, reserved}
 use Rattle.names.specs.declared.registers.Reg.{Reg}
 use Rattle.names.specs.declared.registers.SpecialRegister.{SpecialRegister}
@@ -109,7 +109,7 @@ unfolding oneOf same pair
 pairs c d = data-bank (eqb c 100) refl
   where
     other : eqb c 100 ≡ false → eqb c 97 ≡ false → eqb c 115 ≡ false → oneOf registerNames (c ∷ d ∷ []) ≡ isRegister (pair c d)
-    other x y z = simp (x, y, z) (sym (ap isRegister (pick-both (both (leb 48 d) (leb d 55)) Reg.Not)))
+    other x y z = simp (x, y, z) (sym (ap isRegister (pick-same (both (leb 48 d) (leb d 55)) Reg.Not)))
 
     stack : (b : Bool) → eqb c 115 ≡ b → eqb c 100 ≡ false → eqb c 97 ≡ false → oneOf registerNames (c ∷ d ∷ []) ≡ isRegister (pair c d)
     stack true q x y = rw (eqb-true c 115 q) (stacked (eqb d 112))

@@ -18,7 +18,7 @@ pub(crate) fn lower(byte: u8) -> u8
 }
 
 // Whether a byte is this small letter or its capital, compared where it stands.
-pub(crate) fn is_letter(byte: u8, letter: u8) -> bool
+pub(crate) fn eq_ignore_case(byte: u8, letter: u8) -> bool
     requires { ⌜ (97 ≤ letter) × (letter ≤ 122) ⌝ }
     ensures { λ r. ⌜ r ≡ eqb (lower byte) letter ⌝ }
 {

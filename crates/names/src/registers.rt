@@ -1,15 +1,19 @@
 // Registers by name. A register is its mask index: d0 to d7 are 0 to 7, a0 to a7 are 8 to 15, and `sp` is a7.
-use crate::letters::is_letter;
+use crate::letters::eq_ignore_case;
 use crate::letters::lower;
 use crate::letters::spells;
 use crate::tokens::behind_first;
 ghost use mathlib.Core.Path.{_≡_};
+ghost use lib.Dec.{eqb};
 ghost use lib.ListN.{length};
 ghost use Rattle.names.specs.Choice.{pick};
-ghost use Rattle.names.specs.Letters.{spelled};
+ghost use Rattle.names.specs.Letters.{lower, spelled};
 ghost use Rattle.names.specs.Registers.{programCounter, specialOf, reserved};
 ghost use Rattle.names.specs.Cases.{RegisterTold, SpecialTold, SuppressedTold};
 ghost use Rattle.names.specs.declared.registers.SpecialRegister.{SpecialRegister};
+
+// The first register of no bank.
+const NO_BANK: u8 = 16;
 
 pub enum Reg {
     Is(u8),
@@ -29,8 +33,19 @@ pub enum Suppressed {
     Not,
 }
 
+// The first register of the bank that a letter stands for: d0, a0 or none.
+fn bank(letter: u8) -> u8
+    ensures { λ r. ⌜ r ≡ pick (eqb (lower letter) 100) 0 (pick (eqb (lower letter) 97) 8 16) ⌝ }
+{
+    match lower(letter) {
+        b'd' => 0,
+        b'a' => 8,
+        _ => NO_BANK,
+    }
+}
+
 impl Reg {
-    // As in the Rust: `sp`, or a bank's letter and a digit. A digit has no capital, so it is compared as it stands.
+    // As in the Rust: `sp`, or a bank's letter, then a digit. A digit has no capital, so it is compared as it stands.
     pub fn parse(name: &[u8]) -> Reg
         ensures { λ r. ⌜ RegisterTold (now (name .entry)) r ⌝ }
     {
@@ -40,7 +55,7 @@ impl Reg {
         if spells(name, b"sp") {
             return Reg::Is(15);
         }
-        let bank = lower(name[0]);
+        let first = bank(name[0]);
         let digit = name[1];
         if digit < b'0' {
             return Reg::Not;
@@ -48,11 +63,10 @@ impl Reg {
         if b'7' < digit {
             return Reg::Not;
         }
-        match bank {
-            b'd' => Reg::Is(digit - b'0'),
-            b'a' => Reg::Is(digit - b'0' + 8),
-            _ => Reg::Not,
+        if first == NO_BANK {
+            return Reg::Not;
         }
+        Reg::Is(digit - b'0' + first)
     }
 }
 
@@ -95,33 +109,45 @@ fn of_four(name: &[u8]) -> SpecialRegister
     requires { ⌜ length (now name) ≡ 4 ⌝ }
     ensures { λ r. ⌜ r ≡ specialOf (now (name .entry)) ⌝ }
 {
-    if !is_letter(name[0], b'c') {
+    if !eq_ignore_case(name[0], b'c') {
         return SpecialRegister::Not;
     }
-    if !is_letter(name[1], b'a') {
+    if !eq_ignore_case(name[1], b'a') {
         return SpecialRegister::Not;
     }
-    if !is_letter(name[3], b'r') {
+    if !eq_ignore_case(name[3], b'r') {
         return SpecialRegister::Not;
     }
-    match lower(name[2]) {
-        b'c' => SpecialRegister::Is(7),
-        b'a' => SpecialRegister::Is(8),
+    if eq_ignore_case(name[2], b'c') {
+        return SpecialRegister::Is(7);
+    }
+    if eq_ignore_case(name[2], b'a') {
+        return SpecialRegister::Is(8);
+    }
+    SpecialRegister::Not
+}
+
+// By its length, its first letter and then the rest, in place: no more than four letters are looked at.
+fn by_length(name: &[u8]) -> SpecialRegister
+    ensures { λ r. ⌜ r ≡ specialOf (now (name .entry)) ⌝ }
+{
+    match name.len() {
+        2 => if_spelled(name, b"sr", 1),
+        3 => of_three(name),
+        4 => of_four(name),
         _ => SpecialRegister::Not,
     }
 }
 
 impl SpecialRegister {
-    // By its length, its first letter and then the rest, in place: no more than four letters are looked at.
+    // Most names are longer labels: they are left without a call.
     pub fn parse(name: &[u8]) -> SpecialRegister
         ensures { λ r. ⌜ SpecialTold (now (name .entry)) r ⌝ }
     {
-        match name.len() {
-            2 => if_spelled(name, b"sr", 1),
-            3 => of_three(name),
-            4 => of_four(name),
-            _ => SpecialRegister::Not,
+        if 4 < name.len() {
+            return SpecialRegister::Not;
         }
+        by_length(name)
     }
 }
 
@@ -131,7 +157,7 @@ pub fn suppressed_register(name: &[u8]) -> Suppressed
     if name.len() == 0 {
         return Suppressed::Not;
     }
-    if !is_letter(name[0], b'z') {
+    if !eq_ignore_case(name[0], b'z') {
         return Suppressed::Not;
     }
     let rest = behind_first(name);
@@ -145,7 +171,7 @@ pub fn suppressed_register(name: &[u8]) -> Suppressed
     }
 }
 
-// Whether a name is one of the 28 that no symbol may have. None is longer than four letters.
+// Whether a name is one of the 28 that no symbol may have. None has more than four letters, so a label is mostly left at once.
 pub fn is_reserved_name(name: &[u8]) -> bool
     ensures { λ r. ⌜ r ≡ reserved (now (name .entry)) ⌝ }
 {
@@ -159,7 +185,7 @@ pub fn is_reserved_name(name: &[u8]) -> bool
     if is_program_counter(name) {
         return true;
     }
-    let special = SpecialRegister::parse(name);
+    let special = by_length(name);
     match special {
         SpecialRegister::Is(_) => true,
         SpecialRegister::Not => false,

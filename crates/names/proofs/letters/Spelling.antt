@@ -5,11 +5,12 @@ use mathlib.Core.Bool.{Bool, true, false}
 use mathlib.Core.List.{List, [], _∷_}
 use Prim.Native.Nat.{ℕ, zero, suc, _+_, _-_, _≤_, _<_}
 use native.Mathlib.Omega.{arith}
-use borrow.Author.Tests.{eq-eqb, ne-eqb, eqb-true, eqb-false, leb-false}
+use borrow.Author.Tests.{eq-eqb, ne-eqb, eqb-true, eqb-false, leb-true, leb-false}
 use lib.Dec.{leb, eqb}
 use lib.ListN.{length, getD, drop, drop-of-length-le}
 use Rattle.names.specs.Letters.{lower, lowered, same, spelled}
 use Rattle.names.specs.Laws.{differ}
+use Rattle.names.specs.Lowered.{lower-below, lower-above, lower-capital}
 use Rattle.names.proofs.tokens.Lists.{from}
 
 pub length-lowered : (n : List ℕ) → length (lowered n) ≡ length n
@@ -34,22 +35,22 @@ pub spelled-end : (w n : List ℕ) (i : ℕ) → length n ≤ i → length w ≤
 unfolding spelled same lowered
 spelled-end w n i a b = rw (drop-of-length-le w b, drop-of-length-le n a)
 
--- a byte that is not this small letter is its capital just where it is 32 below
+-- what is not this small letter is its capital just where it is 32 below it
 pub letter-capital : (c l : ℕ) → (97 ≤ l) × (l ≤ 122) → (c ≡ l → ⊥) → eqb c (l - 32) ≡ eqb (lower c) l
-unfolding lower
 letter-capital c l s h = go (leb 65 c) refl (leb c 90) refl
   where
-    neither : (c ≡ l - 32 → ⊥) → eqb c (l - 32) ≡ eqb c l
-    neither g = ne-eqb c (l - 32) g ∙ sym (ne-eqb c l h)
+    -- what is no capital
+    stays : lower c ≡ c → (c ≡ l - 32 → ⊥) → eqb c (l - 32) ≡ eqb (lower c) l
+    stays e g = ne-eqb c (l - 32) g ∙ sym (rw e (ne-eqb c l h))
 
     go : (a : Bool) → leb 65 c ≡ a → (b : Bool) → leb c 90 ≡ b → eqb c (l - 32) ≡ eqb (lower c) l
-    go true p true q = simp (p, q) (capital (eqb c (l - 32)) refl)
+    go true p true q = rw (lower-capital c (leb-true 65 c p) (leb-true c 90 q)) (raised (eqb c (l - 32)) refl)
       where
-        capital : (b : Bool) → eqb c (l - 32) ≡ b → b ≡ eqb (c + 32) l
-        capital true e = sym (eq-eqb (c + 32) l (omega (arith, eqb-true c (l - 32) e)))
-        capital false e = sym (ne-eqb (c + 32) l (λ f. eqb-false c (l - 32) e (omega arith)))
-    go true p false q = simp (p, q) (neither (λ e. omega (arith, leb-false c 90 q)))
-    go false p b q = simp p (neither (λ e. omega (arith, leb-false 65 c p)))
+        raised : (b : Bool) → eqb c (l - 32) ≡ b → b ≡ eqb (c + 32) l
+        raised true e = sym (eq-eqb (c + 32) l (omega (arith, eqb-true c (l - 32) e)))
+        raised false e = sym (ne-eqb (c + 32) l (λ f. eqb-false c (l - 32) e (omega arith)))
+    go true p false q = stays (lower-above c (leb-false c 90 q)) (λ e. omega (arith, leb-false c 90 q))
+    go false p b q = stays (lower-below c (leb-false 65 c p)) (λ e. omega (arith, leb-false 65 c p))
 
 -- k letters from place i on, in small
 abbrev pub letters : ℕ → ℕ → List ℕ → List ℕ
@@ -61,3 +62,7 @@ pub lowered-letters : (n : List ℕ) (i k : ℕ) → length n ≡ i + k → lowe
 unfolding lowered
 lowered-letters n i zero h = rw (drop-of-length-le n {i = i} (omega arith))
 lowered-letters n i (suc k) h = rw (from n i (omega arith)) (ap (_∷_ (lower (getD n i 0))) (lowered-letters n (i + 1) k (omega arith)))
+
+pub spelled-letters : (w n : List ℕ) (i k : ℕ) → length n ≡ i + k → spelled w (drop i n) ≡ same (letters i k n) w
+unfolding spelled
+spelled-letters w n i k h = ap (λ l. same l w) (lowered-letters n i k h)

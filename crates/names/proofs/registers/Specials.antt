@@ -1,4 +1,4 @@
--- Special registers by the length of the name.
+-- Special registers and reserved names by the length of the name.
 -- Assumes nothing.
 use mathlib.Core.Path.{_≡_, refl, ap}
 use mathlib.Core.Bool.{false}
@@ -17,10 +17,6 @@ use Rattle.names.proofs.registers.Pairs.{register-not}
 pub special-letters : (n : List ℕ) (k : ℕ) → length n ≡ k → specialOf n ≡ numbered 1 specialNames (letters 0 k n)
 unfolding specialOf
 special-letters n k h = ap (numbered 1 specialNames) (lowered-letters n 0 k (omega arith))
-
-pub spelled-letters : (w n : List ℕ) (i k : ℕ) → length n ≡ i + k → spelled w (drop i n) ≡ same (letters i k n) w
-unfolding spelled
-spelled-letters w n i k h = ap (λ l. same l w) (lowered-letters n i k h)
 
 -- no special register has another length
 pub special-other : (n : List ℕ) → (length n ≡ 2 → ⊥) → (length n ≡ 3 → ⊥) → (length n ≡ 4 → ⊥) → specialOf n ≡ SpecialRegister.Not

@@ -39,8 +39,8 @@ returns-3 c =
     let c-if2 = c .if2 in
     rw (reserved-rule, sym (c-parse .ensures .register) ∙ c-enum-told2 .given .1, sym (c-is-program-counter .ensures) ∙ c-if2 .taken)
 
-parse-requires-2 : tie.Need-parse-requires-2
-parse-requires-2 c κs = search needs
+by-length-requires : tie.Need-by-length-requires
+by-length-requires c κs = search needs
 
 enum-told-3 : tie.Need-enum-told-3
 enum-told-3 c = search needs
@@ -54,9 +54,9 @@ returns-4 c =
     let c-enum-told2 = c .before .before .before .before .before .enum-told2 in
     let c-is-program-counter = c .before .before .before .before .is-program-counter in
     let c-if2 = c .before .before .before .if2 in
-    let c-parse2 = c .before .before .parse2 in
+    let c-by-length = c .before .before .by-length in
     let c-enum-told3 = c .enum-told3 in
-    rw (reserved-rule, sym (c-parse .ensures .register) ∙ c-enum-told2 .given .1, sym (c-is-program-counter .ensures) ∙ c-if2 .left, sym (c-parse2 .ensures .special) ∙ c-enum-told3 .given .1)
+    rw (reserved-rule, sym (c-parse .ensures .register) ∙ c-enum-told2 .given .1, sym (c-is-program-counter .ensures) ∙ c-if2 .left, sym (c-by-length .ensures) ∙ c-enum-told3 .given .1)
 
 returns-5 : tie.Need-returns-5
 returns-5 c =
@@ -64,9 +64,9 @@ returns-5 c =
     let c-enum-told2 = c .before .before .before .before .before .enum-told2 in
     let c-is-program-counter = c .before .before .before .before .is-program-counter in
     let c-if2 = c .before .before .before .if2 in
-    let c-parse2 = c .before .before .parse2 in
+    let c-by-length = c .before .before .by-length in
     let c-enum-told4 = c .enum-told4 in
-    rw (reserved-rule, sym (c-parse .ensures .register) ∙ c-enum-told2 .given .1, sym (c-is-program-counter .ensures) ∙ c-if2 .left, sym (c-parse2 .ensures .special) ∙ c-enum-told4 .given .1)
+    rw (reserved-rule, sym (c-parse .ensures .register) ∙ c-enum-told2 .given .1, sym (c-is-program-counter .ensures) ∙ c-if2 .left, sym (c-by-length .ensures) ∙ c-enum-told4 .given .1)
 
 pub is-reserved-name-spec : {M : Type 1} → statement M
 is-reserved-name-spec =
@@ -79,7 +79,7 @@ is-reserved-name-spec =
     enum-told-2
     is-program-counter-requires
     returns-3
-    parse-requires-2
+    by-length-requires
     enum-told-3
     enum-told-4
     returns-4

@@ -5,7 +5,8 @@ use borrow.Author.Tests.{ne-eqb}
 use Rattle.names.specs.Laws.{both-false}
 use Rattle.names.specs.Letters.{same}
 use Rattle.names.specs.Registers.{numbered}
-use Rattle.names.proofs.registers.Specials.{special-letters, spelled-letters}
+use Rattle.names.proofs.letters.Spelling.{spelled-letters}
+use Rattle.names.proofs.registers.Specials.{special-letters}
 use borrow.Author.Needs.{needs}
 use Rattle.names.proofs.registers.of_three.Statement.{statement}
 use Rattle.names.proofs.registers.of_three.Tie as tie

@@ -15,18 +15,18 @@ returns c =
     let c-if1 = c .if1 in
     told-suppressed (sym (suppressed-none _ (c-if1 .taken)))
 
-shared-slice-read-is-letter : tie.Need-shared-slice-read-is-letter
-shared-slice-read-is-letter c = search needs
+shared-slice-read-eq-ignore-case : tie.Need-shared-slice-read-eq-ignore-case
+shared-slice-read-eq-ignore-case c = search needs
 
-is-letter-requires : tie.Need-is-letter-requires
-is-letter-requires c κs = search needs
+eq-ignore-case-requires : tie.Need-eq-ignore-case-requires
+eq-ignore-case-requires c κs = search needs
 
 returns-2 : tie.Need-returns-2
 returns-2 c =
     let c-if1 = c .before .before .before .if1 in
-    let c-is-letter = c .before .is-letter in
+    let c-eq-ignore-case = c .before .eq-ignore-case in
     let c-if2 = c .if2 in
-    told-suppressed (rw (suppressed-some _ (c-if1 .left), sym (c-is-letter .ensures) ∙ not-true _ (c-if2 .taken)))
+    told-suppressed (rw (suppressed-some _ (c-if1 .left), sym (c-eq-ignore-case .ensures) ∙ not-true _ (c-if2 .taken)))
 
 behind-first-requires : tie.Need-behind-first-requires
 behind-first-requires c κs = search needs
@@ -37,12 +37,12 @@ is-program-counter-requires c κs = search needs
 returns-3 : tie.Need-returns-3
 returns-3 c =
     let c-if1 = c .before .before .before .before .before .before .if1 in
-    let c-is-letter = c .before .before .before .before .is-letter in
+    let c-eq-ignore-case = c .before .before .before .before .eq-ignore-case in
     let c-if2 = c .before .before .before .if2 in
     let c-behind-first = c .before .before .behind-first in
     let c-is-program-counter = c .before .is-program-counter in
     let c-if3 = c .if3 in
-    told-suppressed (rw (suppressed-some _ (c-if1 .left), sym (c-is-letter .ensures) ∙ not-false _ (c-if2 .left), ← c-behind-first .ensures, ← c-is-program-counter .ensures, c-if3 .taken))
+    told-suppressed (rw (suppressed-some _ (c-if1 .left), sym (c-eq-ignore-case .ensures) ∙ not-false _ (c-if2 .left), ← c-behind-first .ensures, ← c-is-program-counter .ensures, c-if3 .taken))
 
 parse-requires : tie.Need-parse-requires
 parse-requires c κs = search needs
@@ -57,35 +57,35 @@ returns-4 : tie.Need-returns-4
 unfolding suppressing
 returns-4 c =
     let c-if1 = c .before .before .before .before .before .before .before .before .before .before .if1 in
-    let c-is-letter = c .before .before .before .before .before .before .before .before .is-letter in
+    let c-eq-ignore-case = c .before .before .before .before .before .before .before .before .eq-ignore-case in
     let c-if2 = c .before .before .before .before .before .before .before .if2 in
     let c-behind-first = c .before .before .before .before .before .before .behind-first in
     let c-is-program-counter = c .before .before .before .before .before .is-program-counter in
     let c-if3 = c .before .before .before .before .if3 in
     let c-parse = c .before .before .before .parse in
     let c-register = c .before .register in
-    told-suppressed (rw (suppressed-some _ (c-if1 .left), sym (c-is-letter .ensures) ∙ not-false _ (c-if2 .left), ← c-behind-first .ensures, ← c-is-program-counter .ensures, c-if3 .left, ← c-parse .ensures .register, c-register .given .1))
+    told-suppressed (rw (suppressed-some _ (c-if1 .left), sym (c-eq-ignore-case .ensures) ∙ not-false _ (c-if2 .left), ← c-behind-first .ensures, ← c-is-program-counter .ensures, c-if3 .left, ← c-parse .ensures .register, c-register .given .1))
 
 returns-5 : tie.Need-returns-5
 unfolding suppressing
 returns-5 c =
     let c-if1 = c .before .before .before .before .before .before .before .before .before .if1 in
-    let c-is-letter = c .before .before .before .before .before .before .before .is-letter in
+    let c-eq-ignore-case = c .before .before .before .before .before .before .before .eq-ignore-case in
     let c-if2 = c .before .before .before .before .before .before .if2 in
     let c-behind-first = c .before .before .before .before .before .behind-first in
     let c-is-program-counter = c .before .before .before .before .is-program-counter in
     let c-if3 = c .before .before .before .if3 in
     let c-parse = c .before .before .parse in
     let c-enum-told = c .enum-told in
-    told-suppressed (rw (suppressed-some _ (c-if1 .left), sym (c-is-letter .ensures) ∙ not-false _ (c-if2 .left), ← c-behind-first .ensures, ← c-is-program-counter .ensures, c-if3 .left, ← c-parse .ensures .register, c-enum-told .given .1))
+    told-suppressed (rw (suppressed-some _ (c-if1 .left), sym (c-eq-ignore-case .ensures) ∙ not-false _ (c-if2 .left), ← c-behind-first .ensures, ← c-is-program-counter .ensures, c-if3 .left, ← c-parse .ensures .register, c-enum-told .given .1))
 
 pub suppressed-register-spec : {M : Type 1} → statement M
 suppressed-register-spec =
     tie.close
     (tie.spec
     returns
-    shared-slice-read-is-letter
-    is-letter-requires
+    shared-slice-read-eq-ignore-case
+    eq-ignore-case-requires
     returns-2
     behind-first-requires
     is-program-counter-requires

@@ -2,58 +2,25 @@
 -- Assumes nothing.
 -- Written by tools/proof.py from the answers of the same path: change those, not this file.
 use mathlib.Core.Path.{sym}
-use Rattle.names.specs.Laws.{both-false}
-use Rattle.names.specs.Letters.{same}
-use Rattle.names.specs.Registers.{numbered}
+use native.Mathlib.Omega.{arith}
 use Rattle.names.proofs.Cases.{told-special}
-use Rattle.names.proofs.registers.Specials.{special-letters, spelled-letters, special-other}
+use Rattle.names.proofs.registers.Specials.{special-other}
 use borrow.Author.Needs.{needs}
 use Rattle.names.proofs.registers.SpecialRegister.parse.Statement.{statement}
 use Rattle.names.proofs.registers.SpecialRegister.parse.Tie as tie
 
-slice-aggregate-if-spelled : tie.Need-slice-aggregate-if-spelled
-slice-aggregate-if-spelled c = search needs
-
-if-spelled-requires : tie.Need-if-spelled-requires
-if-spelled-requires c κs = search needs
-
-of-three-requires : tie.Need-of-three-requires
-of-three-requires c κs = search needs
-
-of-four-requires : tie.Need-of-four-requires
-of-four-requires c κs = search needs
-
 returns : tie.Need-returns
-unfolding numbered same
 returns c =
-    let c-if-spelled = c .if-spelled in
-    let c-match = c .before .before .match in
-    told-special (rw (c-if-spelled .ensures, spelled-letters _ _ 0 2 (c-match .keys1), special-letters _ 2 (c-match .keys1)) (simp both-false))
+    let c-if1 = c .if1 in
+    told-special (sym (special-other _ (omega (arith, c-if1 .taken)) (omega (arith, c-if1 .taken)) (omega (arith, c-if1 .taken))))
+
+by-length-requires : tie.Need-by-length-requires
+by-length-requires c κs = search needs
 
 returns-2 : tie.Need-returns-2
 returns-2 c =
-    let c-of-three = c .of-three in
-    told-special (c-of-three .ensures)
-
-returns-3 : tie.Need-returns-3
-returns-3 c =
-    let c-of-four = c .of-four in
-    told-special (c-of-four .ensures)
-
-returns-4 : tie.Need-returns-4
-returns-4 c =
-    let c-match = c .match in
-    told-special (sym (special-other _ (c-match .rest .0 .0 .1) (c-match .rest .0 .1) (c-match .rest .1)))
+    let c-by-length = c .by-length in
+    told-special (c-by-length .ensures)
 
 pub parse-spec : {M : Type 1} → statement M
-parse-spec =
-    tie.close
-    (tie.spec
-    slice-aggregate-if-spelled
-    if-spelled-requires
-    of-three-requires
-    of-four-requires
-    returns
-    returns-2
-    returns-3
-    returns-4)
+parse-spec = tie.close (tie.spec returns by-length-requires returns-2)

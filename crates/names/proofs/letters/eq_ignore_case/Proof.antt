@@ -1,4 +1,4 @@
--- `names::letters::is_letter` meets its contract.
+-- `names::letters::eq_ignore_case` meets its contract.
 -- Assumes nothing.
 -- Written by tools/proof.py from the answers of the same path: change those, not this file.
 use mathlib.Core.Path.{sym, _∙_}
@@ -7,8 +7,8 @@ use borrow.Author.Tests.{eq-eqb}
 use Rattle.names.specs.Lowered.{lower-above}
 use Rattle.names.proofs.letters.Spelling.{letter-capital}
 use borrow.Author.Needs.{needs}
-use Rattle.names.proofs.letters.is_letter.Statement.{statement}
-use Rattle.names.proofs.letters.is_letter.Tie as tie
+use Rattle.names.proofs.letters.eq_ignore_case.Statement.{statement}
+use Rattle.names.proofs.letters.eq_ignore_case.Tie as tie
 
 returns : tie.Need-returns
 returns c =
@@ -25,5 +25,5 @@ returns-2 c =
     let c-if1 = c .if1 in
     letter-capital _ _ (c-pre) (c-if1 .left)
 
-pub is-letter-spec : {M : Type 1} → statement M
-is-letter-spec = tie.close (tie.spec returns sub-result returns-2)
+pub eq-ignore-case-spec : {M : Type 1} → statement M
+eq-ignore-case-spec = tie.close (tie.spec returns sub-result returns-2)
