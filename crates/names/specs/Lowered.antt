@@ -9,7 +9,7 @@ use borrow.Author.Tests.{leb-true, leb-false, le-leb, lt-leb}
 use lib.Dec.{leb}
 use Rattle.names.specs.Choice.{pick, both}
 use Rattle.names.specs.Laws.{both-false}
-use Rattle.names.specs.Letters.{bytes, lower, lowered, same, spelled}
+use Rattle.names.specs.Letters.{lower, lowered, same, spelled}
 use Rattle.names.specs.Registers.{register, registerOf, programCounter, numbered, specialNames, specialOf, suppressed, suppressedOf, oneOf, reservedNames, reserved}
 
 -- ---- letters
@@ -55,9 +55,13 @@ pub register-lowered : (n : List ℕ) → registerOf (lowered n) ≡ registerOf 
 unfolding registerOf
 register-lowered n = ap register (lowered-twice n)
 
+pub spelled-lowered : (w n : List ℕ) → spelled w (lowered n) ≡ spelled w n
+unfolding spelled
+spelled-lowered w n = ap (λ l. same l w) (lowered-twice n)
+
 pub counter-lowered : (n : List ℕ) → programCounter (lowered n) ≡ programCounter n
-unfolding programCounter spelled
-counter-lowered n = ap (λ l. same l (bytes "pc")) (lowered-twice n)
+unfolding programCounter
+counter-lowered n = spelled-lowered _ n
 
 pub special-lowered : (n : List ℕ) → specialOf (lowered n) ≡ specialOf n
 unfolding specialOf

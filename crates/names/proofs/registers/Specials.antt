@@ -3,11 +3,11 @@
 use mathlib.Core.Path.{_≡_, refl, ap}
 use mathlib.Core.Bool.{false}
 use mathlib.Core.List.{List, [], _∷_}
-use Prim.Native.Nat.{ℕ, _+_, _<_}
+use Prim.Native.Nat.{ℕ, _<_}
 use native.Mathlib.Omega.{arith}
-use lib.ListN.{length, drop}
+use lib.ListN.{length}
 use Rattle.names.specs.Laws.{both-false}
-use Rattle.names.specs.Letters.{bytes, lowered, same, spelled}
+use Rattle.names.specs.Letters.{bytes, lowered, same}
 use Rattle.names.specs.Registers.{programCounter, numbered, specialNames, specialOf, reserved}
 use Rattle.names.specs.Reserved.{reserved-rule}
 use Rattle.names.specs.declared.registers.SpecialRegister.{SpecialRegister}
