@@ -278,11 +278,7 @@ scan-value radix v (c ∷ cs) = go (ltb (figure c) radix) (scan-value radix (v *
 
 digits-value : (base : NumberBase) (l : List ℕ) → valueNumber (digitsOf base l) ≡ digitsValue (radixOf base) l
 unfolding digitsOf digitsValue allDigits digitsWorth
-digits-value base [] = sym (go (ltb 0 (2 ^ 63)))
-  where
-    go : (b : Bool) → _≡_ {A = ℕ} (pick b 0 0) 0
-    go true = refl
-    go false = refl
+digits-value base [] = sym (pick-same (ltb 0 (2 ^ 63)) 0)
 digits-value base (c ∷ cs) = scan-value (radixOf base) 0 (c ∷ cs)
 
 number-value : (detail : ℕ) (text : List ℕ) → valueNumber (numberOf detail text) ≡ writtenValue detail text

@@ -7,7 +7,6 @@ use Prim.Native.Nat.{ℕ, _+_, _≤_, _<_}
 use native.Mathlib.Omega.{arith}
 use borrow.Author.Tests.{leb-true, leb-false, le-leb, lt-leb}
 use lib.Dec.{leb}
-use Rattle.names.specs.Choice.{pick, both}
 use Rattle.names.specs.Laws.{both-false}
 use Rattle.names.specs.Letters.{lower, lowered, same, spelled}
 use Rattle.names.specs.Registers.{register, registerOf, programCounter, numbered, specialNames, specialOf, suppressed, suppressedOf, oneOf, reservedNames, reserved}
@@ -26,15 +25,6 @@ lower-capital c h g = simp (le-leb 65 c h, le-leb c 90 g)
 pub lower-above : (c : ℕ) → 90 < c → lower c ≡ c
 unfolding lower
 lower-above c h = simp (lt-leb c 90 h, both-false)
-
--- so no byte is lowered into a digit
-pub lower-rises : (c : ℕ) → c ≤ lower c
-unfolding lower
-lower-rises c = go (both (leb 65 c) (leb c 90))
-  where
-    go : (b : Bool) → c ≤ pick b (c + 32) c
-    go true = omega arith
-    go false = omega arith
 
 lower-twice : (c : ℕ) → lower (lower c) ≡ lower c
 lower-twice c = go (leb 65 c) refl (leb c 90) refl
@@ -55,7 +45,7 @@ pub register-lowered : (n : List ℕ) → registerOf (lowered n) ≡ registerOf 
 unfolding registerOf
 register-lowered n = ap register (lowered-twice n)
 
-pub spelled-lowered : (w n : List ℕ) → spelled w (lowered n) ≡ spelled w n
+spelled-lowered : (w n : List ℕ) → spelled w (lowered n) ≡ spelled w n
 unfolding spelled
 spelled-lowered w n = ap (λ l. same l w) (lowered-twice n)
 

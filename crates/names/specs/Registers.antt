@@ -19,6 +19,10 @@ pair bank digit =
     (pick (eqb bank 100) (Reg.Is (digit - 48)) (pick (eqb bank 97) (Reg.Is (digit - 48 + 8)) Reg.Not))
     Reg.Not)
 
+-- the first register of the bank that a small letter stands for, 16 for none
+abbrev pub bank : ℕ → ℕ
+bank c = pick (eqb c 100) 0 (pick (eqb c 97) 8 16)
+
 -- `Register::parse` of a name in small letters
 unfoldable pub register : List ℕ → Reg
 register [] = Reg.Not

@@ -17,7 +17,7 @@ pub(crate) fn lower(byte: u8) -> u8
     byte + 32
 }
 
-// Whether a byte is this small letter or its capital, compared where it stands.
+// Whether a byte is this small letter or its capital; nothing is lowered. From a to z only: 32 below `{` is no capital.
 pub(crate) fn eq_ignore_case(byte: u8, letter: u8) -> bool
     requires { ⌜ (97 ≤ letter) × (letter ≤ 122) ⌝ }
     ensures { λ r. ⌜ r ≡ eqb (lower byte) letter ⌝ }

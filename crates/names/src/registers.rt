@@ -4,15 +4,14 @@ use crate::letters::lower;
 use crate::letters::spells;
 use crate::tokens::behind_first;
 ghost use mathlib.Core.Path.{_≡_};
-ghost use lib.Dec.{eqb};
 ghost use lib.ListN.{length};
 ghost use Rattle.names.specs.Choice.{pick};
 ghost use Rattle.names.specs.Letters.{lower, spelled};
-ghost use Rattle.names.specs.Registers.{programCounter, specialOf, reserved};
+ghost use Rattle.names.specs.Registers.{bank, programCounter, specialOf, reserved};
 ghost use Rattle.names.specs.Cases.{RegisterTold, SpecialTold, SuppressedTold};
 ghost use Rattle.names.specs.declared.registers.SpecialRegister.{SpecialRegister};
 
-// The first register of no bank.
+// One more than any register.
 const NO_BANK: u8 = 16;
 
 pub enum Reg {
@@ -33,9 +32,9 @@ pub enum Suppressed {
     Not,
 }
 
-// The first register of the bank that a letter stands for: d0, a0 or none.
+// The first register of the bank that a letter stands for, d0 or a0.
 fn bank(letter: u8) -> u8
-    ensures { λ r. ⌜ r ≡ pick (eqb (lower letter) 100) 0 (pick (eqb (lower letter) 97) 8 16) ⌝ }
+    ensures { λ r. ⌜ r ≡ bank (lower letter) ⌝ }
 {
     match lower(letter) {
         b'd' => 0,
@@ -45,7 +44,7 @@ fn bank(letter: u8) -> u8
 }
 
 impl Reg {
-    // As in the Rust: `sp`, or a bank's letter, then a digit. A digit has no capital, so it is compared as it stands.
+    // `sp`, or a bank's letter and then a digit. A digit has no capital, so it is not lowered.
     pub fn parse(name: &[u8]) -> Reg
         ensures { λ r. ⌜ RegisterTold (now (name .entry)) r ⌝ }
     {
@@ -127,7 +126,7 @@ fn of_four(name: &[u8]) -> SpecialRegister
     SpecialRegister::Not
 }
 
-// By its length, its first letter and then the rest, in place: no more than four letters are looked at.
+// A special register is told by the name's length, then letter by letter in place: no more than four are looked at.
 fn by_length(name: &[u8]) -> SpecialRegister
     ensures { λ r. ⌜ r ≡ specialOf (now (name .entry)) ⌝ }
 {
@@ -140,7 +139,7 @@ fn by_length(name: &[u8]) -> SpecialRegister
 }
 
 impl SpecialRegister {
-    // Most names are longer labels: they are left without a call.
+    // Most names are labels, which are longer: they are left without a call.
     pub fn parse(name: &[u8]) -> SpecialRegister
         ensures { λ r. ⌜ SpecialTold (now (name .entry)) r ⌝ }
     {
@@ -185,6 +184,7 @@ pub fn is_reserved_name(name: &[u8]) -> bool
     if is_program_counter(name) {
         return true;
     }
+    // not `parse`: the length is known
     let special = by_length(name);
     match special {
         SpecialRegister::Is(_) => true,

@@ -1,4 +1,4 @@
--- A name against a word, letter by letter.
+-- A byte against a letter, a name against a word.
 -- Assumes nothing.
 use mathlib.Core.Path.{_≡_, refl, sym, _∙_, ap}
 use mathlib.Core.Bool.{Bool, true, false}
@@ -9,11 +9,12 @@ use borrow.Author.Tests.{eq-eqb, ne-eqb, eqb-true, eqb-false, leb-true, leb-fals
 use lib.Dec.{leb, eqb}
 use lib.ListN.{length, getD, drop, drop-of-length-le}
 use Rattle.names.specs.Letters.{lower, lowered, same, spelled}
+use Rattle.names.specs.Choice.{pick, both}
 use Rattle.names.specs.Laws.{differ}
 use Rattle.names.specs.Lowered.{lower-below, lower-above, lower-capital}
 use Rattle.names.proofs.tokens.Lists.{from}
 
-pub length-lowered : (n : List ℕ) → length (lowered n) ≡ length n
+length-lowered : (n : List ℕ) → length (lowered n) ≡ length n
 unfolding lowered
 length-lowered [] = refl
 length-lowered (c ∷ cs) = ap suc (length-lowered cs)
@@ -34,6 +35,15 @@ module _ (w n : List ℕ) (i : ℕ) (a : i < length n) (b : i < length w) where
 pub spelled-end : (w n : List ℕ) (i : ℕ) → length n ≤ i → length w ≤ i → spelled (drop i w) (drop i n) ≡ true
 unfolding spelled same lowered
 spelled-end w n i a b = rw (drop-of-length-le w b, drop-of-length-le n a)
+
+-- no byte is lowered into a smaller one, so none but a digit into a digit
+pub lower-rises : (c : ℕ) → c ≤ lower c
+unfolding lower
+lower-rises c = go (both (leb 65 c) (leb c 90))
+  where
+    go : (b : Bool) → c ≤ pick b (c + 32) c
+    go true = omega arith
+    go false = omega arith
 
 -- what is not this small letter is its capital just where it is 32 below it
 pub letter-capital : (c l : ℕ) → (97 ≤ l) × (l ≤ 122) → (c ≡ l → ⊥) → eqb c (l - 32) ≡ eqb (lower c) l

@@ -11,7 +11,7 @@ use lib.ListN.{length, getD, drop}
 use Rattle.names.specs.Choice.{pick, both}
 use Rattle.names.specs.Laws.{true-false, pick-same, same-true}
 use Rattle.names.specs.Letters.{bytes, lower, lowered, same, spelled}
-use Rattle.names.specs.Registers.{pair, register, registerOf, programCounter, suppressing, suppressed, suppressedOf}
+use Rattle.names.specs.Registers.{pair, bank, register, registerOf, programCounter, suppressing, suppressed, suppressedOf}
 use Rattle.names.specs.Sizes.{letterSize, sizeOf}
 use Rattle.names.specs.declared.registers.Reg.{Reg}
 use Rattle.names.specs.declared.registers.Suppressed.{Suppressed}
@@ -29,10 +29,6 @@ pub register-stack : (n : List ℕ) → spelled (bytes "sp") n ≡ true → regi
 unfolding spelled registerOf register pair
 register-stack n h = ap register (same-true (lowered n) (bytes "sp") h)
 
--- the first register of the bank that a letter stands for, 16 for none
-abbrev pub bank : ℕ → ℕ
-bank c = pick (eqb c 100) 0 (pick (eqb c 97) 8 16)
-
 pub bank-most : (c : ℕ) → bank c ≤ 16
 bank-most c = go (eqb c 100) (eqb c 97)
   where
@@ -41,8 +37,8 @@ bank-most c = go (eqb c 100) (eqb c 97)
     go false true = omega arith
     go false false = omega arith
 
--- a digit of that bank
-abbrev inBank : ℕ → ℕ → Reg
+-- a digit of the bank with this first register
+abbrev pub inBank : ℕ → ℕ → Reg
 inBank first d = pick (both (leb 48 d) (leb d 55)) (pick (eqb first 16) Reg.Not (Reg.Is (d - 48 + first))) Reg.Not
 
 -- what is not `sp` is a digit of a bank

@@ -7,7 +7,8 @@ use lib.ListN.{getD}
 use borrow.Author.Tests.{eq-eqb, ne-eqb, le-leb, lt-leb}
 use Rattle.names.specs.Laws.{both-false}
 use Rattle.names.specs.Letters.{lower}
-use Rattle.names.specs.Lowered.{lower-below, lower-rises}
+use Rattle.names.specs.Lowered.{lower-below}
+use Rattle.names.proofs.letters.Spelling.{lower-rises}
 use Rattle.names.proofs.Cases.{told-register}
 use Rattle.names.proofs.registers.Pairs.{bank-most, register-not, register-stack, register-digit}
 use borrow.Author.Needs.{needs}
