@@ -20,8 +20,8 @@ pair bank digit =
     Reg.Not)
 
 -- the first register of the bank that a small letter stands for, 16 for none
-abbrev pub bank : ℕ → ℕ
-bank c = pick (eqb c 100) 0 (pick (eqb c 97) 8 16)
+abbrev pub firstOfBank : ℕ → ℕ
+firstOfBank c = pick (eqb c 100) 0 (pick (eqb c 97) 8 16)
 
 -- `Register::parse` of a name in small letters
 unfoldable pub register : List ℕ → Reg

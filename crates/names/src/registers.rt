@@ -7,7 +7,7 @@ ghost use mathlib.Core.Path.{_≡_};
 ghost use lib.ListN.{length};
 ghost use Rattle.names.specs.Choice.{pick};
 ghost use Rattle.names.specs.Letters.{lower, spelled};
-ghost use Rattle.names.specs.Registers.{bank, programCounter, specialOf, reserved};
+ghost use Rattle.names.specs.Registers.{firstOfBank, programCounter, specialOf, reserved};
 ghost use Rattle.names.specs.Cases.{RegisterTold, SpecialTold, SuppressedTold};
 ghost use Rattle.names.specs.declared.registers.SpecialRegister.{SpecialRegister};
 
@@ -33,8 +33,8 @@ pub enum Suppressed {
 }
 
 // The first register of the bank that a letter stands for, d0 or a0.
-fn bank(letter: u8) -> u8
-    ensures { λ r. ⌜ r ≡ bank (lower letter) ⌝ }
+fn first_of_bank(letter: u8) -> u8
+    ensures { λ r. ⌜ r ≡ firstOfBank (lower letter) ⌝ }
 {
     match lower(letter) {
         b'd' => 0,
@@ -54,7 +54,7 @@ impl Reg {
         if spells(name, b"sp") {
             return Reg::Is(15);
         }
-        let first = bank(name[0]);
+        let first = first_of_bank(name[0]);
         let digit = name[1];
         if digit < b'0' {
             return Reg::Not;

@@ -11,7 +11,7 @@ use lib.ListN.{length, getD, drop}
 use Rattle.names.specs.Choice.{pick, both}
 use Rattle.names.specs.Laws.{true-false, pick-same, same-true}
 use Rattle.names.specs.Letters.{bytes, lower, lowered, same, spelled}
-use Rattle.names.specs.Registers.{pair, bank, register, registerOf, programCounter, suppressing, suppressed, suppressedOf}
+use Rattle.names.specs.Registers.{pair, firstOfBank, register, registerOf, programCounter, suppressing, suppressed, suppressedOf}
 use Rattle.names.specs.Sizes.{letterSize, sizeOf}
 use Rattle.names.specs.declared.registers.Reg.{Reg}
 use Rattle.names.specs.declared.registers.Suppressed.{Suppressed}
@@ -29,8 +29,8 @@ pub register-stack : (n : List ℕ) → spelled (bytes "sp") n ≡ true → regi
 unfolding spelled registerOf register pair
 register-stack n h = ap register (same-true (lowered n) (bytes "sp") h)
 
-pub bank-most : (c : ℕ) → bank c ≤ 16
-bank-most c = go (eqb c 100) (eqb c 97)
+pub first-most : (c : ℕ) → firstOfBank c ≤ 16
+first-most c = go (eqb c 100) (eqb c 97)
   where
     go : (a b : Bool) → pick a 0 (pick b 8 16) ≤ 16
     go true b = omega arith
@@ -42,7 +42,7 @@ abbrev pub inBank : ℕ → ℕ → Reg
 inBank first d = pick (both (leb 48 d) (leb d 55)) (pick (eqb first 16) Reg.Not (Reg.Is (d - 48 + first))) Reg.Not
 
 -- what is not `sp` is a digit of a bank
-pair-bank : (c d : ℕ) → same (c ∷ d ∷ []) (bytes "sp") ≡ false → pair c d ≡ inBank (bank c) d
+pair-bank : (c d : ℕ) → same (c ∷ d ∷ []) (bytes "sp") ≡ false → pair c d ≡ inBank (firstOfBank c) d
 unfolding pair same
 pair-bank c d h = go (eqb c 115) refl (eqb d 112) refl h
   where
@@ -53,12 +53,12 @@ pair-bank c d h = go (eqb c 115) refl (eqb d 112) refl h
     either-bank false true = refl
     either-bank false false = refl
 
-    go : (a : Bool) → eqb c 115 ≡ a → (b : Bool) → eqb d 112 ≡ b → both a (both b true) ≡ false → pair c d ≡ inBank (bank c) d
+    go : (a : Bool) → eqb c 115 ≡ a → (b : Bool) → eqb d 112 ≡ b → both a (both b true) ≡ false → pair c d ≡ inBank (firstOfBank c) d
     go true p true q g = absurd (true-false g)
     go true p false q g = rw (eqb-true c 115 p, q) (sym (pick-same (both (leb 48 d) (leb d 55)) Reg.Not))
     go false p b q g = simp p (ap (λ r. pick (both (leb 48 d) (leb d 55)) r Reg.Not) (either-bank (eqb c 100) (eqb c 97)))
 
-pub register-digit : (n : List ℕ) → length n ≡ 2 → spelled (bytes "sp") n ≡ false → (first : ℕ) → first ≡ bank (lower (getD n 0 0))
+pub register-digit : (n : List ℕ) → length n ≡ 2 → spelled (bytes "sp") n ≡ false → (first : ℕ) → first ≡ firstOfBank (lower (getD n 0 0))
     → registerOf n ≡ inBank first (lower (getD n 1 0))
 unfolding registerOf register spelled
 register-digit n h g first e =

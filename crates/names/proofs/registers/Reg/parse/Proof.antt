@@ -10,7 +10,7 @@ use Rattle.names.specs.Letters.{lower}
 use Rattle.names.specs.Lowered.{lower-below}
 use Rattle.names.proofs.letters.Spelling.{lower-rises}
 use Rattle.names.proofs.Cases.{told-register}
-use Rattle.names.proofs.registers.Pairs.{bank-most, register-not, register-stack, register-digit}
+use Rattle.names.proofs.registers.Pairs.{first-most, register-not, register-stack, register-digit}
 use borrow.Author.Needs.{needs}
 use Rattle.names.proofs.registers.Reg.parse.Statement.{statement}
 use Rattle.names.proofs.registers.Reg.parse.Tie as tie
@@ -32,11 +32,11 @@ returns-2 c =
     let c-if2 = c .if2 in
     told-register (sym (register-stack _ (sym (c-spells .ensures) ∙ c-if2 .taken)))
 
-shared-slice-read-bank : tie.Need-shared-slice-read-bank
-shared-slice-read-bank c = search needs
+shared-slice-read-first-of-bank : tie.Need-shared-slice-read-first-of-bank
+shared-slice-read-first-of-bank c = search needs
 
-bank-requires : tie.Need-bank-requires
-bank-requires c κs = search needs
+first-of-bank-requires : tie.Need-first-of-bank-requires
+first-of-bank-requires c κs = search needs
 
 shared-slice-read-digit : tie.Need-shared-slice-read-digit
 shared-slice-read-digit c = search needs
@@ -46,51 +46,51 @@ returns-3 c =
     let c-if1 = c .before .before .before .before .before .before .before .if1 in
     let c-spells = c .before .before .before .before .before .spells in
     let c-if2 = c .before .before .before .before .if2 in
-    let c-bank = c .before .before .bank in
+    let c-first-of-bank = c .before .before .first-of-bank in
     let c-args = c .before .before .before .before .before .before .before .before .before .args in
     let c-if3 = c .if3 in
-    told-register (rw (register-digit _ (c-if1 .left) (sym (c-spells .ensures) ∙ c-if2 .left) _ (c-bank .ensures), lower-below (getD (c-args .name .now) 1 0) (omega arith)) (simp (lt-leb 48 (getD (c-args .name .now) 1 0) (c-if3 .taken))))
+    told-register (rw (register-digit _ (c-if1 .left) (sym (c-spells .ensures) ∙ c-if2 .left) _ (c-first-of-bank .ensures), lower-below (getD (c-args .name .now) 1 0) (omega arith)) (simp (lt-leb 48 (getD (c-args .name .now) 1 0) (c-if3 .taken))))
 
 returns-4 : tie.Need-returns-4
 returns-4 c =
     let c-if1 = c .before .before .before .before .before .before .before .before .if1 in
     let c-spells = c .before .before .before .before .before .before .spells in
     let c-if2 = c .before .before .before .before .before .if2 in
-    let c-bank = c .before .before .before .bank in
+    let c-first-of-bank = c .before .before .before .first-of-bank in
     let c-args = c .before .before .before .before .before .before .before .before .before .before .args in
     let c-if4 = c .if4 in
-    told-register (rw (register-digit _ (c-if1 .left) (sym (c-spells .ensures) ∙ c-if2 .left) _ (c-bank .ensures)) (simp (lt-leb (lower (getD (c-args .name .now) 1 0)) 55 (omega (arith, c-if4 .taken, lower-rises (getD (c-args .name .now) 1 0))), both-false)))
+    told-register (rw (register-digit _ (c-if1 .left) (sym (c-spells .ensures) ∙ c-if2 .left) _ (c-first-of-bank .ensures)) (simp (lt-leb (lower (getD (c-args .name .now) 1 0)) 55 (omega (arith, c-if4 .taken, lower-rises (getD (c-args .name .now) 1 0))), both-false)))
 
 returns-5 : tie.Need-returns-5
 returns-5 c =
     let c-if1 = c .before .before .before .before .before .before .before .before .before .if1 in
     let c-spells = c .before .before .before .before .before .before .before .spells in
     let c-if2 = c .before .before .before .before .before .before .if2 in
-    let c-bank = c .before .before .before .before .bank in
+    let c-first-of-bank = c .before .before .before .before .first-of-bank in
     let c-args = c .before .before .before .before .before .before .before .before .before .before .before .args in
     let c-if3 = c .before .before .if3 in
     let c-if4 = c .before .if4 in
     let c-if5 = c .if5 in
-    told-register (rw (register-digit _ (c-if1 .left) (sym (c-spells .ensures) ∙ c-if2 .left) _ (c-bank .ensures), lower-below (getD (c-args .name .now) 1 0) (omega arith)) (simp (le-leb 48 (getD (c-args .name .now) 1 0) (c-if3 .left), le-leb (getD (c-args .name .now) 1 0) 55 (c-if4 .left), eq-eqb _ 16 (c-if5 .taken))))
+    told-register (rw (register-digit _ (c-if1 .left) (sym (c-spells .ensures) ∙ c-if2 .left) _ (c-first-of-bank .ensures), lower-below (getD (c-args .name .now) 1 0) (omega arith)) (simp (le-leb 48 (getD (c-args .name .now) 1 0) (c-if3 .left), le-leb (getD (c-args .name .now) 1 0) 55 (c-if4 .left), eq-eqb _ 16 (c-if5 .taken))))
 
 add-t13 : tie.Need-add-t13
 add-t13 c =
     let c-if4 = c .before .if4 in
-    let c-bank = c .before .before .before .before .bank in
+    let c-first-of-bank = c .before .before .before .before .first-of-bank in
     let c-args = c .before .before .before .before .before .before .before .before .before .before .before .args in
-    omega (arith, c-if4 .left, c-bank .ensures, bank-most (lower (getD (c-args .name .now) 0 0)))
+    omega (arith, c-if4 .left, c-first-of-bank .ensures, first-most (lower (getD (c-args .name .now) 0 0)))
 
 returns-6 : tie.Need-returns-6
 returns-6 c =
     let c-if1 = c .before .before .before .before .before .before .before .before .before .if1 in
     let c-spells = c .before .before .before .before .before .before .before .spells in
     let c-if2 = c .before .before .before .before .before .before .if2 in
-    let c-bank = c .before .before .before .before .bank in
+    let c-first-of-bank = c .before .before .before .before .first-of-bank in
     let c-args = c .before .before .before .before .before .before .before .before .before .before .before .args in
     let c-if3 = c .before .before .if3 in
     let c-if4 = c .before .if4 in
     let c-if5 = c .if5 in
-    told-register (rw (register-digit _ (c-if1 .left) (sym (c-spells .ensures) ∙ c-if2 .left) _ (c-bank .ensures), lower-below (getD (c-args .name .now) 1 0) (omega arith)) (simp (le-leb 48 (getD (c-args .name .now) 1 0) (c-if3 .left), le-leb (getD (c-args .name .now) 1 0) 55 (c-if4 .left), ne-eqb _ 16 (c-if5 .left))))
+    told-register (rw (register-digit _ (c-if1 .left) (sym (c-spells .ensures) ∙ c-if2 .left) _ (c-first-of-bank .ensures), lower-below (getD (c-args .name .now) 1 0) (omega arith)) (simp (le-leb 48 (getD (c-args .name .now) 1 0) (c-if3 .left), le-leb (getD (c-args .name .now) 1 0) 55 (c-if4 .left), ne-eqb _ 16 (c-if5 .left))))
 
 pub parse-spec : {M : Type 1} → statement M
 parse-spec =
@@ -100,8 +100,8 @@ parse-spec =
     slice-aggregate-spells
     spells-requires
     returns-2
-    shared-slice-read-bank
-    bank-requires
+    shared-slice-read-first-of-bank
+    first-of-bank-requires
     shared-slice-read-digit
     returns-3
     returns-4
