@@ -1,61 +1,30 @@
 -- The fuel of the climb never decides: whatever stands for more turns than there are tokens reads the same.
 -- Assumes nothing.
-use mathlib.Core.Path.{_≡_, refl, sym, _∙_, ap}
-use mathlib.Core.Bool.{true}
+use mathlib.Core.Path.{_≡_, refl}
 use mathlib.Core.List.{List}
 use Prim.Native.Nat.{ℕ, zero, suc, _+_, _≤_, _<_}
 use native.Mathlib.Omega.{arith}
 use Rattle.names.specs.Places.{Place, stands}
 use Rattle.names.specs.declared.tokens.Token.{Token}
 use Rattle.expressions.specs.Trees.{Expr}
-use Rattle.expressions.specs.Reader.{Test, Reading, after, Reader, answer, bind, bump, _>>=_, run}
+use Rattle.expressions.specs.Reader.{Test, Reading, Reader, answer, bump, _>>=_, run}
 use Rattle.expressions.specs.Expressions.{Term, read, reported, absent, operator, operated, parseExpressionFrom, parsePrefix, fuel}
-use Rattle.expressions.specs.Laws.{met-one, met-yes, met-no, forward}
-
--- two readers read the same from here
-pub record Alike {A : Type 0} (at : ℕ → Place) (i l : ℕ) (p q : Reader A) : Type 0 where
-  pub same : run p at i l ≡ run q at i l
-
-pub same-alike : {A : Type 0} {at : ℕ → Place} {i l : ℕ} {p : Reader A} → Alike at i l p p
-same-alike = record { same = refl }
-
-pub flip : {A : Type 0} {at : ℕ → Place} {i l : ℕ} {p q : Reader A} → Alike at i l p q → Alike at i l q p
-flip h = record { same = sym (h .same) }
-
-pub bind-alike : {A B : Type 0} {at : ℕ → Place} {i l : ℕ} {p q : Reader B} {f g : B → Reader A}
-    → Alike at i l p q → ((j m : ℕ) (b : B) → i ≤ j → Alike at j m (f b) (g b)) → Alike at i l (bind p f) (bind q g)
-unfolding run
-bind-alike {A} {at = at} {i = i} {l = l} {p = p} {g = g} h k = record {
-  same =
-      let s = run p at i l in
-      ap (λ (r : Reading A). after (s .raised) r) (k (s .cursor) (s .end) (s .value) (forward p at i l) .same)
-      ∙ ap (λ r. after (r .raised) (run (g (r .value)) at (r .cursor) (r .end))) (h .same);
-}
-
-pub bump-alike : {A : Type 0} {at : ℕ → Place} {i l : ℕ} {t : Test} {y y′ : Token → List ℕ → Reader A} {n n′ : Unit {0} → Reader A}
-    → ((k : Token) (x : List ℕ) → at i ≡ stands k x → t k x ≡ true → Alike at (i + 1) (k .end) (y k x) (y′ k x)) → Alike at i l (n tt) (n′ tt)
-    → Alike at i l (bump t y n) (bump t y′ n′)
-unfolding run
-bump-alike {A} {at = at} {i = i} {l = l} {t = t} {y′ = y′} {n′ = n′} f g = record {
-  same =
-      met-one (λ (s : Reading A). s ≡ run (bump t y′ n′) at i l) t _ _ (at i)
-      (λ k x e q. f k x e q .same ∙ sym (met-yes t _ _ (at i) k x e q))
-      (λ q. g .same ∙ sym (met-no t _ _ (at i) q));
-}
+use Rattle.expressions.specs.Laws.{met-one}
+use Rattle.expressions.specs.Alike.{Alike, Any, alike-run, flip, same-alike, bind-alike, bump-alike}
 
 -- past the tokens nothing is stepped over
 pub bump-past : {A : Type 0} {at : ℕ → Place} {i l : ℕ} {t : Test} {y : Token → List ℕ → Reader A} {n : Unit {0} → Reader A}
-    → ((k : Token) (x : List ℕ) → at i ≡ stands k x → ⊥) → Alike at i l (bump t y n) (n tt)
+    → ((k : Token) (x : List ℕ) → at i ≡ stands k x → ⊥) → Alike Any at i l (bump t y n) (n tt)
 unfolding run
 bump-past {A} {at = at} {i = i} {l = l} {t = t} {n = n} h = record {
-  same = met-one (λ (s : Reading A). s ≡ run (n tt) at i l) t _ _ (at i) (λ k x e q. absurd (h k x e)) (λ q. refl);
+  same = λ c. met-one (λ (s : Reading A). s ≡ run (n tt) at i l) t _ _ (at i) (λ k x e q. absurd (h k x e)) (λ q. refl);
 }
 
 -- ---- the climb
 
 module _ (at : ℕ → Place) (count : ℕ) (ends : (j : ℕ) (k : Token) (x : List ℕ) → at j ≡ stands k x → j < count) (t : Reader Term) where
   climb-fuel : (f g min : ℕ) (left : Expr) (i l : ℕ) → count ≤ f + i → count ≤ g + i
-      → Alike at i l (parseExpressionFrom f t min left) (parseExpressionFrom g t min left)
+      → Alike Any at i l (parseExpressionFrom f t min left) (parseExpressionFrom g t min left)
   unfolding parseExpressionFrom operated
   climb-fuel zero zero min left i l a b = same-alike
   climb-fuel zero (suc g) min left i l a b = flip (bump-past (λ k x e. omega (arith, ends i k x e)))
@@ -83,4 +52,4 @@ pub climb-equation : (at : ℕ → Place) (count : ℕ) → ((j : ℕ) (k : Toke
     ≡ run (turn (parseExpressionFrom fuel (parsePrefix fuel room)) (parsePrefix fuel room) min left) at i l
 unfolding parseExpressionFrom turn
 climb-equation at count ends few room min left i l =
-    climb-fuel at count ends (parsePrefix fuel room) fuel (suc fuel) min left i l (omega arith) (omega arith) .same
+    alike-run (climb-fuel at count ends (parsePrefix fuel room) fuel (suc fuel) min left i l (omega arith) (omega arith))

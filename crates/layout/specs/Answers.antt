@@ -1,8 +1,8 @@
 -- The buyer's conditions, of what the entry returns and writes: they follow from its promise, and from Conditions.antt.
 -- Assumes nothing.
 use mathlib.Core.Path.{_≡_, refl, sym, _∙_, ap}
-use mathlib.Core.Bool.{Bool, true, false}
-use mathlib.Core.List.{List, [], _∷_, _++_}
+use mathlib.Core.Bool.{false}
+use mathlib.Core.List.{List, [], _++_}
 use Prim.Native.Nat.{ℕ, zero, suc, _+_, _-_, _*_, _≤_, _<_}
 use native.Mathlib.Nat.{add-zero}
 use native.Mathlib.Omega.{arith}
@@ -17,11 +17,11 @@ use Rattle.expressions.specs.Reader.{Reading, reading}
 use Rattle.operand.specs.Operands.{Operand, Maybe, some, none}
 use Rattle.operand.specs.Records.{sizeM, diagnosticRecords}
 use Rattle.operand.specs.Layout.{nodeBytes, nodesLaid, lows, diagnosticsLaid}
-use Rattle.operand.specs.Entry.{Input, placeOf, nodeStore, lineAndList, startAndStores, conditions, firstOf, refusal, readingAt, nodesAfter, diagnosticsAfter, outcome, outcomeOf}
-use Rattle.layout.specs.Promise.{nesting, nesting-some, resultOf, resultAt, EntryPromise}
+use Rattle.operand.specs.Entry.{Input, placeOf, nodeStore, refusal, readingAt, nodesAfter, diagnosticsAfter, outcome, outcomeOf}
+use Rattle.layout.specs.Promise.{resultOf, resultAt, EntryPromise}
 use Rattle.operand.specs.Readings.{gap, ended}
 use Rattle.operand.specs.Marks.{remarked, MarksAgree, MarksPast, marks-agree, refusal-same, reading-remarked, outcome-same}
-use Rattle.operand.specs.Conditions.{Valid, valid-bounds, valid-stores, AlikeThrough, recordAt, SameButPlus}
+use Rattle.operand.specs.Conditions.{Valid, Refuses, refusal-number, valid-bounds, valid-stores, valid-limit, AlikeThrough, recordAt, SameButPlus}
 use Rattle.operand.specs.Conditions as C
 use Rattle.operand.specs.Lengths.{length-node-bytes, length-laid}
 use Rattle.layout.specs.declared.answer.Answer.{Answer}
@@ -58,23 +58,11 @@ gap-small (Answer.Operand x) = omega arith
 gap-small (Answer.NoOperand x) = omega arith
 gap-small (Answer.Refused n) = omega arith
 
--- ---- the refusals have the numbers 1 to 7
-
-first-below : (n : ℕ) (bs : List Bool) → 0 < n → firstOf n bs < n + length bs
-unfolding firstOf
-first-below n [] p = omega arith
-first-below n (true ∷ bs) p = omega arith
-first-below n (false ∷ bs) p = omega (arith, first-below (n + 1) bs (omega arith))
-
-refusal-below : (a : Input) → refusal a ≤ 7
-unfolding refusal conditions lineAndList startAndStores
-refusal-below a = omega (arith, first-below 1 (conditions a) (omega arith))
-
 -- an operand or none where no refusal applies; else the number of the first that does. "It returns its number; all lent bytes stay."
 pub data Total (a : Input) (N′ D′ : List ℕ) : Answer → Type 0 where
   operand : (x : Found) → Valid a → Total a N′ D′ (Answer.Operand x)
   noOperand : (x : Missed) → Valid a → Total a N′ D′ (Answer.NoOperand x)
-  refused : (n : ℕ) → n ≡ refusal a → 1 ≤ n → n ≤ 7 → N′ ≡ a .nodes → D′ ≡ a .diagnostics → Total a N′ D′ (Answer.Refused n)
+  refused : (n : ℕ) → n ≡ refusal a → Refuses n → N′ ≡ a .nodes → D′ ≡ a .diagnostics → Total a N′ D′ (Answer.Refused n)
 
 pub operand-valid : {a : Input} {N D : List ℕ} {x : Found} → Total a N D (Answer.Operand x) → Valid a
 operand-valid (Total.operand x v) = v
@@ -120,7 +108,7 @@ module _ (r : Reading (Maybe Operand)) where
 
 module _ (a : Input) (N′ D′ : List ℕ) (r : Answer) (p : EntryPromise a N′ D′ r) where
   abbrev s : Reading (Maybe Operand)
-  s = readingAt nesting a
+  s = readingAt a
 
   pub total : Total a N′ D′ r
   unfolding resultAt resultOf
@@ -130,24 +118,27 @@ module _ (a : Input) (N′ D′ : List ℕ) (r : Answer) (p : EntryPromise a N�
       read v (some x) e = rw e (operand _ v)
       read v none e = rw e (noOperand _ v)
 
-      go : (k : ℕ) → refusal a ≡ k → r ≡ resultAt nesting a k → Total a N′ D′ r
+      go : (k : ℕ) → refusal a ≡ k → r ≡ resultAt a k → Total a N′ D′ r
       go zero e h = read e (s .value) h
       go (suc k) e h =
-          let stays = C.refused-stays nesting a k e in
-          rw h (refused (suc k) (sym e) (omega arith) (omega (arith, refusal-below a)) (p .nodes ∙ ap (λ x. x .nodes) stays) (p .diagnostics ∙ ap (λ x. x .diagnostics) stays))
+          let stays = C.refused-stays a k e in
+          rw h (refused (suc k) (sym e) (rw e at refusal-number a (λ z. omega arith)) (p .nodes ∙ ap (λ x. x .nodes) stays) (p .diagnostics ∙ ap (λ x. x .diagnostics) stays))
 
   module _ (v : Valid a) where
+    lim : 1 ≤ a .limit
+    lim = valid-limit a v .0
+
     value-is : r ≡ resultOf s (s .value)
     unfolding resultAt
-    value-is = p .value ∙ ap (resultAt nesting a) v
+    value-is = p .value ∙ ap (resultAt a) v
 
     nodes-are : N′ ≡ nodesAfter (s .value) (a .nodes)
     unfolding outcome outcomeOf
-    nodes-are = p .nodes ∙ ap (λ n. outcomeOf nesting a n .nodes) v
+    nodes-are = p .nodes ∙ ap (λ n. outcomeOf a n .nodes) v
 
     diagnostics-are : D′ ≡ diagnosticsAfter s (a .used) (a .diagnostics)
     unfolding outcome outcomeOf
-    diagnostics-are = p .diagnostics ∙ ap (λ n. outcomeOf nesting a n .diagnostics) v
+    diagnostics-are = p .diagnostics ∙ ap (λ n. outcomeOf a n .diagnostics) v
 
     cursor-is : cursorOf r ≡ s .cursor
     cursor-is = ap cursorOf value-is ∙ cursor-result s (s .value)
@@ -165,7 +156,7 @@ module _ (a : Input) (N′ D′ : List ℕ) (r : Answer) (p : EntryPromise a N�
 
     -- the cursor neither goes back nor passes the end
     pub cursor-bounds : (a .start ≤ cursorOf r) × (cursorOf r ≤ count (a .tokens))
-    cursor-bounds = let h = C.cursor-bounds nesting nesting-some a v in (omega (arith, cursor-is), omega (arith, cursor-is))
+    cursor-bounds = let h = C.cursor-bounds a lim v in (omega (arith, cursor-is), omega (arith, cursor-is))
 
     -- so it is a byte
     pub cursor-small : cursorOf r < 256
@@ -177,23 +168,23 @@ module _ (a : Input) (N′ D′ : List ℕ) (r : Answer) (p : EntryPromise a N�
         → (m : Missed) → r ≡ Answer.NoOperand m → 0 < m .diagnostics
     never-silent k x there quiet m e =
         let n = none-result s (s .value) m (sym value-is ∙ e) in
-        omega (arith, C.never-silent nesting nesting-some a k x there quiet n, added-is, ap diagnosticsAdded e)
+        omega (arith, C.never-silent a lim k x there quiet n, added-is, ap diagnosticsAdded e)
 
     -- "A reading adds at most twice its consumed tokens plus one."
     pub diagnostics-bound : diagnosticsAdded r + 2 * a .start ≤ 2 * cursorOf r + 1
-    diagnostics-bound = omega (arith, C.diagnostics-bound nesting nesting-some a, added-is, cursor-is)
+    diagnostics-bound = omega (arith, C.diagnostics-bound a lim, added-is, cursor-is)
 
     -- so 511 records are enough
     pub records-enough : diagnosticsAdded r ≤ 511
-    records-enough = omega (arith, C.records-enough nesting nesting-some a v, added-is)
+    records-enough = omega (arith, C.records-enough a lim v, added-is)
 
     -- the nodes are at most the consumed tokens
     pub nodes-bound : nodesUsed r + a .start ≤ cursorOf r
-    nodes-bound = omega (arith, C.nodes-bound nesting nesting-some a, used-is, cursor-is)
+    nodes-bound = omega (arith, C.nodes-bound a lim, used-is, cursor-is)
 
     -- so 255 of fourteen bytes are enough
     pub nodes-enough : 14 * nodesUsed r ≤ 3570
-    nodes-enough = omega (arith, C.nodes-enough nesting nesting-some a v, used-is)
+    nodes-enough = omega (arith, C.nodes-enough a lim v, used-is)
 
     -- ---- the diagnostics: the used records, the added ones, and the bytes past them
 
@@ -202,7 +193,7 @@ module _ (a : Input) (N′ D′ : List ℕ) (r : Answer) (p : EntryPromise a N�
 
     -- earlier diagnostics stand
     pub earlier-stand : take (10 * a .used) D′ ≡ take (10 * a .used) (a .diagnostics)
-    earlier-stand = ap (take (10 * a .used)) (p .diagnostics) ∙ C.earlier-stand nesting a v
+    earlier-stand = ap (take (10 * a .used)) (p .diagnostics) ∙ C.earlier-stand a v
 
     behind : drop (10 * a .used) D′ ≡ diagnosticsLaid (s .raised) ++ drop (10 * (a .used + length (s .raised))) (a .diagnostics)
     unfolding diagnosticsAfter
@@ -259,7 +250,7 @@ module _ (a : Input) (N′ D′ : List ℕ) (r : Answer) (p : EntryPromise a N�
         }
 
         go : (w : Place) → placeOf a (a .start) ≡ w → AtTheEnd a N′ D′ r
-        go nothing q = none-read (ended nesting (a .mark) (placeOf a) (a .start) q)
+        go nothing q = none-read (ended (a .limit) (a .mark) (placeOf a) (a .start) q)
         go (stands k x) q = absurd (omega (arith, below (a .line) (a .tokens) (a .start) k x q))
 
 -- ---- condition 3
@@ -275,7 +266,7 @@ pub record SameOutcome (a b : Input) (N′ D′ N″ D″ : List ℕ) (r q : Ans
 pub local : (a b : Input) (N′ D′ N″ D″ : List ℕ) (r q : Answer) → EntryPromise a N′ D′ r → EntryPromise b N″ D″ q → Valid a → Valid b
     → AlikeThrough a b (cursorOf r + gapOf r) → SameOutcome a b N′ D′ N″ D″ r q
 local a b N′ D′ N″ D″ r q p h va vb alike =
-    let e = C.same-reading nesting nesting-some a b (record { start = alike .start; mark = alike .mark; places = λ j x y. alike .places j x (omega (arith, cursor-is a N′ D′ r p va, gap-is a N′ D′ r p va)) }) in
+    let e = C.same-reading a b (lim a N′ D′ r p va) (record { start = alike .start; mark = alike .mark; limit = alike .limit; places = λ j x y. alike .places j x (omega (arith, cursor-is a N′ D′ r p va, gap-is a N′ D′ r p va)) }) in
     record {
       answer = value-is a N′ D′ r p va ∙ ap (λ (t : Reading (Maybe Operand)). resultOf t (t .value)) e ∙ sym (value-is b N″ D″ q h vb);
       nodes = used-records a N′ D′ r p va ∙ ap (λ (t : Reading (Maybe Operand)). nodesLaid (t .value)) e ∙ sym (used-records b N″ D″ q h vb);
@@ -314,13 +305,13 @@ pub marks-same : (a : Input) (n : ℕ) (N′ D′ N″ D″ : List ℕ) (r q : A
     → MarksAgree a n → SameCall N′ D′ N″ D″ r q
 unfolding resultAt
 marks-same a n N′ D′ N″ D″ r q p h agree = record {
-  answer = p .value ∙ result (refusal a) ∙ ap (resultAt nesting (remarked a n)) (refusal-same a n) ∙ sym (h .value);
-  nodes = p .nodes ∙ ap (λ x. x .nodes) (outcome-same nesting a n agree) ∙ sym (h .nodes);
-  diagnostics = p .diagnostics ∙ ap (λ x. x .diagnostics) (outcome-same nesting a n agree) ∙ sym (h .diagnostics);
+  answer = p .value ∙ result (refusal a) ∙ ap (resultAt (remarked a n)) (refusal-same a n) ∙ sym (h .value);
+  nodes = p .nodes ∙ ap (λ x. x .nodes) (outcome-same a n agree) ∙ sym (h .nodes);
+  diagnostics = p .diagnostics ∙ ap (λ x. x .diagnostics) (outcome-same a n agree) ∙ sym (h .diagnostics);
 }
   where
-    result : (k : ℕ) → resultAt nesting a k ≡ resultAt nesting (remarked a n) k
-    result zero = ap (λ (t : Reading (Maybe Operand)). resultOf t (t .value)) (reading-remarked nesting a n agree)
+    result : (k : ℕ) → resultAt a k ≡ resultAt (remarked a n) k
+    result zero = ap (λ (t : Reading (Maybe Operand)). resultOf t (t .value)) (reading-remarked a n agree)
     result (suc k) = refl
 
 -- "one at or past the token count means none": of any two such marks

@@ -1,9 +1,8 @@
--- What the entry promises: its answer and every byte of both stores are the definition's, at the nesting limit 64.
+-- What the entry promises: its answer and every byte of both stores are the definition's, at the nesting limit that it is given.
 -- Assumes nothing.
 use mathlib.Core.Path.{_≡_, refl}
 use mathlib.Core.List.{List}
-use Prim.Native.Nat.{ℕ, zero, suc, _≤_}
-use native.Mathlib.Omega.{arith}
+use Prim.Native.Nat.{ℕ, zero, suc}
 use lib.ListN.{length}
 use Rattle.expressions.specs.Reader.{Reading}
 use Rattle.operand.specs.Operands.{Operand, Maybe, some, none}
@@ -13,18 +12,6 @@ use Rattle.operand.specs.Entry as E
 use Rattle.operand.specs.Forms.{recordOf}
 use Rattle.operand.specs.Layout.{bytesOf}
 use Rattle.layout.specs.declared.answer.Answer.{Answer}
-
--- "at most 64 terms are open". Shut, so that nothing computes it
-unfoldable pub nesting : ℕ
-nesting = 64
-
-pub nesting-is : nesting ≡ 64
-unfolding nesting
-nesting-is = refl
-
-pub nesting-some : 1 ≤ nesting
-unfolding nesting
-nesting-some = omega arith
 
 -- ---- the answer
 
@@ -41,9 +28,9 @@ resultOf r (some x) =
 resultOf r none = Answer.NoOperand (record { cursor = r .cursor; diagnostics = length (r .raised) })
 
 -- and for an input that is refused by this number, or by 0 for none
-unfoldable pub resultAt : ℕ → Input → ℕ → Answer
-resultAt limit a zero = let r = readingAt limit a in resultOf r (r .value)
-resultAt limit a (suc k) = Answer.Refused (suc k)
+unfoldable pub resultAt : Input → ℕ → Answer
+resultAt a zero = let r = readingAt a in resultOf r (r .value)
+resultAt a (suc k) = Answer.Refused (suc k)
 
 pub given-result : (r : Reading (Maybe Operand)) (v : Maybe Operand) → given (resultOf r v) ≡ answerOf r v
 unfolding given resultOf answerOf
@@ -54,8 +41,8 @@ given-result r none = refl
 
 -- every byte, and the number of the answer's case. The last: the twenty bytes alone would leave open whether FF is an absent part
 pub record EntryPromise (a : Input) (N′ D′ : List ℕ) (r : Answer) : Type 0 where
-  pub answer : given r ≡ outcome nesting a .answer
-  pub number : answerNumber (given r) ≡ outcomeNumber nesting a
-  pub nodes : N′ ≡ outcome nesting a .nodes
-  pub diagnostics : D′ ≡ outcome nesting a .diagnostics
-  pub value : r ≡ resultAt nesting a (refusal a)
+  pub answer : given r ≡ outcome a .answer
+  pub number : answerNumber (given r) ≡ outcomeNumber a
+  pub nodes : N′ ≡ outcome a .nodes
+  pub diagnostics : D′ ≡ outcome a .diagnostics
+  pub value : r ≡ resultAt a (refusal a)

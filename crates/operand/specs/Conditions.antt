@@ -6,11 +6,11 @@ use mathlib.Core.List.{List, [], _∷_}
 use Prim.Native.Nat.{ℕ, suc, _+_, _*_, _/_, _%_, _≤_, _<_}
 use native.Mathlib.Omega.{arith}
 use borrow.Author.Tests.{ltb-false, not-false}
-use Rattle.names.specs.Laws.{either-second}
-use lib.Dec.{eqb}
+use Rattle.names.specs.Laws.{either-first, either-second}
+use lib.Dec.{eqb, ltb}
 use lib.ListN.{length, take, drop, getD}
 use lib.Seq.{take-at, length-take-le}
-use Rattle.names.specs.Choice.{both, either}
+use Rattle.names.specs.Choice.{pick, both, either}
 use Rattle.names.specs.Kinds
 use Rattle.names.specs.Tokens.{count}
 use Rattle.names.specs.Places.{Place, nothing, stands, below}
@@ -27,7 +27,8 @@ use Rattle.expressions.specs.declared.reading.Setting.{Setting}
 use Rattle.operand.specs.Operand.{_>>=?_, readingOf, listItem, nextItem, listLoop, parseRegisterList}
 use Rattle.operand.specs.Records.{sizeM}
 use Rattle.operand.specs.Layout.{nodesLaid, diagnosticsLaid, operandRecord}
-use Rattle.operand.specs.Entry.{Input, placeOf, longestLine, mostTokens, nodeStore, freeRecords, goodTokens, lineAndList, startAndStores, conditions, firstOf, refusal, readingAt, refused, diagnosticsAfter, outcomeOf, outcome}
+use Rattle.operand.specs.RefusalNumbers
+use Rattle.operand.specs.Entry.{Input, placeOf, longestLine, mostTokens, nodeStore, freeRecords, highestLimit, goodTokens, Refusal, lineAndList, startStoresAndLimit, refusals, firstOf, refusal, readingAt, refused, diagnosticsAfter, outcomeOf, outcome}
 use Rattle.operand.specs.Readings as R
 use Rattle.operand.specs.Readings.{gap}
 use Rattle.operand.specs.Fuel.{list-equation}
@@ -36,60 +37,103 @@ use Rattle.operand.specs.Fuel.{list-equation}
 abbrev pub Valid : Input → Type 0
 Valid a = refusal a ≡ 0
 
+-- ---- the numbers of the table
+
+-- something of each refusal's number
+abbrev Each : (ℕ → Type 0) → List Refusal → Type 0
+Each P [] = Unit {0}
+Each P (r ∷ rs) = P (r .0) × Each P rs
+
+first-of : (P : ℕ → Type 0) (rs : List Refusal) → Each P rs → (firstOf rs ≡ 0 → ⊥) → P (firstOf rs)
+unfolding firstOf
+first-of P [] e h = absurd (h refl)
+first-of P ((n, true) ∷ rs) e h = e .0
+first-of P ((n, false) ∷ rs) e h = first-of P rs (e .1) h
+
+-- a refusal's number: 1 to 7, or 18
+pub data Refuses (n : ℕ) : Type 0 where
+  early : (1 ≤ n) × (n ≤ RefusalNumbers.shortDiagnostics) → Refuses n
+  late : n ≡ RefusalNumbers.badLimit → Refuses n
+
+numbered : (a : Input) → Each Refuses (refusals a)
+unfolding refusals lineAndList startStoresAndLimit
+numbered a =
+    (early (omega arith), (early (omega arith), (early (omega arith), (early (omega arith), (early (omega arith), (early (omega arith), (early (omega arith), (late refl, tt))))))))
+
+pub refusal-number : (a : Input) → (refusal a ≡ 0 → ⊥) → Refuses (refusal a)
+unfolding refusal
+refusal-number a h = first-of Refuses (refusals a) (numbered a) h
+
 -- ---- what a valid input has
 
-abbrev AllFalse : List Bool → Type 0
+abbrev AllFalse : List Refusal → Type 0
 AllFalse [] = Unit {0}
-AllFalse (b ∷ bs) = (b ≡ false) × AllFalse bs
+AllFalse (r ∷ rs) = (r .1 ≡ false) × AllFalse rs
 
-none-holds : (n : ℕ) (bs : List Bool) → 0 < n → firstOf n bs ≡ 0 → AllFalse bs
+none-holds : (rs : List Refusal) → Each Refuses rs → firstOf rs ≡ 0 → AllFalse rs
 unfolding firstOf
-none-holds n [] p h = tt
-none-holds n (true ∷ bs) p h = absurd (omega arith)
-none-holds n (false ∷ bs) p h = (refl, none-holds (n + 1) bs (omega arith) h)
+none-holds [] e h = tt
+none-holds ((n, true) ∷ rs) e h = absurd (go (e .0))
+  where
+    go : Refuses n → ⊥
+    go (early l) = omega arith
+    go (late q) = omega arith
+none-holds ((n, false) ∷ rs) e h = (refl, none-holds rs (e .1) h)
 
--- a list of at most 255 tokens, and a start within it
-pub valid-bounds : (a : Input) → Valid a → (count (a .tokens) ≤ 255) × (a .start ≤ count (a .tokens))
-unfolding refusal conditions lineAndList startAndStores mostTokens
-valid-bounds a v =
-    let h = none-holds 1 (conditions a) (omega arith) v in
-    (ltb-false 255 (count (a .tokens)) (either-second (not (eqb (length (a .tokens) % 4) 0)) _ (h .1 .1 .0)), ltb-false (count (a .tokens)) (a .start) (h .1 .1 .1 .1 .0))
+module _ (a : Input) (v : Valid a) where
+  none-refuses : AllFalse (refusals a)
+  unfolding refusal
+  none-refuses = none-holds (refusals a) (numbered a) v
 
--- a line of at most 255 bytes, over which each token is good
-pub valid-tokens : (a : Input) → Valid a → (length (a .line) ≤ 255) × (goodTokens (a .line) 0 (a .tokens) ≡ true)
-unfolding refusal conditions lineAndList longestLine
-valid-tokens a v = let h = none-holds 1 (conditions a) (omega arith) v in (ltb-false 255 (length (a .line)) (h .0), not-false _ (h .1 .1 .1 .0))
+  -- a list of at most 255 tokens, and a start within it
+  pub valid-bounds : (count (a .tokens) ≤ 255) × (a .start ≤ count (a .tokens))
+  unfolding refusals lineAndList startStoresAndLimit mostTokens
+  valid-bounds =
+      let h = none-refuses in
+      (ltb-false 255 (count (a .tokens)) (either-second (not (eqb (length (a .tokens) % 4) 0)) _ (h .1 .1 .0)), ltb-false (count (a .tokens)) (a .start) (h .1 .1 .1 .1 .0))
 
--- 255 node records, and 511 free diagnostic records
-pub valid-stores : (a : Input) → Valid a → (nodeStore ≤ length (a .nodes)) × (10 * a .used + 5110 ≤ length (a .diagnostics))
-unfolding refusal conditions lineAndList startAndStores freeRecords
-valid-stores a v =
-    let h = none-holds 1 (conditions a) (omega arith) v in
-    let free = ltb-false (length (a .diagnostics) / 10) (a .used + 511) (h .1 .1 .1 .1 .1 .1 .0) in
-    (ltb-false (length (a .nodes)) nodeStore (h .1 .1 .1 .1 .1 .0), omega arith)
+  -- a line of at most 255 bytes, over which each token is good
+  pub valid-tokens : (length (a .line) ≤ 255) × (goodTokens (a .line) 0 (a .tokens) ≡ true)
+  unfolding refusals lineAndList longestLine
+  valid-tokens = let h = none-refuses in (ltb-false 255 (length (a .line)) (h .0), not-false _ (h .1 .1 .1 .0))
 
-module _ (limit : ℕ) (lim : 1 ≤ limit) (a : Input) where
+  -- 255 node records, and 511 free diagnostic records
+  pub valid-stores : (nodeStore ≤ length (a .nodes)) × (10 * a .used + 5110 ≤ length (a .diagnostics))
+  unfolding refusals lineAndList startStoresAndLimit freeRecords
+  valid-stores =
+      let h = none-refuses in
+      let free = ltb-false (length (a .diagnostics) / 10) (a .used + 511) (h .1 .1 .1 .1 .1 .1 .0) in
+      (ltb-false (length (a .nodes)) nodeStore (h .1 .1 .1 .1 .1 .0), omega arith)
+
+  -- "Let the caller choose the nesting limit from 1 to 128" (document 02)
+  pub valid-limit : (1 ≤ a .limit) × (a .limit ≤ 128)
+  unfolding refusals lineAndList startStoresAndLimit highestLimit
+  valid-limit =
+      let h = none-refuses .1 .1 .1 .1 .1 .1 .1 .0 in
+      (ltb-false (a .limit) 1 (either-first (ltb (a .limit) 1) _ h), ltb-false 128 (a .limit) (either-second (ltb (a .limit) 1) _ h))
+
+module _ (a : Input) (lim : 1 ≤ a .limit) where
   abbrev pub answered : Reading (Maybe Operand)
-  answered = readingAt limit a
+  answered = readingAt a
 
   -- ---- condition 1
 
   -- the cursor neither goes back nor passes the end
   pub cursor-bounds : Valid a → (a .start ≤ answered .cursor) × (answered .cursor ≤ count (a .tokens))
   cursor-bounds v = (
-    R.forward limit (a .mark) (placeOf a) (a .start),
-    R.within limit (a .mark) (placeOf a) (count (a .tokens)) (a .start) (λ j k x h. below (a .line) (a .tokens) j k x h) (valid-bounds a v .1),
+    R.forward (a .limit) (a .mark) (placeOf a) (a .start),
+    R.within (a .limit) (a .mark) (placeOf a) (count (a .tokens)) (a .start) (λ j k x h. below (a .line) (a .tokens) j k x h) (valid-bounds a v .1),
   )
 
   -- no operand is never silent, unless the start is the end or an Error token stood from there on
   pub never-silent : (k : Token) (x : List ℕ) → placeOf a (a .start) ≡ stands k x
       → ((j : ℕ) (t : Token) (y : List ℕ) → a .start ≤ j → placeOf a j ≡ stands t y → eqb (t .kind) Kinds.error ≡ false)
       → answered .value ≡ none → 0 < length (answered .raised)
-  never-silent k x there quiet e = R.never-silent limit lim (a .mark) (placeOf a) (a .start) k x there quiet e
+  never-silent k x there quiet e = R.never-silent (a .limit) lim (a .mark) (placeOf a) (a .start) k x there quiet e
 
   -- "A reading adds at most twice its consumed tokens plus one." (The number is at most the consumed tokens plus one.)
   pub diagnostics-bound : length (answered .raised) + 2 * a .start ≤ 2 * answered .cursor + 1
-  diagnostics-bound = omega (arith, R.raised-few limit lim (a .mark) (placeOf a) (a .start), R.forward limit (a .mark) (placeOf a) (a .start))
+  diagnostics-bound = omega (arith, R.raised-few (a .limit) lim (a .mark) (placeOf a) (a .start), R.forward (a .limit) (a .mark) (placeOf a) (a .start))
 
   -- so 511 records are enough
   pub records-enough : Valid a → length (answered .raised) ≤ 511
@@ -97,7 +141,7 @@ module _ (limit : ℕ) (lim : 1 ≤ limit) (a : Input) where
 
   -- the nodes are at most the consumed tokens
   pub nodes-bound : sizeM (answered .value) + a .start ≤ answered .cursor
-  nodes-bound = R.nodes-few limit lim (a .mark) (placeOf a) (a .start)
+  nodes-bound = R.nodes-few (a .limit) lim (a .mark) (placeOf a) (a .start)
 
   -- so 255 of fourteen bytes are enough
   pub nodes-enough : Valid a → 14 * sizeM (answered .value) ≤ 3570
@@ -105,7 +149,7 @@ module _ (limit : ℕ) (lim : 1 ≤ limit) (a : Input) where
 
   -- "PlusIsNotAUnaryOperator": its plus stands before the cursor, never at it
   pub plus-before-cursor : Every (λ d. Fine (placeOf a) d (answered .cursor)) (answered .raised)
-  plus-before-cursor = R.plus-before limit lim (a .mark) (placeOf a) (a .start)
+  plus-before-cursor = R.plus-before (a .limit) lim (a .mark) (placeOf a) (a .start)
 
 -- ---- condition 3
 
@@ -139,25 +183,24 @@ same-answer e = record {
   diagnostics = ap (λ r. diagnosticsLaid (r .raised)) e;
 }
 
--- what two inputs have in common that are given the same start and mark, and are alike from the start through a place
+-- what two inputs have in common that are given the same start, mark and limit, and are alike from the start through a place
 pub record AlikeThrough (a b : Input) (last : ℕ) : Type 0 where
   pub start : a .start ≡ b .start
   pub mark : a .mark ≡ b .mark
+  pub limit : a .limit ≡ b .limit
   pub places : (j : ℕ) → a .start ≤ j → j ≤ last → AlikeAt a b j
 
 -- they are read alike: `gap` is 0 for an operand and 1 for none
-pub same-reading : (limit : ℕ) → 1 ≤ limit → (a b : Input) → AlikeThrough a b (readingAt limit a .cursor + gap (readingAt limit a .value))
-    → readingAt limit a ≡ readingAt limit b
-same-reading limit lim a b h =
-    R.local limit lim (a .mark) (placeOf a) (a .start) (placeOf b) (h .places)
-    ∙ ap₂ (λ m i. readingOf limit m (placeOf b) i) (h .mark) (h .start)
+pub same-reading : (a b : Input) → 1 ≤ a .limit → AlikeThrough a b (readingAt a .cursor + gap (readingAt a .value)) → readingAt a ≡ readingAt b
+same-reading a b lim h =
+    R.local (a .limit) lim (a .mark) (placeOf a) (a .start) (placeOf b) (h .places)
+    ∙ ap₂ (λ m i. readingOf (a .limit) m (placeOf b) i) (h .mark) (h .start)
+    ∙ ap (λ n. readingOf n (b .mark) (placeOf b) (b .start)) (h .limit)
 
 -- What stands behind the cursor's token changes nothing: two valid inputs alike from the start through the cursor (one place further where there is no
--- operand) have the same answer. There is no exception.
-pub local : (limit : ℕ) → 1 ≤ limit → (a b : Input) → Valid a → Valid b
-    → AlikeThrough a b (readingAt limit a .cursor + gap (readingAt limit a .value))
-    → SameAnswer (readingAt limit a) (readingAt limit b)
-local limit lim a b va vb h = same-answer (same-reading limit lim a b h)
+-- operand) have the same answer, at every limit. There is no exception.
+pub local : (a b : Input) → Valid a → Valid b → AlikeThrough a b (readingAt a .cursor + gap (readingAt a .value)) → SameAnswer (readingAt a) (readingAt b)
+local a b va vb h = same-answer (same-reading a b (valid-limit a va .0) h)
 
 -- ---- condition 3 with its exception
 
@@ -202,31 +245,51 @@ gap-one none = omega arith
 
 -- what two inputs have in common through a place they have through every earlier one
 pub alike-before : {a b : Input} {m n : ℕ} → m ≤ n → AlikeThrough a b n → AlikeThrough a b m
-alike-before le h = record { start = h .start; mark = h .mark; places = λ j x y. h .places j x (omega arith) }
+alike-before le h = record { start = h .start; mark = h .mark; limit = h .limit; places = λ j x y. h .places j x (omega arith) }
 
 -- Condition 3 as it is asked for: of two valid inputs alike through the cursor (one place further where there is no operand) the answers are the same but for
 -- a kind 13 with its plus at the cursor, which is the same in all but its kind; of two alike one token further they are the same without exception.
 -- `local` gives more: the exception is never needed, since such a plus stands before the cursor (`plus-before-cursor`).
-pub two-readings : (limit : ℕ) → 1 ≤ limit → (a b : Input) → Valid a → Valid b
-    → (AlikeThrough a b (readingAt limit a .cursor + gap (readingAt limit a .value)) → SameAnswerButPlus (placeOf a (readingAt limit a .cursor)) (readingAt limit a) (readingAt limit b))
-    × (AlikeThrough a b (readingAt limit a .cursor + 1) → SameAnswer (readingAt limit a) (readingAt limit b))
-two-readings limit lim a b va vb = (
-  (λ h. but-plus _ (local limit lim a b va vb h)),
-  λ h. local limit lim a b va vb (alike-before (omega (arith, gap-one (readingAt limit a .value))) h),
+pub two-readings : (a b : Input) → Valid a → Valid b
+    → (AlikeThrough a b (readingAt a .cursor + gap (readingAt a .value)) → SameAnswerButPlus (placeOf a (readingAt a .cursor)) (readingAt a) (readingAt b))
+    × (AlikeThrough a b (readingAt a .cursor + 1) → SameAnswer (readingAt a) (readingAt b))
+two-readings a b va vb = (
+  (λ h. but-plus _ (local a b va vb h)),
+  λ h. local a b va vb (alike-before (omega (arith, gap-one (readingAt a .value))) h),
 )
+
+-- how far past the cursor document 02 asks for agreement: one token where there is no operand, and two at limit 1
+unfoldable pub further : ℕ → Maybe Operand → ℕ
+further limit (some x) = 0
+further limit none = pick (eqb limit 1) 2 1
+
+further-enough : (limit : ℕ) (v : Maybe Operand) → gap v ≤ further limit v
+unfolding gap further
+further-enough limit (some x) = omega arith
+further-enough limit none = go (eqb limit 1)
+  where
+    go : (b : Bool) → 1 ≤ pick b 2 1
+    go true = omega arith
+    go false = omega arith
+
+-- "Condition 3 holds at every limit, for two inputs with the same one; only at limit 1, where no operand comes back, agreement two tokens further is needed"
+-- (document 02). `local` gives more: one token further is enough at limit 1 too.
+pub two-further : (a b : Input) → Valid a → Valid b → AlikeThrough a b (readingAt a .cursor + further (a .limit) (readingAt a .value))
+    → SameAnswer (readingAt a) (readingAt b)
+two-further a b va vb h = local a b va vb (alike-before (omega (arith, further-enough (a .limit) (readingAt a .value))) h)
 
 -- ---- what stays
 
 -- "It returns its number; all lent bytes stay."
-pub refused-stays : (limit : ℕ) (a : Input) (k : ℕ) → refusal a ≡ suc k → outcome limit a ≡ record { answer = refused (suc k); nodes = a .nodes; diagnostics = a .diagnostics }
+pub refused-stays : (a : Input) (k : ℕ) → refusal a ≡ suc k → outcome a ≡ record { answer = refused (suc k); nodes = a .nodes; diagnostics = a .diagnostics }
 unfolding outcome outcomeOf
-refused-stays limit a k e = ap (outcomeOf limit a) e
+refused-stays a k e = ap (outcomeOf a) e
 
 -- earlier diagnostics stand
-pub earlier-stand : (limit : ℕ) (a : Input) → Valid a → take (10 * a .used) (outcome limit a .diagnostics) ≡ take (10 * a .used) (a .diagnostics)
+pub earlier-stand : (a : Input) → Valid a → take (10 * a .used) (outcome a .diagnostics) ≡ take (10 * a .used) (a .diagnostics)
 unfolding outcome outcomeOf diagnosticsAfter
-earlier-stand limit a v =
-    ap (λ k. take (10 * a .used) (outcomeOf limit a k .diagnostics)) v
+earlier-stand a v =
+    ap (λ k. take (10 * a .used) (outcomeOf a k .diagnostics)) v
     ∙ take-at (take (10 * a .used) (a .diagnostics)) _ (10 * a .used) (length-take-le (10 * a .used) (a .diagnostics) (omega (arith, valid-stores a v)))
 
 -- ---- the definition means what it says

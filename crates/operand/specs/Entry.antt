@@ -22,18 +22,19 @@ use Rattle.operand.specs.Records.{sizeM}
 use Rattle.operand.specs.Forms.{maskO}
 use Rattle.operand.specs.Layout.{nodesLaid, diagnosticsLaid, operandRecord, operandNumber, noOperandNumber, refusedNumber}
 
--- what a call lends and gives: a line, four-byte tokens, a start, a symbol mark, a node store, a diagnostic list with its used count
+-- what a call lends and gives: a line, four-byte tokens, a start, a symbol mark, a nesting limit, a node store, a diagnostic list with its used count
 pub record Input : Type 0 where
   pub line : List ℕ
   pub tokens : List ℕ
   pub start : ℕ
   pub mark : ℕ
+  pub limit : ℕ
   pub nodes : List ℕ
   pub diagnostics : List ℕ
   pub used : ℕ
 
-abbrev pub call : List ℕ → List ℕ → ℕ → ℕ → List ℕ → List ℕ → ℕ → Input
-call L T start mark N D used = record { line = L; tokens = T; start = start; mark = mark; nodes = N; diagnostics = D; used = used }
+abbrev pub call : List ℕ → List ℕ → ℕ → ℕ → ℕ → List ℕ → List ℕ → ℕ → Input
+call L T start mark limit N D used = record { line = L; tokens = T; start = start; mark = mark; limit = limit; nodes = N; diagnostics = D; used = used }
 
 -- what stands at each place
 abbrev pub placeOf : Input → ℕ → Place
@@ -72,6 +73,14 @@ freeRecords = 511
 pub free-records : freeRecords ≡ 511
 unfolding freeRecords
 free-records = refl
+
+-- the highest nesting limit
+unfoldable pub highestLimit : ℕ
+highestLimit = 128
+
+pub highest-limit : highestLimit ≡ 128
+unfolding highestLimit
+highest-limit = refl
 
 -- ---- refusals
 
@@ -117,38 +126,44 @@ goodTokens L p (k ∷ d ∷ []) = true
 goodTokens L p (k ∷ d ∷ s ∷ []) = true
 goodTokens L p (k ∷ d ∷ s ∷ e ∷ ts) = both (goodToken L p k d s e) (goodTokens L e ts)
 
--- the conditions of the refusals, each alone. 1 to 3: long line, foreign byte, bad list
-unfoldable pub lineAndList : List ℕ → List ℕ → List Bool
+-- a refusal: its number, and whether its condition holds, which is looked at alone
+abbrev pub Refusal : Type 0
+Refusal = ℕ × Bool
+
+-- long line, foreign byte, bad list
+unfoldable pub lineAndList : List ℕ → List ℕ → List Refusal
 lineAndList L T =
-    ltb longestLine (length L)
-    ∷ foreign L
-    ∷ either (not (eqb (length T % 4) 0)) (ltb mostTokens (count T))
+    (RefusalNumbers.longLine, ltb longestLine (length L))
+    ∷ (RefusalNumbers.foreignByte, foreign L)
+    ∷ (RefusalNumbers.badList, either (not (eqb (length T % 4) 0)) (ltb mostTokens (count T)))
     ∷ []
 
--- 5 to 7, by the tokens' number and the stores' lengths: bad start, short nodes, short diagnostics
-unfoldable pub startAndStores : ℕ → ℕ → ℕ → ℕ → ℕ → List Bool
-startAndStores tokens start nodes diagnostics used =
-    ltb tokens start
-    ∷ ltb nodes nodeStore
-    ∷ ltb (diagnostics / 10) (used + freeRecords)
+-- bad start, short nodes, short diagnostics, bad limit, by the tokens' number and the stores' lengths
+unfoldable pub startStoresAndLimit : ℕ → ℕ → ℕ → ℕ → ℕ → ℕ → List Refusal
+startStoresAndLimit tokens start limit nodes diagnostics used =
+    (RefusalNumbers.badStart, ltb tokens start)
+    ∷ (RefusalNumbers.shortNodes, ltb nodes nodeStore)
+    ∷ (RefusalNumbers.shortDiagnostics, ltb (diagnostics / 10) (used + freeRecords))
+    ∷ (RefusalNumbers.badLimit, either (ltb limit 1) (ltb highestLimit limit))
     ∷ []
 
--- all seven; 4 is a bad token
-unfoldable pub conditions : Input → List Bool
-conditions a =
+-- the table, in the order in which it is looked through
+unfoldable pub refusals : Input → List Refusal
+refusals a =
     lineAndList (a .line) (a .tokens)
-    ++ (not (goodTokens (a .line) 0 (a .tokens)) ∷ startAndStores (count (a .tokens)) (a .start) (length (a .nodes)) (length (a .diagnostics)) (a .used))
+    ++ ((RefusalNumbers.badToken, not (goodTokens (a .line) 0 (a .tokens)))
+    ∷ startStoresAndLimit (count (a .tokens)) (a .start) (a .limit) (length (a .nodes)) (length (a .diagnostics)) (a .used))
 
--- the number of the first that holds, counted from n, and 0 if none does
-unfoldable pub firstOf : ℕ → List Bool → ℕ
-firstOf n [] = 0
-firstOf n (b ∷ bs) = pick b n (firstOf (n + 1) bs)
+-- the number of the first that holds, and 0 if none does
+unfoldable pub firstOf : List Refusal → ℕ
+firstOf [] = 0
+firstOf (r ∷ rs) = pick (r .1) (r .0) (firstOf rs)
 
 -- the number of the refusal, 0 for none
 unfoldable pub refusal : Input → ℕ
-refusal a = firstOf RefusalNumbers.longLine (conditions a)
+refusal a = firstOf (refusals a)
 
--- the table: each refusal by its name
+-- each by its name
 pub refusal-named : (a : Input)
     → refusal a
     ≡ pick (ltb longestLine (length (a .line))) RefusalNumbers.longLine
@@ -157,8 +172,9 @@ pub refusal-named : (a : Input)
     (pick (not (goodTokens (a .line) 0 (a .tokens))) RefusalNumbers.badToken
     (pick (ltb (count (a .tokens)) (a .start)) RefusalNumbers.badStart
     (pick (ltb (length (a .nodes)) nodeStore) RefusalNumbers.shortNodes
-    (pick (ltb (length (a .diagnostics) / 10) (a .used + freeRecords)) RefusalNumbers.shortDiagnostics 0))))))
-unfolding refusal conditions lineAndList startAndStores firstOf
+    (pick (ltb (length (a .diagnostics) / 10) (a .used + freeRecords)) RefusalNumbers.shortDiagnostics
+    (pick (either (ltb (a .limit) 1) (ltb highestLimit (a .limit))) RefusalNumbers.badLimit 0)))))))
+unfolding refusal refusals lineAndList startStoresAndLimit firstOf
 refusal-named a = refl
 
 -- ---- the answer
@@ -181,9 +197,9 @@ pub record Outcome : Type 0 where
   pub nodes : List ℕ
   pub diagnostics : List ℕ
 
--- the reading of an input, at a nesting limit
-abbrev pub readingAt : ℕ → Input → Reading (Maybe Operand)
-readingAt limit a = readingOf limit (a .mark) (placeOf a) (a .start)
+-- the reading of an input, at its nesting limit
+abbrev pub readingAt : Input → Reading (Maybe Operand)
+readingAt a = readingOf (a .limit) (a .mark) (placeOf a) (a .start)
 
 unfoldable pub answerOf : Reading (Maybe Operand) → Maybe Operand → Answer
 answerOf r (some x) = operand (operandRecord x) (r .cursor) (sizeM (some x)) (length (r .raised)) (maskO x)
@@ -198,31 +214,31 @@ unfoldable pub diagnosticsAfter : Reading (Maybe Operand) → ℕ → List ℕ �
 diagnosticsAfter r used D = take (10 * used) D ++ (diagnosticsLaid (r .raised) ++ drop (10 * (used + length (r .raised))) D)
 
 -- a refusal leaves both stores as they were
-unfoldable pub outcomeOf : ℕ → Input → ℕ → Outcome
-outcomeOf limit a zero =
-    let r = readingAt limit a in
+unfoldable pub outcomeOf : Input → ℕ → Outcome
+outcomeOf a zero =
+    let r = readingAt a in
     record { answer = answerOf r (r .value); nodes = nodesAfter (r .value) (a .nodes); diagnostics = diagnosticsAfter r (a .used) (a .diagnostics) }
-outcomeOf limit a (suc k) = record { answer = refused (suc k); nodes = a .nodes; diagnostics = a .diagnostics }
+outcomeOf a (suc k) = record { answer = refused (suc k); nodes = a .nodes; diagnostics = a .diagnostics }
 
-unfoldable pub outcome : ℕ → Input → Outcome
-outcome limit a = outcomeOf limit a (refusal a)
+unfoldable pub outcome : Input → Outcome
+outcome a = outcomeOf a (refusal a)
 
 -- the number of the case, by the refusal and by what is read
 unfoldable pub readNumber : Maybe Operand → ℕ
 readNumber (some x) = operandNumber
 readNumber none = noOperandNumber
 
-unfoldable pub outcomeNumber : ℕ → Input → ℕ
-outcomeNumber limit a = pick (eqb (refusal a) 0) (readNumber (readingAt limit a .value)) refusedNumber
+unfoldable pub outcomeNumber : Input → ℕ
+outcomeNumber a = pick (eqb (refusal a) 0) (readNumber (readingAt a .value)) refusedNumber
 
-pub outcome-number : (limit : ℕ) (a : Input) → answerNumber (outcome limit a .answer) ≡ outcomeNumber limit a
+pub outcome-number : (a : Input) → answerNumber (outcome a .answer) ≡ outcomeNumber a
 unfolding answerNumber answerOf outcome outcomeOf readNumber outcomeNumber
-outcome-number limit a = go (refusal a)
+outcome-number a = go (refusal a)
   where
     at : (r : Reading (Maybe Operand)) (v : Maybe Operand) → answerNumber (answerOf r v) ≡ readNumber v
     at r (some x) = refl
     at r none = refl
 
-    go : (k : ℕ) → answerNumber (outcomeOf limit a k .answer) ≡ pick (eqb k 0) (readNumber (readingAt limit a .value)) refusedNumber
-    go zero = at (readingAt limit a) (readingAt limit a .value)
+    go : (k : ℕ) → answerNumber (outcomeOf a k .answer) ≡ pick (eqb k 0) (readNumber (readingAt a .value)) refusedNumber
+    go zero = at (readingAt a) (readingAt a .value)
     go (suc k) = rw (ne-eqb (suc k) 0 (λ e. omega arith))

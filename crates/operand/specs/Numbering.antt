@@ -9,7 +9,7 @@ use Rattle.operand.specs.Operands as O
 use Rattle.operand.specs.Records.{sizeD, sizeO, sizeM}
 use Rattle.operand.specs.Forms.{sizedOf, recordOf}
 use Rattle.operand.specs.Entry.{Input, readingAt}
-use Rattle.operand.specs.Conditions.{Valid, valid-bounds, nodes-bound, cursor-bounds}
+use Rattle.operand.specs.Conditions.{Valid, valid-bounds, valid-limit, nodes-bound, cursor-bounds}
 use Rattle.operand.specs.declared.forms.SizedDisplacement.{SizedDisplacement}
 use Rattle.operand.specs.declared.forms.OperandRecord.{OperandRecord}
 
@@ -72,9 +72,9 @@ AnswerIn m (some x) = NodesIn m (recordOf x)
 AnswerIn m none = Unit {0}
 
 -- below 255, so that none is taken for an absent one either
-pub numbers-bytes : (limit : ℕ) → 1 ≤ limit → (a : Input) → Valid a → AnswerIn 255 (readingAt limit a .value)
+pub numbers-bytes : (a : Input) → Valid a → AnswerIn 255 (readingAt a .value)
 unfolding sizeM
-numbers-bytes limit lim a v = go (readingAt limit a .value) (omega (arith, nodes-bound limit lim a, cursor-bounds limit lim a v .1, valid-bounds a v .0))
+numbers-bytes a v = let lim = valid-limit a v .0 in go (readingAt a .value) (omega (arith, nodes-bound a lim, cursor-bounds a lim v .1, valid-bounds a v .0))
   where
     go : (z : Maybe Operand) → sizeM z ≤ 255 → AnswerIn 255 z
     go (some x) h = record-in 255 x (omega arith) h

@@ -77,12 +77,12 @@ tokens-in m L T long good = record { tokens = λ j k x h. go j k x (leb (count T
 -- ---- the law
 
 -- m: the line's length, or any number from there on
-pub offsets-in : (limit : ℕ) (a : Input) → Valid a → (m : ℕ) → length (a .line) ≤ m → ReadingIn m (readingAt limit a)
-offsets-in limit a valid m long = reading-in m limit (a .mark) (placeOf a) (a .start) (tokens-in m (a .line) (a .tokens) long (valid-tokens a valid .1))
+pub offsets-in : (a : Input) → Valid a → (m : ℕ) → length (a .line) ≤ m → ReadingIn m (readingAt a)
+offsets-in a valid m long = reading-in m (a .limit) (a .mark) (placeOf a) (a .start) (tokens-in m (a .line) (a .tokens) long (valid-tokens a valid .1))
 
 -- so that each is a byte
-pub offsets-bytes : (limit : ℕ) (a : Input) → Valid a → ReadingIn 255 (readingAt limit a)
-offsets-bytes limit a valid = offsets-in limit a valid 255 (valid-tokens a valid .0)
+pub offsets-bytes : (a : Input) → Valid a → ReadingIn 255 (readingAt a)
+offsets-bytes a valid = offsets-in a valid 255 (valid-tokens a valid .0)
 
 -- and its low byte
 pub span-low : (s : Span) → SpanIn 255 s → (s .start % 256 ≡ s .start) × (s .end % 256 ≡ s .end)

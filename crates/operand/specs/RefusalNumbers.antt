@@ -1,4 +1,4 @@
--- The refusals, in the order in which they are looked for; the last, which the program alone has, before all others.
+-- The refusals by their numbers (docs/FORMAT.md has the order in which they are looked for).
 -- Assumes nothing.
 use Prim.Native.Nat.{ℕ}
 
@@ -33,3 +33,7 @@ shortDiagnostics = 7
 -- of the program alone: a line of the input that is no frame
 abbrev pub badFrame : ℕ
 badFrame = 8
+
+-- a nesting limit outside 1 to 128
+abbrev pub badLimit : ℕ
+badLimit = 18

@@ -1,4 +1,4 @@
--- The trial lines that document 01 marks: one table, and one theorem.
+-- The trial lines that document 01 marks, and those of the nesting limit (document 02): one table, and one theorem.
 -- Assumes nothing.
 use mathlib.Core.Path.{_≡_, refl}
 use mathlib.Core.Bool.{Bool, true, false}
@@ -55,10 +55,11 @@ pub data Claim : Type 0 where
   span : ℕ → ℕ → Claim
   name : ℕ → ℕ → Claim
 
--- a text with its tokens, four bytes each
+-- a text with its tokens, four bytes each, and the nesting limit
 pub record Trial : Type 0 where
   pub text : List ℕ
   pub tokens : List ℕ
+  pub limit : ℕ
   pub claims : List Claim
 
 -- ---- whether a reading meets a claim
@@ -135,9 +136,9 @@ unfoldable pub meetsAll : Reading (Maybe Operand) → List Claim → Bool
 meetsAll r [] = true
 meetsAll r (c ∷ cs) = both (meets r c) (meetsAll r cs)
 
--- read from the first token on, with at most 64 terms open and no symbol mark
+-- read from the first token on, at its limit and without a symbol mark
 unfoldable pub holdsFor : Trial → Bool
-holdsFor t = meetsAll (readingOf 64 255 (place (t .text) (t .tokens)) 0) (t .claims)
+holdsFor t = meetsAll (readingOf (t .limit) 255 (place (t .text) (t .tokens)) 0) (t .claims)
 
 unfoldable pub holdForAll : List Trial → Bool
 holdForAll [] = true
@@ -159,16 +160,20 @@ digit at rest = token Kinds.number at (at + 1) rest
 abbrev pub register : ℕ → List ℕ → List ℕ
 register at rest = token Kinds.identifier at (at + 2) rest
 
+abbrev pub trialAt : ℕ → String → List ℕ → List Claim → Trial
+trialAt limit t ts cs = record { text = bytes t; tokens = ts; limit = limit; claims = cs }
+
+-- with at most 64 terms open
 abbrev pub trial : String → List ℕ → List Claim → Trial
-trial t ts cs = record { text = bytes t; tokens = ts; claims = cs }
+trial t ts cs = trialAt 64 t ts cs
 
 -- n minus signs from an offset on, and then `1`
 unfoldable pub minusTokens : ℕ → ℕ → List ℕ
 minusTokens at zero = digit at []
 minusTokens at (suc n) = sign Kinds.minus at (minusTokens (at + 1) n)
 
-unfoldable pub minuses : ℕ → List Claim → Trial
-minuses n cs = record { text = replicate n 45 ++ (49 ∷ []); tokens = minusTokens 0 n; claims = cs }
+unfoldable pub minuses : ℕ → ℕ → List Claim → Trial
+minuses limit n cs = record { text = replicate n 45 ++ (49 ∷ []); tokens = minusTokens 0 n; limit = limit; claims = cs }
 
 unfoldable pub table : List Trial
 table =
@@ -188,10 +193,23 @@ table =
     ∷ trial "($10.w)" (sign Kinds.leftParen 0 (Kinds.number ∷ 1 ∷ 1 ∷ 4 ∷ token Kinds.sizeSuffix 4 6 (sign Kinds.rightParen 6 []))) (noOperand ∷ [])
     ∷ trial "([])" (sign Kinds.leftParen 0 (sign Kinds.leftBracket 1 (sign Kinds.rightBracket 2 (sign Kinds.rightParen 3 [])))) (form 12 ∷ kinds [] ∷ [])
     ∷ trial "(name)" (sign Kinds.leftParen 0 (token Kinds.identifier 1 5 (sign Kinds.rightParen 5 []))) (span 0 6 ∷ name 1 5 ∷ kinds [] ∷ [])
-    ∷ minuses 63 (form 13 ∷ cursor 64 ∷ kinds [] ∷ [])
-    ∷ minuses 64 (noOperand ∷ kinds (6 ∷ []) ∷ [])
+    ∷ minuses 64 63 (form 13 ∷ cursor 64 ∷ kinds [] ∷ [])
+    ∷ minuses 64 64 (noOperand ∷ kinds (6 ∷ []) ∷ [])
     -- a unary plus is stepped over, and told
     ∷ trial "1++5" (digit 0 (sign Kinds.plus 1 (sign Kinds.plus 2 (digit 3 [])))) (form 13 ∷ cursor 4 ∷ tree "(1+5)" ∷ kinds (13 ∷ []) ∷ [])
+    -- the lowest limit: one term may be open, and the operand's own first parenthesis opens none
+    ∷ trialAt 1 "(1)" (sign Kinds.leftParen 0 (digit 1 (sign Kinds.rightParen 2 []))) (form 13 ∷ kinds [] ∷ [])
+    ∷ trialAt 1 "((1))" (sign Kinds.leftParen 0 (sign Kinds.leftParen 1 (digit 2 (sign Kinds.rightParen 3 (sign Kinds.rightParen 4 []))))) (noOperand ∷ cursor 2 ∷ kinds (6 ∷ []) ∷ [])
+    ∷ trialAt 1 "-1" (sign Kinds.minus 0 (digit 1 [])) (noOperand ∷ cursor 1 ∷ kinds (6 ∷ []) ∷ [])
+    -- a term that is too deep does not always cost the operand
+    ∷ trialAt 1 "1+-1" (digit 0 (sign Kinds.plus 1 (sign Kinds.minus 2 (digit 3 [])))) (form 13 ∷ cursor 3 ∷ tree "1" ∷ kinds (6 ∷ []) ∷ [])
+    -- without an operand the place behind the cursor decides, and no further one: `-(` and a register is a predecrement, closed or not
+    ∷ trialAt 1 "-(x" (sign Kinds.minus 0 (sign Kinds.leftParen 1 (token Kinds.identifier 2 3 []))) (noOperand ∷ cursor 1 ∷ kinds (6 ∷ []) ∷ [])
+    ∷ trialAt 1 "-(a0)" (sign Kinds.minus 0 (sign Kinds.leftParen 1 (register 2 (sign Kinds.rightParen 4 [])))) (form 7 ∷ cursor 4 ∷ kinds [] ∷ [])
+    ∷ trialAt 1 "-(a0," (sign Kinds.minus 0 (sign Kinds.leftParen 1 (register 2 (sign Kinds.comma 4 [])))) (noOperand ∷ cursor 3 ∷ kinds (7 ∷ []) ∷ problem 3 ∷ [])
+    -- the highest
+    ∷ minuses 128 127 (form 13 ∷ cursor 128 ∷ kinds [] ∷ [])
+    ∷ minuses 128 128 (noOperand ∷ cursor 128 ∷ kinds (6 ∷ []) ∷ [])
     ∷ []
 
 -- each line is read as claimed

@@ -1,4 +1,4 @@
-// The refusals, in the order in which they are looked for; the last, which the program alone has, before all others.
+// The refusals by their numbers (docs/FORMAT.md has the order in which they are looked for).
 
 // over 255 bytes
 pub const LONG_LINE: u8 = 1;
@@ -23,3 +23,6 @@ pub const SHORT_DIAGNOSTICS: u8 = 7;
 
 // of the program alone: a line of the input that is no frame
 pub const BAD_FRAME: u8 = 8;
+
+// a nesting limit outside 1 to 128
+pub const BAD_LIMIT: u8 = 18;
