@@ -16,8 +16,8 @@ int main(void) {
     static const uint8_t line[] = {'4', '(', 'a', '0', ')'};
     static const uint8_t tokens[] = {2, 0, 0, 1, 7, 0, 1, 2, 0, 0, 2, 4, 8, 0, 4, 5};
     uint8_t answer[SAGDRIF_ANSWER_BYTES];
-    uint8_t number = sagdrif_parse_operand(line, sizeof line, tokens, sizeof tokens, 0, 255, nodes, sizeof nodes, diagnostics,
-        sizeof diagnostics, 0, answer, sizeof answer);
+    uint8_t number = sagdrif_parse_operand(line, sizeof line, tokens, sizeof tokens, 0, 255, SAGDRIF_LIMIT_PROGRAM, nodes, sizeof nodes,
+        diagnostics, sizeof diagnostics, 0, answer, sizeof answer);
     if (number != SAGDRIF_READ) {
         printf("02%02x\n", number);
         return 1;

@@ -1,5 +1,6 @@
 /* Frames on standard input, answer lines on standard output, as the program `operands` gives them; then COUNT calls with arbitrary bytes.
- *     replay [COUNT]
+ *     replay [--limit N] [COUNT]
+ * The frames are read at the nesting limit N (64), which may be any number; the other calls draw theirs.
  * Every lent byte is allocated at its exact length, so that valgrind sees any access past it. */
 #include "sagdrif.h"
 
@@ -48,7 +49,7 @@ static long decode(const char *text, size_t length, uint8_t *bytes) {
     return (long)(length / 2);
 }
 
-static void answer_frame(const uint8_t *frame, size_t length) {
+static void answer_frame(const uint8_t *frame, size_t length, size_t limit) {
     size_t line_length = length ? frame[0] : 0;
     if (length < line_length + 4 || length != line_length + 4 * (size_t)frame[line_length + 1] + 4) {
         printf("0208\n");
@@ -58,7 +59,7 @@ static void answer_frame(const uint8_t *frame, size_t length) {
     size_t diagnostics_length = SAGDRIF_DIAGNOSTIC * SAGDRIF_DIAGNOSTICS_FREE;
     uint8_t *line = copy(frame + 1, line_length), *tokens = copy(frame + line_length + 2, tokens_length);
     uint8_t *nodes = block(SAGDRIF_NODES_BYTES), *diagnostics = block(diagnostics_length), *answer = block(SAGDRIF_ANSWER_BYTES);
-    uint8_t number = sagdrif_parse_operand(line, line_length, tokens, tokens_length, frame[length - 2], frame[length - 1], nodes,
+    uint8_t number = sagdrif_parse_operand(line, line_length, tokens, tokens_length, frame[length - 2], frame[length - 1], limit, nodes,
         SAGDRIF_NODES_BYTES, diagnostics, diagnostics_length, 0, answer, SAGDRIF_ANSWER_BYTES);
     if (number != SAGDRIF_READ) {
         printf("02%02x", number);
@@ -89,6 +90,11 @@ static uint8_t *noise(size_t length, unsigned low, unsigned count) {
     return bytes;
 }
 
+/* Whether a call may return a number. */
+static int is_known(int number) {
+    return number <= SAGDRIF_SHORT_DIAGNOSTICS || number == SAGDRIF_BAD_LIMIT || number == SAGDRIF_SHORT_ANSWER;
+}
+
 /* One call with arbitrary lengths, bytes and numbers. A refusal must write nothing. */
 static int arbitrary(void) {
     size_t line_length = draw() % 8 ? draw() % 12 : draw() % 300, tokens_length = draw() % 8 ? 4 * (draw() % 4) : draw() % 1100;
@@ -100,13 +106,14 @@ static int arbitrary(void) {
     uint8_t *nodes_before = copy(nodes, nodes_length), *diagnostics_before = copy(diagnostics, diagnostics_length);
     uint8_t *answer_before = copy(answer, answer_length);
     size_t start = draw() % 8 ? draw() % 3 : (size_t)draw(), mark = draw() % 2 ? draw() % 3 : (size_t)draw();
-    uint8_t number = sagdrif_parse_operand(line, line_length, tokens, tokens_length, start, mark, nodes, nodes_length, diagnostics,
+    size_t limit = draw() % 8 ? 1 + draw() % SAGDRIF_LIMIT_MOST : draw() % 2 ? (SAGDRIF_LIMIT_MOST + 1) * (draw() % 2) : (size_t)draw();
+    uint8_t number = sagdrif_parse_operand(line, line_length, tokens, tokens_length, start, mark, limit, nodes, nodes_length, diagnostics,
         diagnostics_length, used, answer, answer_length);
     int stays = !memcmp(nodes, nodes_before, nodes_length) && !memcmp(diagnostics, diagnostics_before, diagnostics_length) &&
         !memcmp(answer, answer_before, answer_length);
-    int known = number <= SAGDRIF_SHORT_DIAGNOSTICS || number == SAGDRIF_SHORT_ANSWER;
-    int short_answer = answer_length < SAGDRIF_ANSWER_BYTES;
-    int well = known && short_answer == (number == SAGDRIF_SHORT_ANSWER) && (number == SAGDRIF_READ ? answer[SAGDRIF_KIND] <= 1 : stays);
+    int short_answer = answer_length < SAGDRIF_ANSWER_BYTES, good_limit = limit >= 1 && limit <= SAGDRIF_LIMIT_MOST;
+    int well = is_known(number) && short_answer == (number == SAGDRIF_SHORT_ANSWER) &&
+        (number == SAGDRIF_READ ? good_limit && answer[SAGDRIF_KIND] <= 1 : stays) && !(number == SAGDRIF_BAD_LIMIT && good_limit);
     free(line), free(tokens), free(nodes), free(diagnostics), free(answer);
     free(nodes_before), free(diagnostics_before), free(answer_before);
     return well ? number : -1;
@@ -115,6 +122,11 @@ static int arbitrary(void) {
 int main(int count, char **words) {
     static char text[2 * LONGEST];
     static uint8_t frame[LONGEST];
+    size_t limit = SAGDRIF_LIMIT_PROGRAM;
+    if (count > 2 && !strcmp(words[1], "--limit")) {
+        limit = (size_t)strtoull(words[2], NULL, 10);
+        count -= 2, words += 2;
+    }
     while (fgets(text, sizeof text, stdin)) {
         size_t length = strcspn(text, "\n");
         if (length + 1 == sizeof text) {
@@ -126,7 +138,7 @@ int main(int count, char **words) {
         if (bytes < 0) {
             printf("0208\n");
         } else {
-            answer_frame(frame, (size_t)bytes);
+            answer_frame(frame, (size_t)bytes, limit);
         }
     }
     long calls = count > 1 ? atol(words[1]) : 0, seen[SAGDRIF_SHORT_ANSWER + 1] = {0};
@@ -139,7 +151,7 @@ int main(int count, char **words) {
         seen[number]++;
     }
     for (int k = 0; calls && k <= SAGDRIF_SHORT_ANSWER; k++) {
-        if (k <= SAGDRIF_SHORT_DIAGNOSTICS || k == SAGDRIF_SHORT_ANSWER) {
+        if (is_known(k)) {
             fprintf(stderr, "number %d: %ld calls\n", k, seen[k]);
         }
     }

@@ -1,6 +1,6 @@
-/* How much stack a call takes: lines that open terms and pile up operators, read on a thread whose stack is painted before each call.
- * Prints the bytes of some lines and of the deepest of all that were tried, and fails if it needs more than the header says. What a call
- * takes is counted from its caller's frame down to the lowest byte that was written. */
+/* How much stack a call takes: lines that open terms and pile up operators, read on a thread whose stack is painted before each call, at
+ * the program's nesting limit and at the greatest. Prints the bytes of some lines and of the deepest of all that were tried, and fails if
+ * it needs more than the header says. What a call takes is counted from its caller's frame down to the lowest byte that was written. */
 #define _POSIX_C_SOURCE 200809L
 #include "sagdrif.h"
 
@@ -9,13 +9,11 @@
 #include <stdlib.h>
 #include <string.h>
 
-#define OPEN 65                         /* one more than the terms that may be open */
-
-static _Alignas(64) uint8_t stack[SAGDRIF_STACK_BYTES + 65536];
+static _Alignas(64) uint8_t stack[SAGDRIF_STACK_BYTES + 262144];
 static uint8_t nodes[SAGDRIF_NODES_BYTES], diagnostics[SAGDRIF_DIAGNOSTIC * SAGDRIF_DIAGNOSTICS_FREE], answer[SAGDRIF_ANSWER_BYTES];
 static uint8_t tokens[SAGDRIF_TOKEN * SAGDRIF_TOKENS_MOST];
 static char line[SAGDRIF_LINE_MOST + 1], deepest_line[SAGDRIF_LINE_MOST + 1];
-static size_t deepest, tried;
+static size_t limit, deepest, deepest_limit, tried;
 
 /* Adds a text to the line as often as it fits, `count` times at most. */
 static void add(const char *text, size_t count) {
@@ -42,14 +40,19 @@ static size_t lex(void) {
 }
 
 static __attribute__((noinline)) size_t painted(uint8_t colour) {
+    static uint8_t page[4096];
     uint8_t *top = __builtin_frame_address(0);
     size_t length = lex(), untouched = 0;
+    memset(page, colour, sizeof page);
     memset(stack, colour, (size_t)(top - stack) - 512);
-    uint8_t number = sagdrif_parse_operand((const uint8_t *)line, strlen(line), tokens, length, 0, SAGDRIF_TOKENS_MOST, nodes, sizeof nodes,
-        diagnostics, sizeof diagnostics, 0, answer, sizeof answer);
+    uint8_t number = sagdrif_parse_operand((const uint8_t *)line, strlen(line), tokens, length, 0, SAGDRIF_TOKENS_MOST, limit, nodes,
+        sizeof nodes, diagnostics, sizeof diagnostics, 0, answer, sizeof answer);
     if (number != SAGDRIF_READ) {
         printf("`%s` is refused: %d\n", line, number);
         exit(1);
+    }
+    while (!memcmp(stack + untouched, page, sizeof page)) {
+        untouched += sizeof page;
     }
     while (((volatile uint8_t *)stack)[untouched] == colour) {
         untouched++;
@@ -62,7 +65,7 @@ static size_t measured(void) {
     size_t first = painted(0xA5), second = painted(0x5A), bytes = first > second ? first : second;
     tried++;
     if (bytes > deepest) {
-        deepest = bytes;
+        deepest = bytes, deepest_limit = limit;
         strcpy(deepest_line, line);
     }
     return bytes;
@@ -81,13 +84,13 @@ static void repeated(const char *name, const char *text, size_t count, const cha
 
 #define COUNT(of) (sizeof of / sizeof *of)
 
-/* A line of the family number `k`: a beginning, some openers and a group, operators as many as fit, the other openers, and a last term.
- * Returns 0 behind the last number. */
+/* A line of the family number `k`: a beginning, some openers and a group, operators as many as fit, the other openers, and a last term;
+ * the openers open one term more than may be open. Returns 0 behind the last number. */
 static int piled(size_t k) {
     static const char *starts[] = {"", "#", "(", "([", "([],", "([a0],", "([a0],d0,", "(d0,", "1(a0,"};
     static const char *openers[] = {"-", "(", "+", "-("}, *lasts[] = {"", "1", "a", "d0"};
     static const char *operators[] = {"1+", "1&", "1+1*1&", "1+1*1&1<<"};
-    static const size_t befores[] = {0, 1, 2, 16, 32, 48, 62, 63};
+    const size_t befores[] = {0, 1, 2, limit / 4, limit / 2, limit / 4 * 3, limit - 2, limit - 1};
     const char *start = starts[k % COUNT(starts)], *opener = openers[k / COUNT(starts) % COUNT(openers)];
     k /= COUNT(starts) * COUNT(openers);
     const char *last = lasts[k % COUNT(lasts)], *operator = operators[k / COUNT(lasts) % COUNT(operators)];
@@ -95,30 +98,38 @@ static int piled(size_t k) {
     if (k == COUNT(befores)) {
         return 0;
     }
-    size_t open = OPEN / strlen(opener), before = befores[k] < open ? befores[k] : open, group = before > 0;
+    size_t most = limit + 1, open = most / strlen(opener), before = befores[k] < open ? befores[k] : open, group = before > 0;
     line[0] = 0;
     add(start, 1);
     add(opener, before);
     add("(", group);
-    add(operator, (SAGDRIF_LINE_MOST - strlen(start) - OPEN - strlen(last)) / strlen(operator));
+    add(operator, (SAGDRIF_LINE_MOST - strlen(start) - most - strlen(last)) / strlen(operator));
     add(opener, open - before);
     add(last, 1);
     return 1;
 }
 
-static void *all(void *nothing) {
+static void all_at(size_t terms) {
+    limit = terms;
+    printf("nesting limit %zu\n", limit);
     repeated("d0", "d0", 1, "");
     repeated("4(a0)", "4(a0)", 1, "");
     repeated("([4,a0],8)", "([4,a0],8)", 1, "");
     repeated("list of 85 registers", "d0/", 84, "d0");
     repeated("list of 42 ranges", "d0-d7/", 42, "d0");
     repeated("255 plus signs", "+", 255, "");
-    repeated("64 groups in each other", "(", 64, "1");
-    repeated("64 minus signs", "-", 64, "1");
+    repeated("groups, as many as the limit", "(", limit, "1");
+    repeated("minus signs, as many", "-", limit, "1");
     repeated("128 terms, 255 tokens", "1+", 127, "1");
     for (size_t k = 0; piled(k); k++) {
         measured();
     }
+    line[0] = 0;
+}
+
+static void *all(void *nothing) {
+    all_at(SAGDRIF_LIMIT_PROGRAM);
+    all_at(SAGDRIF_LIMIT_MOST);
     return nothing;
 }
 
@@ -129,6 +140,6 @@ int main(void) {
         pthread_create(&thread, &attributes, all, NULL) || pthread_join(thread, NULL)) {
         return 2;
     }
-    printf("the deepest of %zu lines tried takes %zu\n%s\n", tried, deepest, deepest_line);
+    printf("the deepest of %zu lines tried takes %zu\n%s at limit %zu\n", tried, deepest, deepest_line, deepest_limit);
     return deepest > SAGDRIF_STACK_BYTES;
 }

@@ -19,6 +19,8 @@ extern "C" {
 #define SAGDRIF_DIAGNOSTIC 10          /* a diagnostic record */
 #define SAGDRIF_DIAGNOSTICS_FREE 511   /* records that must be free behind the used ones */
 #define SAGDRIF_ANSWER_BYTES 27        /* the least answer store */
+#define SAGDRIF_LIMIT_MOST 128         /* the greatest nesting limit; the least is 1 */
+#define SAGDRIF_LIMIT_PROGRAM 64       /* the nesting limit of the program `operands`, which is the Rust's */
 #define SAGDRIF_STACK_BYTES 65536      /* stack that a call is given on x86-64: more than any line tried takes (bindings/c/stack.c) */
 
 /* What is returned: 0, and the answer is written; or the number of a refusal, and no byte is written. */
@@ -31,6 +33,7 @@ enum sagdrif_number {
     SAGDRIF_BAD_START = 5,             /* start past the token count */
     SAGDRIF_SHORT_NODES = 6,           /* node store under 3,570 bytes */
     SAGDRIF_SHORT_DIAGNOSTICS = 7,     /* fewer than 511 whole records free after the used ones. 8 is the program's alone */
+    SAGDRIF_BAD_LIMIT = 18,            /* limit outside 1 to 128; checked after 7 */
     SAGDRIF_SHORT_ANSWER = 255         /* answer store under 27 bytes; checked before the others. The library's own number */
 };
 
@@ -52,6 +55,7 @@ enum sagdrif_answer {
  *   tokens, tokens_length              the tokens, SAGDRIF_TOKEN bytes each, read only
  *   start                              the token that the operand begins at
  *   mark                               the token that is not read as a suppressed register (zd0, za0, zpc); one at or past the token count means none
+ *   limit                              how many terms may be open in each other, 1 to 128; the program `operands` gives 64
  *   nodes, nodes_length                the node store. With an answer its first 3,570 bytes are the used records and zeros; the others stay
  *   diagnostics, diagnostics_length    the diagnostic list. With an answer the added records stand behind the used ones; all other bytes stay
  *   used                               how many records of the list are used
@@ -60,7 +64,7 @@ enum sagdrif_answer {
 uint8_t sagdrif_parse_operand(
     const uint8_t *line, size_t line_length,
     const uint8_t *tokens, size_t tokens_length,
-    size_t start, size_t mark,
+    size_t start, size_t mark, size_t limit,
     uint8_t *nodes, size_t nodes_length,
     uint8_t *diagnostics, size_t diagnostics_length,
     size_t used,

@@ -9,7 +9,7 @@ use frames::refusal::refusal;
 use frames::tokens::rust_token;
 use s68k::assembler::parser::driver::read_operand;
 use s68k::assembler::token::Token;
-use sagdrif::{Answer, Refusal, DIAGNOSTIC, DIAGNOSTICS_FREE, NODE, NODES_BYTES};
+use sagdrif::{Answer, Refusal, DIAGNOSTIC, DIAGNOSTICS_FREE, LIMIT_PROGRAM, NODE, NODES_BYTES};
 
 /// A text and its tokens, for each reader in its own form. No token is marked.
 pub struct Case {
@@ -69,6 +69,7 @@ impl Stores {
             tokens,
             start,
             255,
+            LIMIT_PROGRAM,
             &mut self.nodes,
             &mut self.diagnostics,
             0,
@@ -85,6 +86,7 @@ impl Stores {
             tokens,
             0,
             255,
+            LIMIT_PROGRAM,
             &mut self.nodes,
             &mut [],
             0,

@@ -13,6 +13,10 @@ pub const NODE: usize = 14;
 pub const DIAGNOSTIC: usize = 10;
 /// The diagnostic records that must be free behind the used ones.
 pub const DIAGNOSTICS_FREE: usize = 511;
+/// The greatest nesting limit; the least is 1.
+pub const LIMIT_MOST: usize = 128;
+/// The nesting limit of the program `operands`, which is the Rust's.
+pub const LIMIT_PROGRAM: usize = 64;
 
 /// The bytes of an answer in the library's own layout.
 const ANSWER_BYTES: usize = 27;
@@ -25,6 +29,7 @@ extern "C" {
         tokens_length: usize,
         start: usize,
         mark: usize,
+        limit: usize,
         nodes: *mut u8,
         nodes_length: usize,
         diagnostics: *mut u8,
@@ -109,6 +114,8 @@ pub enum Refusal {
     ShortNodes = 6,
     /// Fewer than [`DIAGNOSTICS_FREE`] whole records are free behind the used ones.
     ShortDiagnostics = 7,
+    /// The nesting limit is outside 1 to [`LIMIT_MOST`].
+    BadLimit = 18,
 }
 
 impl Refusal {
@@ -121,12 +128,14 @@ impl Refusal {
             5 => Refusal::BadStart,
             6 => Refusal::ShortNodes,
             7 => Refusal::ShortDiagnostics,
+            18 => Refusal::BadLimit,
             _ => unreachable!("the answer store has its {ANSWER_BYTES} bytes"),
         }
     }
 }
 
-/// Reads the operand that begins at the token `start`, and writes the answer. A `mark` at or past the token count means none.
+/// Reads the operand that begins at the token `start`, and writes the answer. A `mark` at or past the token count means none;
+/// `limit` is how many terms may be open in each other, 1 to [`LIMIT_MOST`].
 #[allow(clippy::too_many_arguments)] // what a call is lent and given
 #[inline]
 pub fn parse_operand(
@@ -134,6 +143,7 @@ pub fn parse_operand(
     tokens: &[u8],
     start: usize,
     mark: usize,
+    limit: usize,
     nodes: &mut [u8],
     diagnostics: &mut [u8],
     used: usize,
@@ -149,6 +159,7 @@ pub fn parse_operand(
             tokens.len(),
             start,
             mark,
+            limit,
             nodes.as_mut_ptr(),
             nodes.len(),
             diagnostics.as_mut_ptr(),

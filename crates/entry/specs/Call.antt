@@ -8,7 +8,6 @@ use Rattle.names.specs.Tokens.{count}
 use Rattle.records.specs.declared.counters.Counters.{Counters}
 use Rattle.operand.specs.declared.forms.OperandRead.{OperandRead}
 use Rattle.operand.specs.declared.forms.OperandStep.{OperandStep}
-use Rattle.operand.specs.RefusalNumbers
 use Rattle.operand.specs.Entry.{lineAndList, firstOf}
 use Rattle.layout.specs.declared.answer.Answer.{Answer}
 use Rattle.layout.specs.Nodes.{nodesEncoded}
@@ -16,12 +15,12 @@ use Rattle.layout.specs.Diagnostics.{diagnosticsEncoded}
 
 -- neither the line nor the list is refused, and it has at most n tokens
 pub record ListAsks (L T : List ℕ) (n : ℕ) : Type 0 where
-  pub passed : firstOf RefusalNumbers.longLine (lineAndList L T) ≡ 0
+  pub passed : firstOf (lineAndList L T) ≡ 0
   pub few : count T ≤ n
 
 -- and the call's own stores have room for whatever is read of it: its numbers, a node for each token, a diagnostic for each and one more
 pub record StoresAsk (L T list records reports : List ℕ) : Type 0 where
-  pub passed : firstOf RefusalNumbers.longLine (lineAndList L T) ≡ 0
+  pub passed : firstOf (lineAndList L T) ≡ 0
   pub tokens : 4 * count T ≤ length list
   pub nodes : 10 * count T ≤ length records
   pub diagnostics : 10 * (count T + 1) ≤ length reports

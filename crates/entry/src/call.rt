@@ -12,26 +12,24 @@ use operand::refusal_numbers::BAD_TOKEN;
 use operand_code::OperandAnswer;
 use operand_code::operand_at;
 use refusals::refuse_line_and_list;
-use refusals::refuse_start_and_stores;
+use refusals::refuse_start_stores_and_limit;
 ghost use Rattle.operand.specs.Entry.{call};
 ghost use Rattle.layout.specs.Promise.{EntryPromise};
 ghost use Rattle.entry.specs.Call.{ListAsks, StoresAsk, AnswerTold};
 
-// How many terms may be open in each other.
-const NESTING: u16 = 64;
-
-// Reads the operand that begins at the token `start`. A refusal writes nothing. The numbers of the reading stand in stores of the
-// call's own, in four sizes, since to clear them takes longer than to read a short list.
+// Reads the operand that begins at the token `start`; at most `limit` terms may be open in each other. A refusal writes nothing. The
+// numbers of the reading stand in stores of the call's own, in four sizes, since to clear them takes longer than to read a short list.
 pub fn parse_operand(
     line: &[u8],
     tokens: &[u8],
     start: usize,
     mark: usize,
+    limit: usize,
     nodes: &mut [u8],
     diagnostics: &mut [u8],
     used: usize,
 ) -> Answer
-    ensures { λ r. ⌜ EntryPromise (call (now (line .entry)) (now (tokens .entry)) start mark (now (nodes .entry)) (now (diagnostics .entry)) used) (now (nodes .exit)) (now (diagnostics .exit)) r ⌝ }
+    ensures { λ r. ⌜ EntryPromise (call (now (line .entry)) (now (tokens .entry)) start mark limit (now (nodes .entry)) (now (diagnostics .entry)) used) (now (nodes .exit)) (now (diagnostics .exit)) r ⌝ }
 {
     let n = refuse_line_and_list(line, tokens);
     if n != 0 {
@@ -39,15 +37,15 @@ pub fn parse_operand(
     }
     let count = tokens.len() / 4;
     if count <= 8 {
-        return read_8(line, tokens, start, mark, nodes, diagnostics, used);
+        return read_8(line, tokens, start, mark, limit, nodes, diagnostics, used);
     }
     if count <= 16 {
-        return read_16(line, tokens, start, mark, nodes, diagnostics, used);
+        return read_16(line, tokens, start, mark, limit, nodes, diagnostics, used);
     }
     if count <= 64 {
-        return read_64(line, tokens, start, mark, nodes, diagnostics, used);
+        return read_64(line, tokens, start, mark, limit, nodes, diagnostics, used);
     }
-    read_255(line, tokens, start, mark, nodes, diagnostics, used)
+    read_255(line, tokens, start, mark, limit, nodes, diagnostics, used)
 }
 
 // The operand of a list of at most 8 tokens. Of numbers a token has four, a node and a diagnostic ten; there may be a node for each
@@ -57,12 +55,13 @@ fn read_8(
     tokens: &[u8],
     start: usize,
     mark: usize,
+    limit: usize,
     nodes: &mut [u8],
     diagnostics: &mut [u8],
     used: usize,
 ) -> Answer
     requires { ⌜ ListAsks (now line) (now tokens) 8 ⌝ }
-    ensures { λ r. ⌜ EntryPromise (call (now (line .entry)) (now (tokens .entry)) start mark (now (nodes .entry)) (now (diagnostics .entry)) used) (now (nodes .exit)) (now (diagnostics .exit)) r ⌝ }
+    ensures { λ r. ⌜ EntryPromise (call (now (line .entry)) (now (tokens .entry)) start mark limit (now (nodes .entry)) (now (diagnostics .entry)) used) (now (nodes .exit)) (now (diagnostics .exit)) r ⌝ }
 {
     let mut list: [u16; 32] = [0; 32];
     let mut records: [u16; 80] = [0; 80];
@@ -72,6 +71,7 @@ fn read_8(
         tokens,
         start,
         mark,
+        limit,
         nodes,
         diagnostics,
         used,
@@ -87,12 +87,13 @@ fn read_16(
     tokens: &[u8],
     start: usize,
     mark: usize,
+    limit: usize,
     nodes: &mut [u8],
     diagnostics: &mut [u8],
     used: usize,
 ) -> Answer
     requires { ⌜ ListAsks (now line) (now tokens) 16 ⌝ }
-    ensures { λ r. ⌜ EntryPromise (call (now (line .entry)) (now (tokens .entry)) start mark (now (nodes .entry)) (now (diagnostics .entry)) used) (now (nodes .exit)) (now (diagnostics .exit)) r ⌝ }
+    ensures { λ r. ⌜ EntryPromise (call (now (line .entry)) (now (tokens .entry)) start mark limit (now (nodes .entry)) (now (diagnostics .entry)) used) (now (nodes .exit)) (now (diagnostics .exit)) r ⌝ }
 {
     let mut list: [u16; 64] = [0; 64];
     let mut records: [u16; 160] = [0; 160];
@@ -102,6 +103,7 @@ fn read_16(
         tokens,
         start,
         mark,
+        limit,
         nodes,
         diagnostics,
         used,
@@ -117,12 +119,13 @@ fn read_64(
     tokens: &[u8],
     start: usize,
     mark: usize,
+    limit: usize,
     nodes: &mut [u8],
     diagnostics: &mut [u8],
     used: usize,
 ) -> Answer
     requires { ⌜ ListAsks (now line) (now tokens) 64 ⌝ }
-    ensures { λ r. ⌜ EntryPromise (call (now (line .entry)) (now (tokens .entry)) start mark (now (nodes .entry)) (now (diagnostics .entry)) used) (now (nodes .exit)) (now (diagnostics .exit)) r ⌝ }
+    ensures { λ r. ⌜ EntryPromise (call (now (line .entry)) (now (tokens .entry)) start mark limit (now (nodes .entry)) (now (diagnostics .entry)) used) (now (nodes .exit)) (now (diagnostics .exit)) r ⌝ }
 {
     let mut list: [u16; 256] = [0; 256];
     let mut records: [u16; 640] = [0; 640];
@@ -132,6 +135,7 @@ fn read_64(
         tokens,
         start,
         mark,
+        limit,
         nodes,
         diagnostics,
         used,
@@ -147,12 +151,13 @@ fn read_255(
     tokens: &[u8],
     start: usize,
     mark: usize,
+    limit: usize,
     nodes: &mut [u8],
     diagnostics: &mut [u8],
     used: usize,
 ) -> Answer
     requires { ⌜ ListAsks (now line) (now tokens) 255 ⌝ }
-    ensures { λ r. ⌜ EntryPromise (call (now (line .entry)) (now (tokens .entry)) start mark (now (nodes .entry)) (now (diagnostics .entry)) used) (now (nodes .exit)) (now (diagnostics .exit)) r ⌝ }
+    ensures { λ r. ⌜ EntryPromise (call (now (line .entry)) (now (tokens .entry)) start mark limit (now (nodes .entry)) (now (diagnostics .entry)) used) (now (nodes .exit)) (now (diagnostics .exit)) r ⌝ }
 {
     let mut list: [u16; 1020] = [0; 1020];
     let mut records: [u16; 2550] = [0; 2550];
@@ -162,6 +167,7 @@ fn read_255(
         tokens,
         start,
         mark,
+        limit,
         nodes,
         diagnostics,
         used,
@@ -177,6 +183,7 @@ fn read_operand(
     tokens: &[u8],
     start: usize,
     mark: usize,
+    limit: usize,
     nodes: &mut [u8],
     diagnostics: &mut [u8],
     used: usize,
@@ -185,18 +192,26 @@ fn read_operand(
     reports: &mut [u16],
 ) -> Answer
     requires { ⌜ StoresAsk (now line) (now tokens) (now list) (now records) (now reports) ⌝ }
-    ensures { λ r. ⌜ EntryPromise (call (now (line .entry)) (now (tokens .entry)) start mark (now (nodes .entry)) (now (diagnostics .entry)) used) (now (nodes .exit)) (now (diagnostics .exit)) r ⌝ }
+    ensures { λ r. ⌜ EntryPromise (call (now (line .entry)) (now (tokens .entry)) start mark limit (now (nodes .entry)) (now (diagnostics .entry)) used) (now (nodes .exit)) (now (diagnostics .exit)) r ⌝ }
 {
     if !decode_tokens(line, tokens, list) {
         return Answer::Refused(BAD_TOKEN);
     }
     let end = tokens.len();
-    let k = refuse_start_and_stores(end / 4, start, nodes.len(), diagnostics.len(), used);
+    let k = refuse_start_stores_and_limit(
+        end / 4,
+        start,
+        limit,
+        nodes.len(),
+        diagnostics.len(),
+        used,
+    );
     if k != 0 {
         return Answer::Refused(k);
     }
     let numbers = &list[0..end];
-    let read = operand_at(line, numbers, records, reports, start, mark, NESTING);
+    let depth = limit as u16;
+    let read = operand_at(line, numbers, records, reports, start, mark, depth);
     match read {
         OperandAnswer::Is(r) => answered(r, records, reports, nodes, diagnostics, used),
         // There is room, so that this never comes.

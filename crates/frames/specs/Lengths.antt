@@ -20,7 +20,6 @@ use Rattle.operand.specs.Layout as Layout
 use Rattle.operand.specs.Entry.{Input, refusal}
 use Rattle.operand.specs.Conditions as Conditions
 use Rattle.operand.specs.Lengths.{length-node-bytes, length-laid, length-bytes}
-use Rattle.layout.specs.Promise.{nesting, nesting-some}
 use Rattle.frames.specs.Hex.{digits, value, isDigit, spells, spelled}
 use Rattle.frames.specs.Frame.{isFrame, inputOf, lineLength}
 use Rattle.frames.specs.Reply.{refused, bytesAt, inputBytes, frameBytes, lineBytes, ended, answerLine}
@@ -50,7 +49,7 @@ unfolding inputBytes bytesAt
 input-short a = go (refusal a) refl
   where
     go : (k : ℕ) → refusal a ≡ k → length (bytesAt a k) ≤ 8705
-    go zero v = answer-short _ _ (Conditions.nodes-enough nesting nesting-some a v) (Conditions.records-enough nesting nesting-some a v)
+    go zero v = let lim = Conditions.valid-limit a v .0 in answer-short _ _ (Conditions.nodes-enough a lim v) (Conditions.records-enough a lim v)
     go (suc k) v = omega arith
 
 -- 2 * (5 + 20 + 3570 + 5110), and the line feed

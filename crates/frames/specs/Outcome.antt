@@ -13,7 +13,6 @@ use Rattle.operand.specs.Layout.{nodesLaid, diagnosticsLaid, operandRecord, ope
 use Rattle.operand.specs.Entry.{Input, refusal, readingAt, answerOf, nodesAfter, diagnosticsAfter, outcomeOf, outcome}
 use Rattle.operand.specs.Entry as Entry
 use Rattle.operand.specs.Lengths.{length-node-bytes, length-laid}
-use Rattle.layout.specs.Promise.{nesting}
 use Rattle.frames.specs.Reply.{refused, bytesAt, inputBytes}
 
 unfoldable pub outcomeBytes : Entry.Answer → List ℕ → List ℕ → List ℕ
@@ -35,13 +34,13 @@ read-bytes r (some x) N D =
     ap₂ (λ n d. operandNumber ∷ r .cursor ∷ sizeO x ∷ (lowFirst 2 (length (r .raised)) ++ (operandRecord x ++ (n ++ d)))) (first-nodes (some x) N) (first-diagnostics r D)
 read-bytes r none N D = ap (λ d. noOperandNumber ∷ r .cursor ∷ 0 ∷ (lowFirst 2 (length (r .raised)) ++ d)) (first-diagnostics r D)
 
-pub from-outcome : (a : Input) → a .used ≡ 0 → outcomeBytes (outcome nesting a .answer) (outcome nesting a .nodes) (outcome nesting a .diagnostics) ≡ inputBytes a
+pub from-outcome : (a : Input) → a .used ≡ 0 → outcomeBytes (outcome a .answer) (outcome a .nodes) (outcome a .diagnostics) ≡ inputBytes a
 unfolding outcome outcomeOf inputBytes bytesAt outcomeBytes
 from-outcome a none-used = go (refusal a)
   where
-    go : (k : ℕ) → outcomeBytes (outcomeOf nesting a k .answer) (outcomeOf nesting a k .nodes) (outcomeOf nesting a k .diagnostics) ≡ bytesAt a k
+    go : (k : ℕ) → outcomeBytes (outcomeOf a k .answer) (outcomeOf a k .nodes) (outcomeOf a k .diagnostics) ≡ bytesAt a k
     go zero =
-        let r = readingAt nesting a in
+        let r = readingAt a in
         ap (λ k. outcomeBytes (answerOf r (r .value)) (nodesAfter (r .value) (a .nodes)) (diagnosticsAfter r k (a .diagnostics))) none-used
         ∙ read-bytes r (r .value) (a .nodes) (a .diagnostics)
     go (suc k) = refl

@@ -6,7 +6,6 @@ use Rattle.names.specs.Choice.{pick}
 use Rattle.operand.specs.RefusalNumbers
 use Rattle.operand.specs.Entry.{Input, refusal, readingAt}
 use Rattle.operand.specs.Layout as Layout
-use Rattle.layout.specs.Promise.{nesting}
 use Rattle.frames.specs.Hex.{digits, spells, spelled}
 use Rattle.frames.specs.Frame.{isFrame, inputOf}
 
@@ -16,14 +15,14 @@ refused n = Layout.refusedNumber ∷ n ∷ []
 
 -- by the number of the refusal, 0 for none: the reading's bytes
 unfoldable pub bytesAt : Input → ℕ → List ℕ
-bytesAt a zero = let r = readingAt nesting a in Layout.answerLine r (r .value)
+bytesAt a zero = let r = readingAt a in Layout.answerLine r (r .value)
 bytesAt a (suc k) = refused (suc k)
 
 -- of an input that is a frame's
 unfoldable pub inputBytes : Input → List ℕ
 inputBytes a = bytesAt a (refusal a)
 
--- of the bytes that a line spells: "Checked 8, then 1 to 7"
+-- of the bytes that a line spells: "Checked 8, then 1 to 7", and 18
 unfoldable pub frameBytes : List ℕ → List ℕ
 frameBytes B = pick (isFrame B) (inputBytes (inputOf B)) (refused RefusalNumbers.badFrame)
 

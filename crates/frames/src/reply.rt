@@ -20,6 +20,8 @@ ghost use Rattle.layout.specs.Promise.{EntryPromise};
 ghost use Rattle.frames.specs.Frame.{lent};
 ghost use Rattle.frames.specs.Inner.{Put, FoundAsks, foundBytes, MissedAsks, missedBytes, AnswerAsks, answerBytes, FrameAsks, ReadAsks, FramedAs, TurnAsks};
 
+// The nesting limit of every frame, the Rust's own.
+const MAX_NESTING_DEPTH: usize = 64;
 // The digits of the longest frame: 2 * (1 + 255 + 1 + 4 * 255 + 2).
 pub(crate) const LONGEST: usize = 2558;
 
@@ -136,6 +138,7 @@ fn read_frame(bytes: &[u8], line: usize, nodes: &mut [u8], diagnostics: &mut [u8
         &bytes[from..to],
         start,
         mark,
+        MAX_NESTING_DEPTH,
         nodes,
         diagnostics,
         0,

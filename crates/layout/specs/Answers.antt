@@ -14,13 +14,17 @@ use Rattle.names.specs.Tokens.{count}
 use Rattle.names.specs.Places.{Place, nothing, stands, below}
 use Rattle.names.specs.declared.tokens.Token.{Token}
 use Rattle.expressions.specs.Reader.{Reading, reading}
+use Rattle.expressions.specs.Laws.{Every}
+use Rattle.expressions.specs.Limits.{NotTooDeep}
 use Rattle.operand.specs.Operands.{Operand, Maybe, some, none}
 use Rattle.operand.specs.Records.{sizeM, diagnosticRecords}
 use Rattle.operand.specs.Layout.{nodeBytes, nodesLaid, lows, diagnosticsLaid}
 use Rattle.operand.specs.Entry.{Input, placeOf, nodeStore, refusal, readingAt, nodesAfter, diagnosticsAfter, outcome, outcomeOf}
 use Rattle.layout.specs.Promise.{resultOf, resultAt, EntryPromise}
 use Rattle.operand.specs.Readings.{gap, ended}
-use Rattle.operand.specs.Marks.{remarked, MarksAgree, MarksPast, marks-agree, refusal-same, reading-remarked, outcome-same}
+use Rattle.operand.specs.Settings.{withSetting, outcome-alike}
+use Rattle.operand.specs.Marks.{remarked, MarksAgree, MarksPast, marks-agree, refusal-same, reading-remarked}
+use Rattle.operand.specs.Limits.{limited, Higher, refusal-limited, reading-limited, NoneTooDeep, none-too-deep}
 use Rattle.operand.specs.Conditions.{Valid, Refuses, refusal-number, valid-bounds, valid-stores, valid-limit, AlikeThrough, recordAt, SameButPlus}
 use Rattle.operand.specs.Conditions as C
 use Rattle.operand.specs.Lengths.{length-node-bytes, length-laid}
@@ -122,7 +126,7 @@ module _ (a : Input) (N′ D′ : List ℕ) (r : Answer) (p : EntryPromise a N�
       go zero e h = read e (s .value) h
       go (suc k) e h =
           let stays = C.refused-stays a k e in
-          rw h (refused (suc k) (sym e) (rw e at refusal-number a (λ z. omega arith)) (p .nodes ∙ ap (λ x. x .nodes) stays) (p .diagnostics ∙ ap (λ x. x .diagnostics) stays))
+          rw h (refused (suc k) (sym e) (rw e at (refusal-number a (λ z. omega arith))) (p .nodes ∙ ap (λ x. x .nodes) stays) (p .diagnostics ∙ ap (λ x. x .diagnostics) stays))
 
   module _ (v : Valid a) where
     lim : 1 ≤ a .limit
@@ -205,6 +209,10 @@ module _ (a : Input) (N′ D′ : List ℕ) (r : Answer) (p : EntryPromise a N�
     -- the added ones are the reading's, in their order
     pub added-records : take (10 * diagnosticsAdded r) (drop (10 * a .used) D′) ≡ diagnosticsLaid (s .raised)
     added-records = ap (take (10 * diagnosticsAdded r)) behind ∙ take-at _ _ (10 * diagnosticsAdded r) added-long
+
+    -- where no added one is of kind 6, no NestingTooDeep was raised
+    pub none-raised : NoneTooDeep (take (10 * diagnosticsAdded r) (drop (10 * a .used) D′)) (diagnosticsAdded r) → Every NotTooDeep (s .raised)
+    none-raised h = none-too-deep (s .raised) (rw (added-records, added-is) at h)
 
     -- "Bytes past the added records stay."
     pub later-stand : drop (10 * (a .used + diagnosticsAdded r)) D′ ≡ drop (10 * (a .used + diagnosticsAdded r)) (a .diagnostics)
@@ -292,7 +300,7 @@ two-calls a b N′ D′ N″ D″ r q p h va vb = (
   λ alike. local a b N′ D′ N″ D″ r q p h va vb (C.alike-before (omega (arith, gap-small r)) alike),
 )
 
--- ---- the mark
+-- ---- the mark and the limit
 
 -- the same answer, and the same bytes in both stores
 pub record SameCall (N′ D′ N″ D″ : List ℕ) (r q : Answer) : Type 0 where
@@ -300,21 +308,35 @@ pub record SameCall (N′ D′ N″ D″ : List ℕ) (r q : Answer) : Type 0 whe
   pub nodes : N′ ≡ N″
   pub diagnostics : D′ ≡ D″
 
+-- of two calls that differ in mark and limit alone, refused alike and read alike
+same-call : (a : Input) (m n : ℕ) (N′ D′ N″ D″ : List ℕ) (r q : Answer) → EntryPromise a N′ D′ r → EntryPromise (withSetting a m n) N″ D″ q
+    → refusal a ≡ refusal (withSetting a m n) → readingAt a ≡ readingAt (withSetting a m n) → SameCall N′ D′ N″ D″ r q
+unfolding resultAt
+same-call a m n N′ D′ N″ D″ r q p h e f =
+    let o = outcome-alike a m n e f in
+    record {
+      answer = p .value ∙ result (refusal a) ∙ ap (resultAt (withSetting a m n)) e ∙ sym (h .value);
+      nodes = p .nodes ∙ ap (λ x. x .nodes) o ∙ sym (h .nodes);
+      diagnostics = p .diagnostics ∙ ap (λ x. x .diagnostics) o ∙ sym (h .diagnostics);
+    }
+  where
+    result : (k : ℕ) → resultAt a k ≡ resultAt (withSetting a m n) k
+    result zero = ap (λ (t : Reading (Maybe Operand)). resultOf t (t .value)) f
+    result (suc k) = refl
+
 -- of two calls that differ in their marks alone, where these agree wherever a token stands
 pub marks-same : (a : Input) (n : ℕ) (N′ D′ N″ D″ : List ℕ) (r q : Answer) → EntryPromise a N′ D′ r → EntryPromise (remarked a n) N″ D″ q
     → MarksAgree a n → SameCall N′ D′ N″ D″ r q
-unfolding resultAt
-marks-same a n N′ D′ N″ D″ r q p h agree = record {
-  answer = p .value ∙ result (refusal a) ∙ ap (resultAt (remarked a n)) (refusal-same a n) ∙ sym (h .value);
-  nodes = p .nodes ∙ ap (λ x. x .nodes) (outcome-same a n agree) ∙ sym (h .nodes);
-  diagnostics = p .diagnostics ∙ ap (λ x. x .diagnostics) (outcome-same a n agree) ∙ sym (h .diagnostics);
-}
-  where
-    result : (k : ℕ) → resultAt a k ≡ resultAt (remarked a n) k
-    result zero = ap (λ (t : Reading (Maybe Operand)). resultOf t (t .value)) (reading-remarked a n agree)
-    result (suc k) = refl
+marks-same a n N′ D′ N″ D″ r q p h agree = same-call a n (a .limit) N′ D′ N″ D″ r q p h (refusal-same a n) (reading-remarked a n agree)
 
 -- "one at or past the token count means none": of any two such marks
 pub marks-past : (a : Input) (n : ℕ) (N′ D′ N″ D″ : List ℕ) (r q : Answer) → EntryPromise a N′ D′ r → EntryPromise (remarked a n) N″ D″ q
     → MarksPast a n → SameCall N′ D′ N″ D″ r q
 marks-past a n N′ D′ N″ D″ r q p h past = marks-same a n N′ D′ N″ D″ r q p h (marks-agree a n past)
+
+-- "A reading that raises no NestingTooDeep at one limit has the same answer at every higher one" (document 02): of two calls that differ in their limits alone,
+-- where no added record is of that kind
+pub higher-limit : (a : Input) (n : ℕ) (N′ D′ N″ D″ : List ℕ) (r q : Answer) → EntryPromise a N′ D′ r → EntryPromise (limited a n) N″ D″ q
+    → Valid a → Higher a n → NoneTooDeep (take (10 * diagnosticsAdded r) (drop (10 * a .used) D′)) (diagnosticsAdded r) → SameCall N′ D′ N″ D″ r q
+higher-limit a n N′ D′ N″ D″ r q p h v high none-deep =
+    same-call a (a .mark) n N′ D′ N″ D″ r q p h (refusal-limited a n high) (reading-limited a n high (none-raised a N′ D′ r p v none-deep))

@@ -2,4 +2,4 @@
 mod refusals;
 
 pub use refusals::refuse_line_and_list;
-pub use refusals::refuse_start_and_stores;
+pub use refusals::refuse_start_stores_and_limit;

@@ -1,4 +1,5 @@
-// The refusals of a call, but for those of its tokens: what is lent is looked at in the order of their numbers, and nothing is written.
+// The refusals of a call, but for those of its tokens: what is lent and given is looked at in the table's order, and nothing is written.
+use operand::refusal_numbers::BAD_LIMIT;
 use operand::refusal_numbers::BAD_LIST;
 use operand::refusal_numbers::BAD_START;
 use operand::refusal_numbers::FOREIGN_BYTE;
@@ -9,8 +10,7 @@ ghost use mathlib.Core.Path.{_≡_};
 ghost use Prim.Native.Nat.{_+_, _/_};
 ghost use lib.Dec.{ltb};
 ghost use Rattle.names.specs.Choice.{either};
-ghost use Rattle.operand.specs.RefusalNumbers;
-ghost use Rattle.operand.specs.Entry.{freeRecords, foreign, lineAndList, startAndStores, firstOf};
+ghost use Rattle.operand.specs.Entry.{freeRecords, highestLimit, foreign, lineAndList, startStoresAndLimit, firstOf};
 
 // The bytes of the longest line, and the tokens of the longest list.
 const LINE: usize = 255;
@@ -20,6 +20,8 @@ const TOKENS: usize = 255;
 const NODES: usize = 3570;
 // The diagnostic records that must be free.
 const FREE: usize = 511;
+// The highest nesting limit.
+const HIGHEST_LIMIT: usize = 128;
 
 // Whether a byte is not printable.
 fn is_foreign(byte: u8) -> bool
@@ -46,7 +48,7 @@ fn foreign(line: &[u8]) -> bool
 
 // The number 1 to 3 of the refusal of the line or the list, 0 for none.
 pub fn refuse_line_and_list(line: &[u8], tokens: &[u8]) -> u8
-    ensures { λ r. ⌜ r ≡ firstOf RefusalNumbers.longLine (lineAndList (now (line .entry)) (now (tokens .entry))) ⌝ }
+    ensures { λ r. ⌜ r ≡ firstOf (lineAndList (now (line .entry)) (now (tokens .entry))) ⌝ }
 {
     if LINE < line.len() {
         return LONG_LINE;
@@ -74,15 +76,26 @@ fn crowded(bytes: usize, used: usize) -> bool
     records - FREE < used
 }
 
-// The number 5 to 7 of the refusal of the start or a store, 0 for none: by the tokens' number and the stores' bytes.
-pub fn refuse_start_and_stores(
+// Whether a nesting limit is outside 1 to 128.
+fn out_of_range(limit: usize) -> bool
+    ensures { λ r. ⌜ r ≡ either (ltb limit 1) (ltb highestLimit limit) ⌝ }
+{
+    if limit < 1 {
+        return true;
+    }
+    HIGHEST_LIMIT < limit
+}
+
+// The number 5 to 7 or 18 of the refusal of the start, a store or the nesting limit, 0 for none: by the tokens' number and the stores' bytes.
+pub fn refuse_start_stores_and_limit(
     tokens: usize,
     start: usize,
+    limit: usize,
     nodes: usize,
     diagnostics: usize,
     used: usize,
 ) -> u8
-    ensures { λ r. ⌜ r ≡ firstOf RefusalNumbers.badStart (startAndStores tokens start nodes diagnostics used) ⌝ }
+    ensures { λ r. ⌜ r ≡ firstOf (startStoresAndLimit tokens start limit nodes diagnostics used) ⌝ }
 {
     if tokens < start {
         return BAD_START;
@@ -92,6 +105,9 @@ pub fn refuse_start_and_stores(
     }
     if crowded(diagnostics, used) {
         return SHORT_DIAGNOSTICS;
+    }
+    if out_of_range(limit) {
+        return BAD_LIMIT;
     }
     0
 }

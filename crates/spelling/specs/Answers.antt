@@ -15,7 +15,7 @@ use Rattle.operand.specs.Records.{sizeM, diagnosticRecords}
 use Rattle.operand.specs.Layout.{lows}
 use Rattle.operand.specs.Entry.{Input, placeOf, readingAt, nodesAfter, diagnosticsAfter, outcome, outcomeOf}
 use Rattle.operand.specs.Forms.{recordOf}
-use Rattle.layout.specs.Promise.{nesting, resultOf, resultAt, EntryPromise}
+use Rattle.layout.specs.Promise.{resultOf, resultAt, EntryPromise}
 use Rattle.operand.specs.Conditions.{Valid}
 use Rattle.layout.specs.declared.answer.Answer.{Answer}
 use Rattle.layout.specs.declared.answer.Found.{Found}
@@ -36,31 +36,31 @@ no-length (d ∷ ds) e = absurd (omega arith)
 
 module _ (a : Input) (N′ D′ : List ℕ) (r : Answer) (p : EntryPromise a N′ D′ r) (valid : Valid a) where
   abbrev s : Reading (Maybe Operand)
-  s = readingAt nesting a
+  s = readingAt a
 
   value : r ≡ resultOf s (s .value)
   unfolding resultAt
-  value = p .value ∙ ap (resultAt nesting a) valid
+  value = p .value ∙ ap (resultAt a) valid
 
   -- a silent reading of an operand, as it is returned and stored
   returned : {y : Operand} {j : ℕ} → Answers s y j → Returns a N′ D′ r y j
   unfolding resultOf outcome outcomeOf diagnosticsAfter lows diagnosticRecords
   returned z = record {
     answer = value ∙ rw (z .value, z .cursor, z .raised) refl;
-    nodes = p .nodes ∙ ap (λ k. outcomeOf nesting a k .nodes) valid ∙ ap (λ v. nodesAfter v (a .nodes)) (z .value);
-    diagnostics = p .diagnostics ∙ ap (λ k. outcomeOf nesting a k .diagnostics) valid ∙ rw (z .raised, add-zero) (take-append-drop (10 * a .used) (a .diagnostics));
+    nodes = p .nodes ∙ ap (λ k. outcomeOf a k .nodes) valid ∙ ap (λ v. nodesAfter v (a .nodes)) (z .value);
+    diagnostics = p .diagnostics ∙ ap (λ k. outcomeOf a k .diagnostics) valid ∙ rw (z .raised, add-zero) (take-append-drop (10 * a .used) (a .diagnostics));
   }
 
   -- each addressing mode of Motorola's manual, spelled and closed as document 01 says, is read as that mode without diagnostic
-  pub spelled-is-answered : {j : ℕ} {y : Operand} → Spelled nesting (a .mark) (placeOf a) (ordinary (a .mark)) (a .start) j y → Closed (placeOf a) j
+  pub spelled-is-answered : {j : ℕ} {y : Operand} → Spelled (a .limit) (a .mark) (placeOf a) (ordinary (a .mark)) (a .start) j y → Closed (placeOf a) j
       → Returns a N′ D′ r y j
-  spelled-is-answered h c = returned (spelled-is-read nesting a valid h c)
+  spelled-is-answered h c = returned (spelled-is-read a valid h c)
 
   -- and an operand read without diagnostic has such a spelling up to the cursor
   pub record Spelt (j : ℕ) : Type 0 where
     pub operand : Operand
     pub returns : Returns a N′ D′ r operand j
-    pub spelled : Spelled nesting (a .mark) (placeOf a) unreserved (a .start) j operand
+    pub spelled : Spelled (a .limit) (a .mark) (placeOf a) unreserved (a .start) j operand
 
   pub answered-is-spelled : (x : Found) → r ≡ Answer.Operand x → x .diagnostics ≡ 0 → Unerring (placeOf a) (a .start) (x .cursor) → Spelt (x .cursor)
   unfolding resultOf
@@ -85,5 +85,5 @@ module _ (a : Input) (N′ D′ : List ℕ) (r : Answer) (p : EntryPromise a N�
           record {
             operand = y;
             returns = returned (record { value = f; cursor = sym here; raised = quiet });
-            spelled = rw here (read-is-spelled nesting a valid f quiet (rw here at u));
+            spelled = rw here (read-is-spelled a valid f quiet (rw here at u));
           }

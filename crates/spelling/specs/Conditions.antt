@@ -57,7 +57,7 @@ module _ (limit mark : ℕ) (at : ℕ → Place) (count : ℕ) (ends : (j : ℕ)
 
 -- ---- condition 2
 
-module _ (limit : ℕ) (a : Input) (valid : Valid a) where
+module _ (a : Input) (valid : Valid a) where
   abbrev inside : (j : ℕ) (k : Token) (x : List ℕ) → placeOf a j ≡ stands k x → j < count (a .tokens)
   inside j k x h = below (a .line) (a .tokens) j k x h
 
@@ -66,23 +66,23 @@ module _ (limit : ℕ) (a : Input) (valid : Valid a) where
 
   -- Each addressing mode of Motorola's manual, spelled and closed as document 01 says, is read as that mode without diagnostic: no name in E is reserved or
   -- spells Z (`ordinary`), no number is too large and no more terms are open than the limit (`Spells`); the list's end, a comma or EndOfLine follows (`Closed`)
-  pub spelled-is-read : {j : ℕ} {y : Operand} → Spelled limit (a .mark) (placeOf a) (ordinary (a .mark)) (a .start) j y → Closed (placeOf a) j
-      → Answers (readingAt limit a) y j
-  spelled-is-read h c = closed-is-read limit (a .mark) (placeOf a) (count (a .tokens)) inside few (a .start) h c
+  pub spelled-is-read : {j : ℕ} {y : Operand} → Spelled (a .limit) (a .mark) (placeOf a) (ordinary (a .mark)) (a .start) j y → Closed (placeOf a) j
+      → Answers (readingAt a) y j
+  spelled-is-read h c = closed-is-read (a .limit) (a .mark) (placeOf a) (count (a .tokens)) inside few (a .start) h c
 
   -- And an operand read without diagnostic has such a spelling up to the cursor, where no Error token stands before it
-  pub read-is-spelled : {y : Operand} → readingAt limit a .value ≡ some y → readingAt limit a .raised ≡ []
-      → Unerring (placeOf a) (a .start) (readingAt limit a .cursor) → Spelled limit (a .mark) (placeOf a) unreserved (a .start) (readingAt limit a .cursor) y
-  read-is-spelled e q u = silent-is-spelled limit (a .mark) (placeOf a) (count (a .tokens)) inside few (a .start) e q u
+  pub read-is-spelled : {y : Operand} → readingAt a .value ≡ some y → readingAt a .raised ≡ []
+      → Unerring (placeOf a) (a .start) (readingAt a .cursor) → Spelled (a .limit) (a .mark) (placeOf a) unreserved (a .start) (readingAt a .cursor) y
+  read-is-spelled e q u = silent-is-spelled (a .limit) (a .mark) (placeOf a) (count (a .tokens)) inside few (a .start) e q u
 
 some-same : {x y : Operand} → some x ≡ some y → x ≡ y
 some-same {x} {y} e = ap (λ m. elim m [ some z ↦ z | none ↦ x ]) e
 
 -- a closed spelling is that of one operand, and of one end
-pub unambiguous : (limit : ℕ) (a : Input) → Valid a → {j n : ℕ} {x y : Operand}
-    → Spelled limit (a .mark) (placeOf a) (ordinary (a .mark)) (a .start) j x → Closed (placeOf a) j
-    → Spelled limit (a .mark) (placeOf a) (ordinary (a .mark)) (a .start) n y → Closed (placeOf a) n → (j ≡ n) × (x ≡ y)
-unambiguous limit a valid h c g d =
-    let p = spelled-is-read limit a valid h c in
-    let q = spelled-is-read limit a valid g d in
+pub unambiguous : (a : Input) → Valid a → {j n : ℕ} {x y : Operand}
+    → Spelled (a .limit) (a .mark) (placeOf a) (ordinary (a .mark)) (a .start) j x → Closed (placeOf a) j
+    → Spelled (a .limit) (a .mark) (placeOf a) (ordinary (a .mark)) (a .start) n y → Closed (placeOf a) n → (j ≡ n) × (x ≡ y)
+unambiguous a valid h c g d =
+    let p = spelled-is-read a valid h c in
+    let q = spelled-is-read a valid g d in
     (sym (p .cursor) ∙ q .cursor, some-same (sym (p .value) ∙ q .value))

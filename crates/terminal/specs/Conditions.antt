@@ -24,9 +24,12 @@ use Rattle.operand.specs.Forms.{recordOf, maskO}
 use Rattle.operand.specs.Layout.{operandRecord, operandNumber, noOperandNumber}
 use Rattle.operand.specs.Lengths.{length-bytes}
 use Rattle.operand.specs.Entry.{Input, placeOf, nodeStore, refusal, readingAt, nodesAfter, outcome, outcomeOf, answerNumber, outcome-number}
+use Rattle.operand.specs.Settings.{withSetting}
 use Rattle.operand.specs.Marks.{remarked, MarksAgree, MarksPast, marks-agree, outcome-same}
-use Rattle.operand.specs.Conditions.{Valid, records-enough, AlikeThrough, alike-before, recordAt, SameButPlus}
-use Rattle.layout.specs.Promise.{nesting, nesting-some, given, resultOf, resultAt, given-result, EntryPromise}
+use Rattle.operand.specs.Limits as L
+use Rattle.operand.specs.Limits.{limited, Higher, NoneTooDeep}
+use Rattle.operand.specs.Conditions.{Valid, Refuses, valid-limit, records-enough, AlikeThrough, alike-before, recordAt, SameButPlus}
+use Rattle.layout.specs.Promise.{given, resultOf, resultAt, given-result, EntryPromise}
 use Rattle.layout.specs.Answers as Answers
 use Rattle.layout.specs.declared.answer.Answer.{Answer}
 use Rattle.layout.specs.declared.answer.Missed.{Missed}
@@ -74,28 +77,28 @@ stood r none R h = record { kind = refl; cursor = refl; nodes = refl; added = om
 
 -- ---- it is the entry's call
 
-given-at : (a : Input) (k : ℕ) → given (resultAt nesting a k) ≡ outcomeOf nesting a k .answer
+given-at : (a : Input) (k : ℕ) → given (resultAt a k) ≡ outcomeOf a k .answer
 unfolding given resultAt outcomeOf
-given-at a zero = given-result (readingAt nesting a) (readingAt nesting a .value)
+given-at a zero = given-result (readingAt a) (readingAt a .value)
 given-at a (suc k) = refl
 
-exported-is : (a : Input) (O : List ℕ) → answerBytes ≤ length O → exported a O ≡ answered (outcome nesting a) O
+exported-is : (a : Input) (O : List ℕ) → answerBytes ≤ length O → exported a O ≡ answered (outcome a) O
 unfolding exported
 exported-is a O room = rw (le-ltb (length O) answerBytes room)
 
 -- with room for the answer, the number and the stores are those of a call that keeps the entry's promise: what holds of every such call holds of this one
 pub entry-kept : (a : Input) (O : List ℕ) → answerBytes ≤ length O
-    → EntryPromise a (exported a O .nodes) (exported a O .diagnostics) (resultAt nesting a (refusal a))
+    → EntryPromise a (exported a O .nodes) (exported a O .diagnostics) (resultAt a (refusal a))
 unfolding answered outcome
 entry-kept a O room =
     let e = exported-is a O room in
-    record { answer = given-at a (refusal a); number = ap answerNumber (given-at a (refusal a)) ∙ outcome-number nesting a; nodes = ap (λ x. x .nodes) e; diagnostics = ap (λ x. x .diagnostics) e; value = refl }
+    record { answer = given-at a (refusal a); number = ap answerNumber (given-at a (refusal a)) ∙ outcome-number a; nodes = ap (λ x. x .nodes) e; diagnostics = ap (λ x. x .diagnostics) e; value = refl }
 
 -- ---- of a valid input, with room for the answer
 
 module _ (a : Input) (O : List ℕ) (v : Valid a) (room : answerBytes ≤ length O) where
   abbrev s : Reading (Maybe Operand)
-  s = readingAt nesting a
+  s = readingAt a
 
   -- the entry's answer
   abbrev r : Answer
@@ -115,11 +118,11 @@ module _ (a : Input) (O : List ℕ) (v : Valid a) (room : answerBytes ≤ length
   promise =
       let p = entry-kept a O room in
       record {
-        answer = ap (λ k. given (resultAt nesting a k)) (sym v) ∙ p .answer;
-        number = ap (λ k. answerNumber (given (resultAt nesting a k))) (sym v) ∙ p .number;
+        answer = ap (λ k. given (resultAt a k)) (sym v) ∙ p .answer;
+        number = ap (λ k. answerNumber (given (resultAt a k))) (sym v) ∙ p .number;
         nodes = p .nodes;
         diagnostics = p .diagnostics;
-        value = ap (resultAt nesting a) (sym v);
+        value = ap (resultAt a) (sym v);
       }
 
   out-is : O′ ≡ answerLaid (given r) ++ drop answerBytes O
@@ -132,7 +135,7 @@ module _ (a : Input) (O : List ℕ) (v : Valid a) (room : answerBytes ≤ length
       ∙ ap (λ n. answerLaid (given r) ++ drop (0 + n) O) long
 
   there : Stands r O′
-  there = rw out-is (stood s (s .value) (drop answerBytes O) (omega (arith, records-enough nesting nesting-some a v)))
+  there = rw out-is (stood s (s .value) (drop answerBytes O) (omega (arith, records-enough a (valid-limit a v .0) v)))
 
   -- the answer's bytes
   first : take answerBytes O′ ≡ answerLaid (given r)
@@ -213,14 +216,14 @@ module _ (a : Input) (O : List ℕ) (v : Valid a) (room : answerBytes ≤ length
   }
 
   -- each addressing mode of Motorola's manual, spelled and closed as document 01 says, is read as that mode without diagnostic
-  pub spelled-is-answered : {j : ℕ} {y : Operand} → Spelled nesting (a .mark) (placeOf a) (ordinary (a .mark)) (a .start) j y → Closed (placeOf a) j → Returns y j
+  pub spelled-is-answered : {j : ℕ} {y : Operand} → Spelled (a .limit) (a .mark) (placeOf a) (ordinary (a .mark)) (a .start) j y → Closed (placeOf a) j → Returns y j
   spelled-is-answered h c = returned (Spellings.spelled-is-answered a N′ D′ r promise v h c)
 
   -- and an operand read without diagnostic has such a spelling up to the cursor
   pub record Spelt : Type 0 where
     pub operand : Operand
     pub returns : Returns operand (cursorIn O′)
-    pub spelled : Spelled nesting (a .mark) (placeOf a) unreserved (a .start) (cursorIn O′) operand
+    pub spelled : Spelled (a .limit) (a .mark) (placeOf a) unreserved (a .start) (cursorIn O′) operand
 
   spelt : {j : ℕ} → cursorIn O′ ≡ j → Spellings.Spelt a N′ D′ r promise v j → Spelt
   spelt c h =
@@ -235,7 +238,7 @@ module _ (a : Input) (O : List ℕ) (v : Valid a) (room : answerBytes ≤ length
           let c : cursorIn O′ ≡ x .cursor = there .cursor ∙ ap Answers.cursorOf e in
           spelt c (Spellings.answered-is-spelled a N′ D′ r promise v x e (sym (there .added ∙ ap Answers.diagnosticsAdded e) ∙ d) (rw c at u))
       go (Answer.NoOperand x) e t = absurd (omega (arith, there .kind ∙ ap Answers.gapOf e))
-      go (Answer.Refused n) e (Answers.Total.refused _ f one most x y) = absurd (omega arith)
+      go (Answer.Refused n) e (Answers.Total.refused _ f known x y) = absurd (omega (arith, f, v, number-bounds known))
 
 -- ---- every call
 
@@ -244,27 +247,32 @@ module _ (a : Input) (O : List ℕ) (v : Valid a) (room : answerBytes ≤ length
 pub data Total (a : Input) (O : List ℕ) (x : Exported) : Type 0 where
   operand : Valid a → answerBytes ≤ length O → x .number ≡ 0 → kindIn (x .out) ≡ operandNumber → Total a O x
   noOperand : Valid a → answerBytes ≤ length O → x .number ≡ 0 → kindIn (x .out) ≡ noOperandNumber → Total a O x
-  refused : answerBytes ≤ length O → x .number ≡ refusal a → 1 ≤ x .number → x .number ≤ 7 → x ≡ told (x .number) (a .nodes) (a .diagnostics) O → Total a O x
+  refused : answerBytes ≤ length O → x .number ≡ refusal a → Refuses (x .number) → x ≡ told (x .number) (a .nodes) (a .diagnostics) O → Total a O x
   short : length O < answerBytes → x .number ≡ shortAnswer → x ≡ told (x .number) (a .nodes) (a .diagnostics) O → Total a O x
+
+-- such a number is neither 0 nor the library's own
+number-bounds : {n : ℕ} → Refuses n → (1 ≤ n) × (n < shortAnswer)
+number-bounds (Refuses.early h) = omega (arith, h)
+number-bounds (Refuses.late e) = omega (arith, e)
 
 pub total : (a : Input) (O : List ℕ) → Total a O (exported a O)
 unfolding resultAt
 total a O = go (ltb (length O) answerBytes) refl
   where
-    roomy : (room : answerBytes ≤ length O) (q : Answer) → resultAt nesting a (refusal a) ≡ q → Answers.Total a (exported a O .nodes) (exported a O .diagnostics) q → Total a O (exported a O)
+    roomy : (room : answerBytes ≤ length O) (q : Answer) → resultAt a (refusal a) ≡ q → Answers.Total a (exported a O .nodes) (exported a O .diagnostics) q → Total a O (exported a O)
     roomy room (Answer.Operand x) e (Answers.Total.operand _ v) =
-        operand v room (number-roomy a O room ∙ v) (there a O v room .kind ∙ ap (λ k. Answers.gapOf (resultAt nesting a k)) (sym v) ∙ ap Answers.gapOf e)
+        operand v room (number-roomy a O room ∙ v) (there a O v room .kind ∙ ap (λ k. Answers.gapOf (resultAt a k)) (sym v) ∙ ap Answers.gapOf e)
     roomy room (Answer.NoOperand x) e (Answers.Total.noOperand _ v) =
-        noOperand v room (number-roomy a O room ∙ v) (there a O v room .kind ∙ ap (λ k. Answers.gapOf (resultAt nesting a k)) (sym v) ∙ ap Answers.gapOf e)
-    roomy room (Answer.Refused n) e (Answers.Total.refused _ f one most x y) =
+        noOperand v room (number-roomy a O room ∙ v) (there a O v room .kind ∙ ap (λ k. Answers.gapOf (resultAt a k)) (sym v) ∙ ap Answers.gapOf e)
+    roomy room (Answer.Refused n) e (Answers.Total.refused _ f known x y) =
         let m = number-roomy a O room in
-        refused room m (omega arith) (omega arith) (stays a O (omega arith))
+        refused room m (rw (m, ← f) known) (stays a O (omega (arith, m, f, number-bounds known)))
 
     go : (b : Bool) → ltb (length O) answerBytes ≡ b → Total a O (exported a O)
     go true e = let less = ltb-true (length O) answerBytes e in let n = number-short a O less in short less n (stays a O (omega arith))
     go false e =
         let room = ltb-false (length O) answerBytes e in
-        roomy room (resultAt nesting a (refusal a)) refl (Answers.total a _ _ _ (entry-kept a O room))
+        roomy room (resultAt a (refusal a)) refl (Answers.total a _ _ _ (entry-kept a O room))
 
 -- a caller that is returned 0 lent a valid input and room for the answer, so that all above holds of its call
 pub read-valid : (a : Input) (O : List ℕ) → exported a O .number ≡ 0 → Valid a × (answerBytes ≤ length O)
@@ -273,7 +281,7 @@ read-valid a O = go (total a O)
     go : {x : Exported} → Total a O x → x .number ≡ 0 → Valid a × (answerBytes ≤ length O)
     go (Total.operand v room n k) e = (v, room)
     go (Total.noOperand v room n k) e = (v, room)
-    go (Total.refused room n one most h) e = absurd (omega arith)
+    go (Total.refused room n known h) e = absurd (omega (arith, number-bounds known))
     go (Total.short less n h) e = absurd (omega arith)
 
 -- and one that is returned the library's own number lent no room
@@ -283,7 +291,7 @@ short-only a O = go (total a O)
     go : {x : Exported} → Total a O x → x .number ≡ shortAnswer → length O < answerBytes
     go (Total.operand v room n k) e = absurd (omega arith)
     go (Total.noOperand v room n k) e = absurd (omega arith)
-    go (Total.refused room n one most h) e = absurd (omega arith)
+    go (Total.refused room n known h) e = absurd (omega (arith, number-bounds known))
     go (Total.short less n h) e = less
 
 -- ---- condition 3
@@ -331,13 +339,24 @@ module _ (a b : Input) (O P : List ℕ) (va : Valid a) (vb : Valid b) (ra : answ
     λ alike. local (alike-before (omega (arith, there a O va ra .kind, Answers.gap-small (r a O va ra))) alike),
   )
 
--- ---- the mark
+-- ---- the mark and the limit
 
--- marks that agree wherever a token stands give the same number, and the same bytes in all three stores
-pub marks-same : (a : Input) (n : ℕ) (O : List ℕ) → MarksAgree a n → exported a O ≡ exported (remarked a n) O
+-- an input with another mark and limit that has the same outcome gives the same number, and the same bytes in all three stores
+same-exported : (a : Input) (m n : ℕ) (O : List ℕ) → outcome a ≡ outcome (withSetting a m n) → exported a O ≡ exported (withSetting a m n) O
 unfolding exported
-marks-same a n O agree = ap (λ x. pick (ltb (length O) answerBytes) (told shortAnswer (a .nodes) (a .diagnostics) O) (answered x O)) (outcome-same nesting a n agree)
+same-exported a m n O e = ap (λ x. pick (ltb (length O) answerBytes) (told shortAnswer (a .nodes) (a .diagnostics) O) (answered x O)) e
+
+-- so do marks that agree wherever a token stands
+pub marks-same : (a : Input) (n : ℕ) (O : List ℕ) → MarksAgree a n → exported a O ≡ exported (remarked a n) O
+marks-same a n O agree = same-exported a n (a .limit) O (outcome-same a n agree)
 
 -- "one at or past the token count means none": so do any two such marks
 pub marks-past : (a : Input) (n : ℕ) (O : List ℕ) → MarksPast a n → exported a O ≡ exported (remarked a n) O
 marks-past a n O past = marks-same a n O (marks-agree a n past)
+
+-- "A reading that raises no NestingTooDeep at one limit has the same answer at every higher one" (document 02): where no added record is of that kind
+pub higher-limit : (a : Input) (n : ℕ) (O : List ℕ) → Valid a → answerBytes ≤ length O → Higher a n
+    → NoneTooDeep (take (10 * addedIn (exported a O .out)) (drop (10 * a .used) (exported a O .diagnostics))) (addedIn (exported a O .out))
+    → exported a O ≡ exported (limited a n) O
+higher-limit a n O v room high none-deep =
+    same-exported a (a .mark) n O (L.higher-limit a n high (Answers.none-raised a _ _ _ (promise a O v room) v (rw (there a O v room .added) at none-deep)))

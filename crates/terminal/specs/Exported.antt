@@ -10,7 +10,6 @@ use Rattle.records.specs.Stores.{written}
 use Rattle.operand.specs.Entry.{Input, Outcome, outcome}
 use Rattle.operand.specs.Entry as Entry
 use Rattle.operand.specs.Layout.{operandNumber, noOperandNumber}
-use Rattle.layout.specs.Promise.{nesting}
 
 -- the number that is returned: 0 with an answer, else the refusal's
 unfoldable pub numberOf : Entry.Answer → ℕ
@@ -52,4 +51,4 @@ shortAnswer = 255
 
 -- such a store is refused before all else
 unfoldable pub exported : Input → List ℕ → Exported
-exported a O = pick (ltb (length O) answerBytes) (told shortAnswer (a .nodes) (a .diagnostics) O) (answered (outcome nesting a) O)
+exported a O = pick (ltb (length O) answerBytes) (told shortAnswer (a .nodes) (a .diagnostics) O) (answered (outcome a) O)

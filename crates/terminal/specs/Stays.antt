@@ -14,7 +14,6 @@ use Rattle.records.specs.Written.{written-fits}
 use Rattle.operand.specs.Operands.{Operand, Maybe, some, none}
 use Rattle.expressions.specs.Reader.{Reading}
 use Rattle.operand.specs.Entry.{Input, readingAt, refusal, answerOf, outcome, outcomeOf}
-use Rattle.layout.specs.Promise.{nesting}
 use Rattle.terminal.specs.Exported.{Exported, told, numberOf, answerLaid, outAfter, answered, answerBytes, shortAnswer, exported}
 
 pub written-nothing : (O : List ℕ) → written O 0 [] ≡ O
@@ -25,9 +24,9 @@ unfolding numberOf answerOf
 none-refused r (some x) = refl
 none-refused r none = refl
 
-number-at : (a : Input) (k : ℕ) → numberOf (outcomeOf nesting a k .answer) ≡ k
+number-at : (a : Input) (k : ℕ) → numberOf (outcomeOf a k .answer) ≡ k
 unfolding numberOf outcomeOf
-number-at a zero = none-refused (readingAt nesting a) (readingAt nesting a .value)
+number-at a zero = none-refused (readingAt a) (readingAt a .value)
 number-at a (suc k) = refl
 
 -- with room for an answer it is the refusal's number, 0 for none
@@ -45,7 +44,7 @@ unfolding exported answered outcome outcomeOf numberOf outAfter answerLaid
 stays a O = go (ltb (length O) answerBytes) (refusal a)
   where
     of : (c : Bool) (k : ℕ) → Exported
-    of c k = pick c (told shortAnswer (a .nodes) (a .diagnostics) O) (answered (outcomeOf nesting a k) O)
+    of c k = pick c (told shortAnswer (a .nodes) (a .diagnostics) O) (answered (outcomeOf a k) O)
 
     go : (c : Bool) (k : ℕ) → 1 ≤ of c k .number → of c k ≡ told (of c k .number) (a .nodes) (a .diagnostics) O
     go true k h = refl

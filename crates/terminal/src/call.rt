@@ -18,24 +18,26 @@ const ANSWER: usize = 27;
 // The number of the refusal of a store that is too short for them: the library's own.
 const SHORT_ANSWER: u8 = 255;
 
-// Reads the operand that begins at the token `start` and writes the answer into `out`. Returns 0, or the number of a refusal, which writes nothing.
+// Reads the operand that begins at the token `start`, with at most `limit` terms open in each other, and writes the answer into `out`.
+// Returns 0, or the number of a refusal, which writes nothing.
 #[no_mangle]
 pub extern "C" fn sagdrif_parse_operand(
     line: &[u8],
     tokens: &[u8],
     start: usize,
     mark: usize,
+    limit: usize,
     nodes: &mut [u8],
     diagnostics: &mut [u8],
     used: usize,
     out: &mut [u8],
 ) -> u8
-    ensures { λ r. ⌜ told r (now (nodes .exit)) (now (diagnostics .exit)) (now (out .exit)) ≡ exported (call (now (line .entry)) (now (tokens .entry)) start mark (now (nodes .entry)) (now (diagnostics .entry)) used) (now (out .entry)) ⌝ }
+    ensures { λ r. ⌜ told r (now (nodes .exit)) (now (diagnostics .exit)) (now (out .exit)) ≡ exported (call (now (line .entry)) (now (tokens .entry)) start mark limit (now (nodes .entry)) (now (diagnostics .entry)) used) (now (out .entry)) ⌝ }
 {
     if out.len() < ANSWER {
         return SHORT_ANSWER;
     }
-    let r = parse_operand(line, tokens, start, mark, nodes, diagnostics, used);
+    let r = parse_operand(line, tokens, start, mark, limit, nodes, diagnostics, used);
     match r {
         Answer::Operand(x) => put_found(out, x),
         Answer::NoOperand(x) => put_missed(out, x),

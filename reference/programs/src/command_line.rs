@@ -1,5 +1,6 @@
 //! How every program here takes its arguments and ends.
 
+use crate::refusal::LIMITS;
 use std::env;
 use std::io::{self, Write};
 use std::process::ExitCode;
@@ -41,6 +42,34 @@ pub fn number<T: std::str::FromStr>(name: &str, text: &str) -> Result<T, Stop> {
     match text.parse() {
         Ok(value) => Ok(value),
         Err(_) => usage(format!("{name} is `{text}`, but a number is wanted there")),
+    }
+}
+
+/// An option's number, if the option stands among the arguments, and the other arguments.
+pub fn option<T: std::str::FromStr>(
+    name: &str,
+    arguments: &[String],
+) -> Result<(Option<T>, Vec<String>), Stop> {
+    let mut rest = arguments.to_vec();
+    let Some(at) = rest.iter().position(|text| text == name) else {
+        return Ok((None, rest));
+    };
+    let Some(text) = rest.get(at + 1) else {
+        return usage(format!("{name} wants a number"));
+    };
+    let value = number(name, text)?;
+    rest.drain(at..at + 2);
+    Ok((Some(value), rest))
+}
+
+/// `--limit N`, a nesting limit that a call may choose, and the other arguments.
+pub fn nesting_limit(arguments: &[String]) -> Result<(Option<usize>, Vec<String>), Stop> {
+    let (limit, rest) = option("--limit", arguments)?;
+    match limit {
+        Some(limit) if !LIMITS.contains(&limit) => {
+            usage(format!("--limit is {limit}, but 1 to 128 is wanted"))
+        }
+        _ => Ok((limit, rest)),
     }
 }
 

@@ -11,6 +11,7 @@ use crate::names;
 use crate::records::Records;
 use crate::tokens::{first_bad_token, kind, kind_name, TokenFault, KINDS};
 use parts::Parts;
+use std::ops::RangeInclusive;
 use table::{Expected, Section};
 
 /// The shapes and problems of `MalformedOperand` that occur together.
@@ -27,8 +28,6 @@ pub const REACHABLE: [(u8, &[u8]); 8] = [
 
 /// Lengths of lines and lists that are counted by themselves.
 const LENGTHS: [usize; 4] = [0, 1, 254, 255];
-/// Runs of opened terms that are counted by themselves, 64 being the limit.
-const NESTS: [usize; 3] = [63, 64, 65];
 /// How a line may fail to be a frame.
 const LINE_FAULTS: [&str; 5] = [
     "another character",
@@ -40,6 +39,7 @@ const LINE_FAULTS: [&str; 5] = [
 
 /// The counts of a run.
 pub struct Coverage {
+    limit: usize,
     lines: u64,
     outcomes: Section,
     forms: Section,
@@ -54,31 +54,27 @@ pub struct Coverage {
     extremes: Section,
 }
 
-impl Default for Coverage {
-    fn default() -> Self {
-        Self::new()
-    }
-}
-
 impl Coverage {
-    /// Nothing counted yet.
-    pub fn new() -> Self {
+    /// Nothing counted yet of a run with this nesting limit.
+    pub fn new(limit: usize) -> Self {
         let all = |title, rows: &[&str]| Section::of_words(title, rows);
         let faults: Vec<&str> = TokenFault::ALL.iter().map(|fault| fault.words()).collect();
         let tokens: Vec<&str> = (0..KINDS as u8).filter_map(kind_name).collect();
         Self {
+            limit,
             lines: 0,
             outcomes: all("answers", &OUTCOMES),
             forms: Section::numbered("forms", &names::FORMS),
             kinds: Section::numbered("diagnostics", &names::DIAGNOSTICS),
             malformed: malformed_section(),
-            nodes: Section::numbered("nodes", &names::NODES),
-            parts: Parts::new(),
+            // A unary operator and its operand are two open terms.
+            nodes: Section::numbered("nodes", &names::NODES).never_if(limit == 1, 4..5),
+            parts: Parts::new(limit),
             refusals: refusal_section(),
             bad_tokens: all("bad tokens, by their first fault", &faults),
             bad_lines: all("lines that are no frames", &LINE_FAULTS),
             tokens: all("tokens of read frames, from the start on", &tokens),
-            extremes: extremes_section(),
+            extremes: extremes_section(limit),
         }
     }
 
@@ -95,7 +91,8 @@ impl Coverage {
         match &answer {
             Answer::Refused(number) => {
                 self.outcomes.hit(3);
-                self.refusals.hit(*number as usize - 1);
+                let row = names::REFUSALS.iter().position(|row| row.0 == *number);
+                self.refusals.hit(row.expect("a refusal"));
             }
             Answer::Reading { records, .. } => self.count_records(records),
         }
@@ -150,8 +147,8 @@ impl Coverage {
             .iter()
             .take_while(|token| opens.contains(&token[0]))
             .count();
-        for (row, wanted) in NESTS.iter().enumerate() {
-            self.extremes.hit_if(nest == *wanted, 8 + row);
+        for (row, wanted) in nests(self.limit).enumerate() {
+            self.extremes.hit_if(nest == wanted, 8 + row);
         }
         let (start, mark) = (frame.start as usize, frame.symbol_at());
         self.extremes.hit_if(start > 0 && start < count, 11);
@@ -229,11 +226,16 @@ fn malformed_section() -> Section {
     section
 }
 
+/// Runs of opened terms that are counted by themselves.
+fn nests(limit: usize) -> RangeInclusive<usize> {
+    limit - 1..=limit + 1
+}
+
 /// Refusals 1 and 3 cannot be written as a frame, whose counts are one byte; 6 and 7 speak of
-/// stores that a program lends itself.
+/// stores that a program lends itself; 18 of a limit that no run has.
 fn refusal_section() -> Section {
     let mut section = Section::new("refusals");
-    for (number, name) in (1..).zip(names::REFUSALS) {
+    for (number, name) in names::REFUSALS {
         let reachable = matches!(number, 2 | 4 | 5 | 8);
         let expected = if reachable {
             Expected::Always
@@ -245,7 +247,7 @@ fn refusal_section() -> Section {
     section
 }
 
-fn extremes_section() -> Section {
+fn extremes_section(limit: usize) -> Section {
     let mut section = Section::new("extremes of read frames");
     for length in LENGTHS {
         section.add(format!("line of {length} bytes"), Expected::Always);
@@ -253,7 +255,7 @@ fn extremes_section() -> Section {
     for length in LENGTHS {
         section.add(format!("list of {length} tokens"), Expected::Always);
     }
-    for nest in NESTS {
+    for nest in nests(limit) {
         section.add(format!("{nest} terms opened in a row"), Expected::Always);
     }
     for words in [

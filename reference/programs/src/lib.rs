@@ -5,7 +5,8 @@
 //! | `hex`, `printable`, `lines`, `command_line` | digits, any bytes, bounded lines, and how every program ends |
 //! | `frame`, `tokens`, `refusal` | a frame's parts and what makes it no input |
 //! | `recover`, `records` | the Rust's tree and diagnostics as the records of docs/FORMAT.md |
-//! | `answer`, `reference` | an answer line, and the reference's own answer to a frame |
+//! | `answer`, `reference` | an answer line, and the reference's own answer to a frame, at any nesting limit |
+//! | `trial_lines` | the committed frames with their answers |
 //! | `names`, `words` | the records in words |
 //! | `lexer` | a text's tokens, for people |
 //! | `random`, `generate`, `coverage` | frames by seed, and what they reach |
@@ -30,4 +31,5 @@ pub mod recover;
 pub mod reference;
 pub mod refusal;
 pub mod tokens;
+pub mod trial_lines;
 pub mod words;

@@ -55,16 +55,17 @@ pub const SHAPES: [&str; 14] = [
     "a bit field",
 ];
 
-/// Refusals, number 1 first.
-pub const REFUSALS: [&str; 8] = [
-    "long line",
-    "foreign byte",
-    "bad list",
-    "bad token",
-    "bad start",
-    "short nodes",
-    "short diagnostics",
-    "bad frame",
+/// Refusals with their numbers.
+pub const REFUSALS: [(u8, &str); 9] = [
+    (1, "long line"),
+    (2, "foreign byte"),
+    (3, "bad list"),
+    (4, "bad token"),
+    (5, "bad start"),
+    (6, "short nodes"),
+    (7, "short diagnostics"),
+    (8, "bad frame"),
+    (18, "bad limit"),
 ];
 
 /// Kinds of nodes, number 1 first.
@@ -108,6 +109,14 @@ pub fn from_zero(words: &[&str], number: u8) -> String {
 pub fn from_one(words: &[&str], number: u8) -> String {
     match words.get((number as usize).wrapping_sub(1)) {
         Some(word) => format!("{number} {word}"),
+        None => format!("{number} (not defined)"),
+    }
+}
+
+/// A refusal.
+pub fn refusal(number: u8) -> String {
+    match REFUSALS.iter().find(|row| row.0 == number) {
+        Some((_, name)) => format!("{number} {name}"),
         None => format!("{number} (not defined)"),
     }
 }
@@ -165,6 +174,13 @@ mod tests {
         let special = variants(source, "SpecialRegister");
         let special: Vec<String> = special.iter().map(|name| name.to_lowercase()).collect();
         assert_eq!(special, SPECIAL);
+    }
+
+    #[test]
+    fn refusals_in_words() {
+        assert_eq!(refusal(1), "1 long line");
+        assert_eq!(refusal(18), "18 bad limit");
+        assert_eq!(refusal(9), "9 (not defined)");
     }
 
     #[test]

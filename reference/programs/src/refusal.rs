@@ -1,8 +1,14 @@
-//! Refusals 1 to 5 and 8. Numbers 6 and 7 speak of stores that only a caller of the function
+//! Refusals 1 to 5, 8 and 18. Numbers 6 and 7 speak of stores that only a caller of the function
 //! lends; a program lends its own, which are large enough.
 
 use crate::frame::{LONGEST_LINE, MOST_TOKENS};
 use crate::tokens::first_bad_token;
+use std::ops::RangeInclusive;
+
+/// The nesting limits that a call may choose.
+pub const LIMITS: RangeInclusive<usize> = 1..=128;
+/// The nesting limit of the program `operands`, which is the Rust's own.
+pub const LIMIT_PROGRAM: usize = 64;
 
 /// Why no reading takes place.
 #[derive(Debug, Clone, Copy, PartialEq, Eq)]
@@ -19,6 +25,8 @@ pub enum Refusal {
     BadStart = 5,
     /// An input line is no frame.
     BadFrame = 8,
+    /// The nesting limit is outside [`LIMITS`].
+    BadLimit = 18,
 }
 
 impl Refusal {
@@ -28,7 +36,7 @@ impl Refusal {
     }
 }
 
-/// The first refusal, in the order of their numbers, that applies to what a call is lent.
+/// The first refusal up to 5, in the order of their numbers, that applies to what a call is lent.
 /// `list` is the token list's bytes.
 pub fn refusal(line: &[u8], list: &[u8], start: usize) -> Option<Refusal> {
     if line.len() > LONGEST_LINE {
@@ -45,6 +53,11 @@ pub fn refusal(line: &[u8], list: &[u8], start: usize) -> Option<Refusal> {
         return Some(Refusal::BadToken);
     }
     (start > tokens.len()).then_some(Refusal::BadStart)
+}
+
+/// Refusal 18, which stands behind all others.
+pub fn limit_refusal(limit: usize) -> Option<Refusal> {
+    (!LIMITS.contains(&limit)).then_some(Refusal::BadLimit)
 }
 
 #[cfg(test)]
@@ -66,6 +79,16 @@ mod tests {
         assert_eq!(refusal(b"", &over, 0), Some(Refusal::BadList));
         assert_eq!(refusal(b"", &[30, 0, 0, 0], 0), Some(Refusal::BadToken));
         assert_eq!(refusal(b"", &[], 1), Some(Refusal::BadStart));
+    }
+
+    #[test]
+    fn limits_from_1_to_128() {
+        for limit in [1, LIMIT_PROGRAM, 128] {
+            assert_eq!(limit_refusal(limit), None);
+        }
+        for limit in [0, 129, 256 + 64, usize::MAX] {
+            assert_eq!(limit_refusal(limit), Some(Refusal::BadLimit));
+        }
     }
 
     #[test]

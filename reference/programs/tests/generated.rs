@@ -2,20 +2,26 @@
 
 use frames::answer::Answer;
 use frames::frame::{frame_bytes, Frame};
-use frames::generate::input_line;
+use frames::generate::input_line_at;
 use frames::records::{NodeRecord, Records};
-use frames::reference::answer_line;
+use frames::reference::answer_line_at;
 
-/// The readings of generated frames: the frame, the cursor and the records.
-fn for_each_reading(count: u64, check: impl Fn(&Frame, u8, &Records)) {
-    for number in 0..count {
-        let line = input_line(11, number);
-        let answer = answer_line(&line);
-        let parsed = Answer::of_line(&answer).expect("an answer");
-        assert_eq!(parsed.to_line(), answer);
-        if let Answer::Reading { cursor, records } = parsed {
-            let bytes = frame_bytes(&line).expect("a frame was read");
-            check(&Frame::of(&bytes).expect("a frame"), cursor, &records);
+/// The nesting limits that the tests go through.
+const LIMITS: [usize; 6] = [1, 2, 3, 64, 127, 128];
+
+/// The readings of generated frames: the limit, the frame, the cursor and the records.
+fn for_each_reading(count: u64, check: impl Fn(usize, &Frame, u8, &Records)) {
+    for limit in LIMITS {
+        for number in 0..count {
+            let line = input_line_at(11, number, limit);
+            let answer = answer_line_at(&line, limit);
+            let parsed = Answer::of_line(&answer).expect("an answer");
+            assert_eq!(parsed.to_line(), answer);
+            if let Answer::Reading { cursor, records } = parsed {
+                let bytes = frame_bytes(&line).expect("a frame was read");
+                let frame = Frame::of(&bytes).expect("a frame");
+                check(limit, &frame, cursor, &records);
+            }
         }
     }
 }
@@ -31,11 +37,12 @@ fn children(node: &NodeRecord) -> &[u8] {
 
 #[test]
 fn bounds_of_every_reading() {
-    for_each_reading(50_000, |frame, cursor, records| {
+    for_each_reading(20_000, |_, frame, cursor, records| {
         assert!(frame.start <= cursor && cursor as usize <= frame.tokens.len());
         let consumed = (cursor - frame.start) as usize;
+        let none = usize::from(records.operand.is_none());
         assert!(records.nodes.len() <= consumed);
-        assert!(records.diagnostics.len() <= 2 * consumed + 1);
+        assert!(records.diagnostics.len() <= consumed + none);
         assert!(records.operand.is_some() || records.nodes.is_empty());
         for (number, node) in records.nodes.iter().enumerate() {
             assert!(children(node)
@@ -49,14 +56,14 @@ fn bounds_of_every_reading() {
 /// is no operand: what stands further on may be cut off.
 #[test]
 fn what_lies_behind_the_cursor_does_not_count() {
-    for_each_reading(20_000, |frame, cursor, records| {
+    for_each_reading(10_000, |limit, frame, cursor, records| {
         let further = usize::from(records.operand.is_none());
         let kept = (cursor as usize + 1 + further).min(frame.tokens.len());
         let cut = Frame {
             tokens: &frame.tokens[..kept],
             ..*frame
         };
-        let answer = Answer::of_line(&answer_line(&cut.to_line()));
+        let answer = Answer::of_line(&answer_line_at(&cut.to_line(), limit));
         let records = records.clone();
         assert_eq!(answer, Ok(Answer::Reading { cursor, records }));
     });

@@ -50,6 +50,31 @@ fn the_reference_answers_the_sample() {
 }
 
 #[test]
+fn the_reference_is_told_its_limit() {
+    let at = |limit: &str, input: &[u8]| {
+        let output = run(env!("CARGO_BIN_EXE_reference"), &["--limit", limit], input);
+        assert!(output.status.success());
+        text(&output.stdout)
+    };
+    // `-1`: the operand is the second open term.
+    let minus = b"022d31020f0000010200010200ff";
+    assert_eq!(at("1", minus), "010100010006000001020000000000\n");
+    assert_eq!(at("2", minus), text(&reference(minus).stdout));
+    for limit in ["0", "129", "18446744073709551615"] {
+        assert_eq!(at(limit, SAMPLE.as_bytes()), "0212\n");
+        assert_eq!(at(limit, b"01410001ff\n\n"), "0205\n0208\n");
+    }
+}
+
+#[test]
+fn generated_frames_without_a_limit_are_those_of_64() {
+    let generate = |arguments: &[&str]| run(env!("CARGO_BIN_EXE_generate"), arguments, b"").stdout;
+    let without = generate(&["3", "2000"]);
+    assert!(generate(&["--limit", "64", "3", "2000"]) == without);
+    assert!(generate(&["--limit", "65", "3", "2000"]) != without);
+}
+
+#[test]
 fn lines_that_are_no_frames_are_refused() {
     assert_eq!(text(&reference(b"").stdout), "");
     assert_eq!(text(&reference(b"\n\n").stdout), "0208\n0208\n");
@@ -176,6 +201,13 @@ fn equal_programs_and_different_ones() {
     let equal = run(compare, &[reference, reference, "1", "25000"], b"");
     assert_eq!(text(&equal.stdout), "25000 frames, no difference\n");
     assert_eq!(equal.status.code(), Some(0));
+    let (one, two) = (
+        format!("{reference} --limit 1"),
+        format!("{reference} --limit 2"),
+    );
+    let limits = run(compare, &[&one, &two, "--limit", "1", "1", "1000"], b"");
+    assert!(text(&limits.stdout).contains("NestingTooDeep"));
+    assert_eq!(limits.status.code(), Some(1));
     let other = run(compare, &[reference, "cat", "1", "10"], b"");
     assert!(text(&other.stdout).contains("line 1 of the input"));
     assert_eq!(other.status.code(), Some(1));
@@ -188,11 +220,25 @@ fn equal_programs_and_different_ones() {
 fn wrong_calls_have_a_usage_message() {
     for (program, arguments) in [
         (env!("CARGO_BIN_EXE_reference"), &["x"][..]),
+        (env!("CARGO_BIN_EXE_reference"), &["--limit"]),
+        (env!("CARGO_BIN_EXE_reference"), &["--limit", "-1"]),
         (env!("CARGO_BIN_EXE_frame"), &["--start", "256"]),
         (env!("CARGO_BIN_EXE_frame"), &["--mark"]),
         (env!("CARGO_BIN_EXE_generate"), &["1"]),
         (env!("CARGO_BIN_EXE_generate"), &["1", "-3"]),
+        (
+            env!("CARGO_BIN_EXE_generate"),
+            &["--limit", "129", "1", "1"],
+        ),
         (env!("CARGO_BIN_EXE_compare"), &["a", "b", "c", "d"]),
+        (
+            env!("CARGO_BIN_EXE_compare"),
+            &["a", "b", "--limit", "0", "1", "1"],
+        ),
+        (
+            env!("CARGO_BIN_EXE_spelling"),
+            &["--limit", "0", "frames", "1", "1"],
+        ),
         (env!("CARGO_BIN_EXE_decode"), &["x"]),
     ] {
         let output = run(program, arguments, b"");

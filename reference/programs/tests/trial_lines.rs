@@ -2,34 +2,35 @@
 
 use frames::frame::Frame;
 use frames::lexer::tokens_of;
-use frames::reference::answer_line;
-
-const TABLE: &str = include_str!("../../trial-lines.txt");
-
-/// The rows of the table: the comment above, the frame, the answer.
-fn rows() -> Vec<(&'static str, &'static str, &'static str)> {
-    let lines: Vec<&str> = TABLE.lines().collect();
-    let pairs = lines.windows(2).filter(|pair| !pair[1].starts_with('#'));
-    let row = |pair: &[&'static str]| {
-        let (frame, answer) = pair[1].split_once(' ').expect("a frame and an answer");
-        (pair[0].trim_start_matches("# "), frame, answer)
-    };
-    pairs.map(row).collect()
-}
+use frames::reference::{answer_line, answer_line_at};
+use frames::refusal::LIMIT_PROGRAM;
+use frames::trial_lines::rows;
 
 #[test]
 fn every_frame_has_its_answer() {
-    assert!(rows().len() >= 90);
-    for (words, frame, answer) in rows() {
-        let given = String::from_utf8(answer_line(frame.as_bytes())).unwrap();
-        assert_eq!(given, answer, "{words}");
+    for row in rows() {
+        let frame = row.frame.as_bytes();
+        let limit = row.limit.unwrap_or(LIMIT_PROGRAM);
+        let given = String::from_utf8(answer_line_at(frame, limit)).unwrap();
+        assert_eq!(given, row.answer, "{}", row.words);
+        if row.limit.is_none() {
+            assert_eq!(answer_line(frame), given.as_bytes(), "{}", row.words);
+        }
     }
 }
 
 #[test]
+fn the_table_is_read_whole() {
+    let (limited, others): (Vec<_>, Vec<_>) =
+        rows().into_iter().partition(|row| row.limit.is_some());
+    assert!(others.len() >= 90, "{}", others.len());
+    assert!(limited.len() >= 50, "{}", limited.len());
+}
+
+#[test]
 fn every_text_has_its_frame() {
-    for (words, frame, _) in rows() {
-        let Some(quoted) = words.strip_prefix('`') else {
+    for row in rows() {
+        let Some(quoted) = row.words.strip_prefix('`') else {
             continue;
         };
         let (text, _) = quoted.split_once("`: ").expect("a text in backquotes");
@@ -40,6 +41,6 @@ fn every_text_has_its_frame() {
             start: 0,
             mark: 255,
         };
-        assert_eq!(of_text.to_line(), frame.as_bytes(), "{text}");
+        assert_eq!(of_text.to_line(), row.frame.as_bytes(), "{text}");
     }
 }

@@ -1,27 +1,15 @@
 //! Calls the private `Parser::parse_operand`.
 //!
-//! This file is a child module of the compiled copy of `parser.rs` (see `build.rs`), so it sees
+//! This file is a child module of each compiled copy of `parser.rs` (see `build.rs`), so it sees
 //! `Parser` and its fields. It adds nothing to the reading: it fills a parser in and empties it.
 
 use super::{Parser, MAX_NESTING_DEPTH};
 use crate::assembler::ast::Operand;
-use crate::assembler::diagnostics::Diagnostic;
 use crate::assembler::token::Token;
+use crate::reading::Reading;
 
-/// The limit this copy was built with: 64, unless `REFERENCE_NESTING_LIMIT` named another.
+/// The constant of this copy: 64, unless `REFERENCE_NESTING_LIMIT` named another for `parser`.
 pub const NESTING_LIMIT: usize = MAX_NESTING_DEPTH;
-
-/// What one call of `parse_operand` gives.
-pub struct Reading {
-    /// The operand, if one was read.
-    pub operand: Option<Operand>,
-    /// The place of the first token that was not consumed.
-    pub cursor: usize,
-    /// What was raised, in the order in which it was raised.
-    pub diagnostics: Vec<Diagnostic>,
-    /// The tokens that were lent, handed back.
-    pub tokens: Vec<Token>,
-}
 
 /// Reads one operand of `tokens` from the place `start` on, at depth 0.
 ///

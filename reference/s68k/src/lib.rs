@@ -2,7 +2,8 @@
 //!
 //! `assembler/{ast,diagnostics,parser,source,token}.rs` are the assembler's own (the sums stand
 //! in `../SHA256SUMS`). All else in this package is ours: stubs, each of which says what it stands
-//! for, and `driver.rs`, through which `parse_operand` is called.
+//! for; `driver.rs`, through which `parse_operand` is called; `reading.rs`, what a call gives; and
+//! `nesting.rs`, the call with another nesting limit.
 
 // The lints below speak of the unchanged files only, most of whose functions nothing calls here.
 #![allow(dead_code, unused_variables, clippy::all)]
@@ -11,3 +12,5 @@
 pub mod assembler;
 pub mod charset;
 pub mod machine;
+pub mod nesting;
+pub mod reading;

@@ -4,8 +4,9 @@ use crate::common::Input;
 use frames::frame::{Frame, TokenBytes};
 use frames::lexer::tokens_of;
 use frames::random::Random;
-use frames::reference::answer_line;
-use frames::refusal::refusal;
+use frames::reference::answer_line_at;
+use frames::refusal::{limit_refusal, refusal};
+use sagdrif::LIMIT_MOST;
 
 fn bytes(random: &mut Random, length: usize, wild: bool) -> Vec<u8> {
     let byte = |random: &mut Random| {
@@ -31,6 +32,15 @@ fn number(random: &mut Random) -> usize {
     }
 }
 
+/// A nesting limit: mostly one that a call may choose, else one beside them or any number.
+fn limit(random: &mut Random) -> usize {
+    match random.below(16) {
+        0 => random.pick(&[0, LIMIT_MOST + 1]),
+        1 => random.draw() as usize,
+        _ => random.between(1, LIMIT_MOST),
+    }
+}
+
 fn arbitrary(random: &mut Random) -> Input {
     let length_of_line = length(random, 20, 300);
     let wild = random.one_in(8);
@@ -51,7 +61,7 @@ fn arbitrary(random: &mut Random) -> Input {
         tokens = bytes(random, length_of_list, true);
     }
     let (start, mark) = (number(random), number(random));
-    let mut input = Input::new(&line, &tokens, start, mark);
+    let mut input = Input::new(&line, &tokens, start, mark).at_limit(limit(random));
     let (nodes, list) = (random.between(3569, 3575), random.between(5100, 5200));
     input.nodes = bytes(random, nodes, true);
     input.diagnostics = bytes(random, list, true);
@@ -74,15 +84,14 @@ fn wanted_number(input: &Input) -> u8 {
     let whole = input.diagnostics.len() / 10;
     let free = whole.saturating_sub(input.used);
     if free < 511 {
-        7
-    } else {
-        0
+        return 7;
     }
+    limit_refusal(input.limit).map_or(0, |refusal| refusal.number())
 }
 
 #[test]
 fn every_input_has_its_answer() {
-    let mut seen = [0usize; 8];
+    let mut seen = [0usize; 19];
     for case in 0..200_000 {
         let mut random = Random::new(20261116, case);
         let mut input = arbitrary(&mut random);
@@ -105,10 +114,11 @@ fn every_input_has_its_answer() {
         };
         assert_eq!(
             line,
-            answer_line(&frame.to_line()),
+            answer_line_at(&frame.to_line(), before.limit),
             "case {case}: {before:?}"
         );
     }
-    println!("numbers 0 to 7: {seen:?}");
-    assert!(seen.iter().all(|count| *count > 100), "{seen:?}");
+    let counts = [0, 1, 2, 3, 4, 5, 6, 7, 18].map(|number: usize| seen[number]);
+    println!("numbers 0 to 7, and 18: {counts:?}");
+    assert!(counts.iter().all(|count| *count > 100), "{counts:?}");
 }

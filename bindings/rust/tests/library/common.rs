@@ -1,7 +1,8 @@
 //! What the tests share: a call with its stores, and its answer as the program's line.
 
+use frames::frame::{frame_bytes, Frame};
 use frames::hex;
-use sagdrif::{Answer, Refusal, DIAGNOSTIC, NODE};
+use sagdrif::{Answer, Refusal, DIAGNOSTIC, LIMIT_PROGRAM, NODE};
 
 /// What a call lends and gives.
 #[derive(Debug, Clone, PartialEq, Eq)]
@@ -10,23 +11,39 @@ pub struct Input {
     pub tokens: Vec<u8>,
     pub start: usize,
     pub mark: usize,
+    pub limit: usize,
     pub nodes: Vec<u8>,
     pub diagnostics: Vec<u8>,
     pub used: usize,
 }
 
 impl Input {
-    /// With stores that are just long enough, filled with a byte that no record begins with.
+    /// With the program's nesting limit, and stores that are just long enough, filled with a byte that no record begins with.
     pub fn new(line: &[u8], tokens: &[u8], start: usize, mark: usize) -> Self {
         Input {
             line: line.to_vec(),
             tokens: tokens.to_vec(),
             start,
             mark,
+            limit: LIMIT_PROGRAM,
             nodes: vec![0xa5; sagdrif::NODES_BYTES],
             diagnostics: vec![0xa5; DIAGNOSTIC * sagdrif::DIAGNOSTICS_FREE],
             used: 0,
         }
+    }
+
+    /// What a line of the program's input lends and gives, if it is a frame.
+    pub fn of_line(text: &[u8]) -> Option<Self> {
+        let bytes = frame_bytes(text).ok()?;
+        let frame = Frame::of(&bytes).ok()?;
+        let (start, mark) = (frame.start as usize, frame.mark as usize);
+        let tokens = frame.tokens.as_flattened();
+        Some(Input::new(frame.line, tokens, start, mark))
+    }
+
+    /// With another nesting limit.
+    pub fn at_limit(self, limit: usize) -> Self {
+        Input { limit, ..self }
     }
 
     /// Makes the call. A refusal must leave all as it was.
@@ -38,6 +55,7 @@ impl Input {
             &self.tokens,
             self.start,
             self.mark,
+            self.limit,
             &mut self.nodes,
             &mut self.diagnostics,
             self.used,
@@ -83,5 +101,13 @@ impl Input {
         bytes.extend(&self.nodes[..NODE * answer.nodes()]);
         bytes.extend(&self.diagnostics[from..from + DIAGNOSTIC * answer.diagnostics()]);
         hex::encode(&bytes)
+    }
+}
+
+/// The library's answer to a line of the program's input, at a nesting limit. Refusal 8 is the program's alone.
+pub fn answer_line_at(text: &[u8], limit: usize) -> Vec<u8> {
+    match Input::of_line(text) {
+        Some(input) => input.at_limit(limit).answer_line(),
+        None => b"0208".to_vec(),
     }
 }

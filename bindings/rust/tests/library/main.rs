@@ -2,6 +2,7 @@
 
 mod arbitrary;
 mod common;
+mod limits;
 mod marks;
 mod recorded;
 mod refusals;

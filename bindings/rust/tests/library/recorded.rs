@@ -1,8 +1,7 @@
 //! The recorded frames of the program, read by the library.
 
-use crate::common::Input;
-use frames::frame::Frame;
-use frames::hex;
+use crate::common::{answer_line_at, Input};
+use sagdrif::LIMIT_PROGRAM;
 
 const STDIN: &[u8] = include_bytes!("../../../../crates/operands/stdin");
 const STDOUT: &[u8] = include_bytes!("../../../../crates/operands/stdout");
@@ -13,24 +12,14 @@ fn lines(text: &[u8]) -> Vec<&[u8]> {
     text.split(|byte| *byte == b'\n').collect()
 }
 
-/// The library's answer; refusal 8 is the program's alone.
-fn answer(line: &[u8], read: &mut usize) -> Vec<u8> {
-    let bytes = hex::decode(line).unwrap_or_default();
-    let Ok(frame) = Frame::of(&bytes) else {
-        return b"0208".to_vec();
-    };
-    *read += 1;
-    let (start, mark) = (frame.start as usize, frame.mark as usize);
-    Input::new(frame.line, frame.tokens.as_flattened(), start, mark).answer_line()
-}
-
 #[test]
 fn every_recorded_frame_has_its_answer() {
     let (frames, answers) = (lines(STDIN), lines(STDOUT));
     assert_eq!(frames.len(), answers.len());
     let mut read = 0;
     for (frame, wanted) in frames.iter().zip(answers) {
-        let given = answer(frame, &mut read);
+        let given = answer_line_at(frame, LIMIT_PROGRAM);
+        read += usize::from(given != b"0208");
         assert_eq!(given, wanted, "{}", String::from_utf8_lossy(frame));
     }
     println!("{} recorded lines, {read} of them frames", frames.len());

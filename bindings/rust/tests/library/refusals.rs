@@ -119,10 +119,30 @@ fn diagnostic_lists() {
     }
 }
 
+#[test]
+fn limits() {
+    // Behind the lawful ones, some that fewer bits would turn into a lawful one.
+    let cases = [
+        (1, None),
+        (64, None),
+        (128, None),
+        (0, Some(BadLimit)),
+        (129, Some(BadLimit)),
+        (usize::MAX, Some(BadLimit)),
+        (256 + 64, Some(BadLimit)),
+        (1 << 16 | 64, Some(BadLimit)),
+        (1 << 32 | 64, Some(BadLimit)),
+        (1 << 63 | 64, Some(BadLimit)),
+    ];
+    for (limit, wanted) in cases {
+        assert_eq!(refusal(&mut d0().at_limit(limit)), wanted, "limit {limit}");
+    }
+}
+
 /// The first that applies is given, whatever else is wrong.
 #[test]
 fn in_their_order() {
-    let mut input = Input::new(&[200; 256], &[99; 1025], usize::MAX, 0);
+    let mut input = Input::new(&[200; 256], &[99; 1025], usize::MAX, 0).at_limit(0);
     input.nodes.clear();
     input.diagnostics.clear();
     input.used = usize::MAX;
@@ -142,5 +162,7 @@ fn in_their_order() {
     input.diagnostics = vec![0; 5110];
     assert_eq!(refusal(&mut input), Some(ShortDiagnostics));
     input.used = 0;
+    assert_eq!(refusal(&mut input), Some(BadLimit));
+    input.limit = 1;
     assert_eq!(refusal(&mut input), None);
 }

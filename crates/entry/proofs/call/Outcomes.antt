@@ -12,13 +12,13 @@ use Rattle.operand.specs.Records.{sizeM}
 use Rattle.operand.specs.Forms.{recordOf, operandRead}
 use Rattle.operand.specs.Entry.{Input, placeOf, readingAt, node-store, nodesAfter, diagnosticsAfter, answerNumber, outcome, outcomeOf, outcome-number}
 use Rattle.operand.specs.Readings.{raised-few}
-use Rattle.operand.specs.Conditions.{Valid, valid-bounds, valid-stores, cursor-bounds, nodes-enough}
+use Rattle.operand.specs.Conditions.{Valid, valid-bounds, valid-stores, valid-limit, cursor-bounds, nodes-enough}
 use Rattle.operand.specs.declared.forms.OperandStep.{OperandStep}
 use Rattle.decoding.specs.Tokens.{decoded, tokens-stored}
 use Rattle.layout.specs.Nodes.{nodesEncoded}
 use Rattle.layout.specs.Diagnostics.{diagnosticsEncoded}
 use Rattle.layout.specs.Stored.{nodes-stored, diagnostics-stored}
-use Rattle.layout.specs.Promise.{nesting, nesting-is, nesting-some, given, resultOf, resultAt, given-result, EntryPromise}
+use Rattle.layout.specs.Promise.{given, resultOf, resultAt, given-result, EntryPromise}
 use Rattle.layout.specs.declared.answer.Answer.{Answer}
 use Rattle.operand_code.specs.Reading.{OperandAsks, OperandFits, OperandPromise, nodesAlone}
 use Rattle.operand_code.specs.Reading as P
@@ -28,20 +28,20 @@ use Rattle.entry.proofs.call.Refusals.{whole-list}
 
 -- what a valid input is read as
 read-so : (a : Input) (N′ D′ : List ℕ) (r : Answer) → Valid a
-    → r ≡ resultOf (readingAt nesting a) (readingAt nesting a .value)
-    → N′ ≡ nodesAfter (readingAt nesting a .value) (a .nodes)
-    → D′ ≡ diagnosticsAfter (readingAt nesting a) (a .used) (a .diagnostics)
+    → r ≡ resultOf (readingAt a) (readingAt a .value)
+    → N′ ≡ nodesAfter (readingAt a .value) (a .nodes)
+    → D′ ≡ diagnosticsAfter (readingAt a) (a .used) (a .diagnostics)
     → EntryPromise a N′ D′ r
 unfolding resultAt outcome outcomeOf
 read-so a N′ D′ r v h n d =
-    let s = readingAt nesting a in
-    let e = ap given h ∙ given-result s (s .value) ∙ ap (λ m. outcomeOf nesting a m .answer) (sym v) in
+    let s = readingAt a in
+    let e = ap given h ∙ given-result s (s .value) ∙ ap (λ m. outcomeOf a m .answer) (sym v) in
     record {
       answer = e;
-      number = ap answerNumber e ∙ outcome-number nesting a;
-      nodes = n ∙ ap (λ m. outcomeOf nesting a m .nodes) (sym v);
-      diagnostics = d ∙ ap (λ m. outcomeOf nesting a m .diagnostics) (sym v);
-      value = h ∙ ap (resultAt nesting a) (sym v);
+      number = ap answerNumber e ∙ outcome-number a;
+      nodes = n ∙ ap (λ m. outcomeOf a m .nodes) (sym v);
+      diagnostics = d ∙ ap (λ m. outcomeOf a m .diagnostics) (sym v);
+      value = h ∙ ap (resultAt a) (sym v);
     }
 
 -- the counters of a reading
@@ -55,7 +55,7 @@ answer-is s none e = refl
 
 module _ (a : Input) (M M′ N D N₁ D₁ : List ℕ) (v : Valid a) (asks : StoresAsk (a .line) (a .tokens) M N D) (list : M′ ≡ decoded (a .tokens) M) where
   abbrev s : Reading (Maybe Operand)
-  s = readingAt nesting a
+  s = readingAt a
 
   -- the numbers of the list are its bytes
   tokens-are : take (length (a .tokens) - 0) M′ ≡ a .tokens
@@ -63,29 +63,32 @@ module _ (a : Input) (M M′ N D N₁ D₁ : List ℕ) (v : Valid a) (asks : Sto
       let n : length (a .tokens) - 0 ≡ length (a .tokens) = omega arith in
       ap₂ take n list ∙ tokens-stored (a .tokens) M (whole-list _ _ (asks .passed) .0) (asks .tokens)
 
-  room : OperandAsks (a .tokens) N (a .start) 64
-  room = record { few = omega (arith, valid-bounds a v .0); within = valid-bounds a v .1; long = asks .nodes; deep = omega arith }
+  lim : 1 ≤ a .limit
+  lim = valid-limit a v .0
+
+  room : OperandAsks (a .tokens) N (a .start) (a .limit)
+  room = record { few = omega (arith, valid-bounds a v .0); within = valid-bounds a v .1; long = asks .nodes; deep = lim }
 
   raised-room : 10 * length (s .raised) ≤ length D
-  raised-room = omega (arith, raised-few nesting nesting-some (a .mark) (placeOf a) (a .start), cursor-bounds nesting nesting-some a v, asks .diagnostics)
+  raised-room = omega (arith, raised-few (a .limit) lim (a .mark) (placeOf a) (a .start), cursor-bounds a lim v, asks .diagnostics)
 
-  module _ (r : OperandAnswer) (told : OperandPromise (a .line) (take (length (a .tokens) - 0) M′) N D N₁ D₁ (a .start) (a .mark) 64 r) where
-    of-list : OperandPromise (a .line) (a .tokens) N D N₁ D₁ (a .start) (a .mark) 64 r
+  module _ (r : OperandAnswer) (told : OperandPromise (a .line) (take (length (a .tokens) - 0) M′) N D N₁ D₁ (a .start) (a .mark) (a .limit) r) where
+    of-list : OperandPromise (a .line) (a .tokens) N D N₁ D₁ (a .start) (a .mark) (a .limit) r
     of-list = rw tokens-are at told
 
     -- there is room, so that it is read
     pub never-unfit : r ≡ OperandAnswer.Unfit → ⊥
     never-unfit e = go of-list
       where
-        go : OperandPromise (a .line) (a .tokens) N D N₁ D₁ (a .start) (a .mark) 64 r → ⊥
+        go : OperandPromise (a .line) (a .tokens) N D N₁ D₁ (a .start) (a .mark) (a .limit) r → ⊥
         go (P.OperandPromise.read t f q h) = let z : _≡_ {A = ℕ} 0 1 = cc in omega arith
         go (P.OperandPromise.unread f q n d) = q room
 
     fits : (t : OperandStep) → r ≡ OperandAnswer.Is t → OperandFits s N D N₁ D₁ t
     fits t e = go of-list
       where
-        go : OperandPromise (a .line) (a .tokens) N D N₁ D₁ (a .start) (a .mark) 64 r → OperandFits s N D N₁ D₁ t
-        go (P.OperandPromise.read u f q h) = let k : u ≡ t = cc in rw (nesting-is, ← k) h
+        go : OperandPromise (a .line) (a .tokens) N D N₁ D₁ (a .start) (a .mark) (a .limit) r → OperandFits s N D N₁ D₁ t
+        go (P.OperandPromise.read u f q h) = let k : u ≡ t = cc in rw (← k) h
         go (P.OperandPromise.unread f q n d) = absurd (q room)
 
     pub is-read : (t : OperandStep) → r ≡ OperandAnswer.Is t → (N′ D′ : List ℕ) (x : Answer) → AnswerTold t N₁ D₁ (a .nodes) (a .diagnostics) N′ D′ (a .used) x → EntryPromise a N′ D′ x
@@ -96,7 +99,7 @@ module _ (a : Input) (M M′ N D N₁ D₁ : List ℕ) (v : Valid a) (asks : Sto
         (w .answer ∙ ap₂ answerOf (f .operand) (f .counters) ∙ answer-is s (s .value) refl)
         (w .nodes
         ∙ ap₂ (λ m c. nodesEncoded m (c .nodes) (a .nodes)) (f .nodes) (f .counters)
-        ∙ nodes-stored (s .value) _ (a .nodes) (omega (arith, nodes-enough nesting nesting-some a v, node-store)) (valid-stores a v .0))
+        ∙ nodes-stored (s .value) _ (a .nodes) (omega (arith, nodes-enough a lim v, node-store)) (valid-stores a v .0))
         (w .diagnostics
         ∙ ap₂ (λ m c. diagnosticsEncoded m (c .diagnostics) (a .diagnostics) (a .used)) (f .diagnostics) (f .counters)
-        ∙ diagnostics-stored (s .raised) D (a .diagnostics) (a .used) raised-room (omega (arith, raised-few nesting nesting-some (a .mark) (placeOf a) (a .start), cursor-bounds nesting nesting-some a v, valid-bounds a v, valid-stores a v)))
+        ∙ diagnostics-stored (s .raised) D (a .diagnostics) (a .used) raised-room (omega (arith, raised-few (a .limit) lim (a .mark) (placeOf a) (a .start), cursor-bounds a lim v, valid-bounds a v, valid-stores a v)))

@@ -14,14 +14,14 @@ use Rattle.operand.specs.Records.{sizeM}
 use Rattle.operand.specs.Forms.{recordOf}
 use Rattle.operand.specs.Layout.{nodesLaid, diagnosticsLaid, bytesOf, answerLine}
 use Rattle.operand.specs.Entry.{Input, refusal, readingAt}
-use Rattle.layout.specs.Promise.{nesting, resultOf, resultAt, EntryPromise}
+use Rattle.layout.specs.Promise.{resultOf, resultAt, EntryPromise}
 use Rattle.operand.specs.Conditions.{Valid}
 use Rattle.layout.specs.Answers as Answers
 use Rattle.layout.specs.Answers.{Total, operand-valid, missed-valid, cursor-small}
 use Rattle.layout.specs.declared.answer.Answer.{Answer}
 use Rattle.layout.specs.declared.answer.Found.{Found}
 use Rattle.layout.specs.declared.answer.Missed.{Missed}
-use Rattle.frames.specs.Frame.{isFrame, lineLength, tokenCount, inputOf, lent}
+use Rattle.frames.specs.Frame.{maxNestingDepth, max-nesting-depth, isFrame, lineLength, tokenCount, inputOf, lent}
 use Rattle.frames.specs.Reply.{refused, bytesAt, inputBytes, frameBytes, ended}
 use Rattle.frames.specs.Lent.{lent-same}
 use Rattle.frames.specs.Inner.{Put, foundBytes, FoundAsks, missedBytes, MissedAsks, answerBytes, AnswerAsks}
@@ -49,7 +49,7 @@ missedOf r = record { cursor = r .cursor; diagnostics = length (r .raised) }
 
 module _ (a : Input) (none-used : a .used ≡ 0) (N D : List ℕ) where
   abbrev s : Reading (Maybe Operand)
-  s = readingAt nesting a
+  s = readingAt a
 
   -- the added diagnostics are the first ones
   first-added : (r : Answer) → EntryPromise a N D r → Valid a → take (10 * Answers.diagnosticsAdded r) D ≡ diagnosticsLaid (s .raised)
@@ -61,7 +61,7 @@ module _ (a : Input) (none-used : a .used ≡ 0) (N D : List ℕ) where
 
     found-is : Answer.Operand x ≡ resultOf s (s .value)
     unfolding resultAt
-    found-is = p .value ∙ ap (resultAt nesting a) v
+    found-is = p .value ∙ ap (resultAt a) v
 
     pub found-bytes : foundBytes x N D ≡ inputBytes a
     unfolding foundBytes inputBytes bytesAt resultOf answerLine sizeM
@@ -94,7 +94,7 @@ module _ (a : Input) (none-used : a .used ≡ 0) (N D : List ℕ) where
 
     missed-is : Answer.NoOperand x ≡ resultOf s (s .value)
     unfolding resultAt
-    missed-is = p .value ∙ ap (resultAt nesting a) w
+    missed-is = p .value ∙ ap (resultAt a) w
 
     pub missed-bytes : missedBytes x D ≡ inputBytes a
     unfolding missedBytes inputBytes bytesAt resultOf answerLine
@@ -142,6 +142,7 @@ parts B line N D = record {
   tokens = take (length B - 2 - (line + 2)) (drop (line + 2) B);
   start = getD B (length B - 2) 0;
   mark = getD B (length B - 1) 0;
+  limit = 64;
   nodes = N;
   diagnostics = D;
   used = 0;
@@ -155,11 +156,11 @@ module _ (B : List ℕ) (line : ℕ) (N D N′ D′ : List ℕ) (first : line �
       let e₃ : line + 2 ≡ lineLength B + 2 = omega arith in
       let e₄ : length B - 2 ≡ lineLength B + 4 * tokenCount B + 2 = omega arith in
       let e₅ : length B - 1 ≡ lineLength B + 4 * tokenCount B + 3 = omega arith in
-      part e₁ e₂ e₃ e₄ e₅
+      part e₁ e₂ e₃ e₄ e₅ (sym max-nesting-depth)
     where
-      part : {i j m k l : ℕ} → i ≡ lineLength B → j ≡ 4 * tokenCount B → m ≡ lineLength B + 2 → k ≡ lineLength B + 4 * tokenCount B + 2 → l ≡ lineLength B + 4 * tokenCount B + 3
-          → _≡_ {A = Input} (record { line = take i (drop 1 B); tokens = take j (drop m B); start = getD B k 0; mark = getD B l 0; nodes = N; diagnostics = D; used = 0 }) (lent B N D)
-      part f₁ f₂ f₃ f₄ f₅ = rw (f₁, f₂, f₃, f₄, f₅)
+      part : {i j m k l d : ℕ} → i ≡ lineLength B → j ≡ 4 * tokenCount B → m ≡ lineLength B + 2 → k ≡ lineLength B + 4 * tokenCount B + 2 → l ≡ lineLength B + 4 * tokenCount B + 3 → d ≡ maxNestingDepth
+          → _≡_ {A = Input} (record { line = take i (drop 1 B); tokens = take j (drop m B); start = getD B k 0; mark = getD B l 0; limit = d; nodes = N; diagnostics = D; used = 0 }) (lent B N D)
+      part f₁ f₂ f₃ f₄ f₅ f₆ = rw (f₁, f₂, f₃, f₄, f₅, f₆)
 
   pub read-lent : (r : Answer) → EntryPromise (parts B line N D) N′ D′ r → EntryPromise (lent B N D) N′ D′ r
   read-lent r p = rw parts-lent at p

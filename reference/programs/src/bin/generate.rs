@@ -1,16 +1,17 @@
 //! Frames by seed and count, or a table of what the reference answers to them.
 
-use frames::command_line::{self, complain, number, usage, Stop, FAULT};
+use frames::command_line::{self, complain, nesting_limit, number, usage, Stop, FAULT};
 use frames::coverage::Coverage;
-use frames::generate::input_line;
+use frames::generate::input_line_at;
 use frames::reference::Reference;
+use frames::refusal::LIMIT_PROGRAM;
 use std::fs;
 use std::io::{self, BufWriter, Write};
 use std::process::ExitCode;
 
-const HELP: &str = "usage: generate SEED COUNT > frames
-       generate --coverage SEED COUNT
-       generate --coverage --file FILE
+const HELP: &str = "usage: generate [--limit N] SEED COUNT > frames
+       generate --coverage [--limit N] SEED COUNT
+       generate --coverage [--limit N] --file FILE
 
 Writes COUNT lines: frames, and now and then a line that is none. The same seed
 gives the same lines everywhere.
@@ -19,6 +20,8 @@ gives the same lines everywhere.
                exit status is 1 if one that can occur does not, or one that
                cannot does
   --file       count the lines of FILE instead of generated ones
+  --limit N    nests lie around this nesting limit, 1 to 128 (64), which is the
+               reference's for --coverage
 ";
 
 fn main() -> ExitCode {
@@ -26,9 +29,10 @@ fn main() -> ExitCode {
 }
 
 fn program(arguments: &[String]) -> Result<ExitCode, Stop> {
+    let (limit, arguments) = nesting_limit(arguments)?;
     let (coverage, rest) = match arguments.split_first() {
         Some((first, rest)) if first == "--coverage" => (true, rest),
-        _ => (false, arguments),
+        _ => (false, &arguments[..]),
     };
     let [seed, count] = rest else {
         return usage("SEED and COUNT are wanted");
@@ -36,24 +40,29 @@ fn program(arguments: &[String]) -> Result<ExitCode, Stop> {
     if coverage && seed == "--file" {
         let input = fs::read(count)?;
         let text = input.strip_suffix(b"\n").unwrap_or(&input);
-        return print_coverage(text.split(|byte| *byte == b'\n').map(<[u8]>::to_vec));
+        let lines = text.split(|byte| *byte == b'\n').map(<[u8]>::to_vec);
+        return print_coverage(lines, limit);
     }
     let (seed, count) = (number("SEED", seed)?, number("COUNT", count)?);
+    let line = |number: u64| input_line_at(seed, number, limit.unwrap_or(LIMIT_PROGRAM));
     if coverage {
-        return print_coverage((0..count).map(|number| input_line(seed, number)));
+        return print_coverage((0..count).map(line), limit);
     }
     let mut output = BufWriter::with_capacity(1 << 16, io::stdout().lock());
     for number in 0..count {
-        output.write_all(&input_line(seed, number))?;
+        output.write_all(&line(number))?;
         output.write_all(b"\n")?;
     }
     output.flush()?;
     Ok(ExitCode::SUCCESS)
 }
 
-fn print_coverage(lines: impl Iterator<Item = Vec<u8>>) -> Result<ExitCode, Stop> {
-    let mut coverage = Coverage::new();
-    let mut reference = Reference::default();
+fn print_coverage(
+    lines: impl Iterator<Item = Vec<u8>>,
+    limit: Option<usize>,
+) -> Result<ExitCode, Stop> {
+    let mut coverage = Coverage::new(limit.unwrap_or(LIMIT_PROGRAM));
+    let mut reference = limit.map_or_else(Reference::default, Reference::at_limit);
     let mut answer = Vec::new();
     for line in lines {
         answer.clear();

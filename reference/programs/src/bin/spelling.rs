@@ -3,27 +3,32 @@
 //! A closed spelling is read as its operand, up to its end, with no diagnostic; an operand that is
 //! read with no diagnostic and no Error token before the cursor is spelled so, up to the cursor.
 
-use frames::command_line::{self, number, usage, Stop};
+use frames::command_line::{self, nesting_limit, number, usage, Stop};
 use frames::frame::{Frame, TokenBytes};
-use frames::generate::input_line;
+use frames::generate::input_line_at;
 use frames::grammar::Grammar;
 use frames::hex;
 use frames::random::Random;
-use frames::refusal::refusal;
+use frames::reference::read_operand;
+use frames::refusal::{refusal, LIMIT_PROGRAM};
 use frames::tokens::rust_token;
-use s68k::assembler::parser::driver::{read_operand, NESTING_LIMIT};
+use s68k::assembler::parser::driver::NESTING_LIMIT;
 use s68k::assembler::token::{Token, TokenKind};
 use std::process::ExitCode;
 
-const HELP: &str = "usage: spelling all LENGTH WORDS | spelling lists SEED COUNT LENGTH | spelling frames SEED COUNT
+const HELP: &str = "usage: spelling [--limit N] all LENGTH WORDS
+       spelling [--limit N] lists SEED COUNT LENGTH
+       spelling [--limit N] frames SEED COUNT
 
 all: every list of up to LENGTH words out of WORDS (separated by spaces), with and without a mark.
 lists: COUNT random lists of up to LENGTH words. frames: COUNT generated frames.
+--limit N: with another nesting limit, 1 to 128, by the copy of the Rust that is told at run time.
 ";
 
-/// What was counted.
+/// What was counted, and with which nesting limit, if not with the Rust's own.
 #[derive(Default)]
 struct Counts {
+    limit: Option<usize>,
     lists: u64,
     spellings: u64,
     closed: u64,
@@ -36,8 +41,12 @@ fn main() -> ExitCode {
 }
 
 fn program(arguments: &[String]) -> Result<ExitCode, Stop> {
+    let (limit, arguments) = nesting_limit(arguments)?;
     let texts: Vec<&str> = arguments.iter().map(String::as_str).collect();
-    let mut counts = Counts::default();
+    let mut counts = Counts {
+        limit,
+        ..Counts::default()
+    };
     match texts[..] {
         ["all", length, ref words @ ..] => all(&mut counts, number("LENGTH", length)?, words),
         ["lists", seed, count, length] => {
@@ -50,8 +59,13 @@ fn program(arguments: &[String]) -> Result<ExitCode, Stop> {
         _ => return usage("all, lists or frames is wanted"),
     }
     println!(
-        "limit {NESTING_LIMIT}: {} lists, {} spellings, {} of them closed, {} quiet operands, {} faults",
-        counts.lists, counts.spellings, counts.closed, counts.quiet, counts.faults
+        "limit {}: {} lists, {} spellings, {} of them closed, {} quiet operands, {} faults",
+        limit.unwrap_or(NESTING_LIMIT),
+        counts.lists,
+        counts.spellings,
+        counts.closed,
+        counts.quiet,
+        counts.faults
     );
     Ok(ExitCode::from((counts.faults > 0) as u8))
 }
@@ -188,7 +202,7 @@ fn lists(counts: &mut Counts, seed: u64, count: u64, length: usize) {
 fn frames(counts: &mut Counts, seed: u64, count: u64) {
     let mut bytes = Vec::new();
     for number in 0..count {
-        let text = input_line(seed, number);
+        let text = input_line_at(seed, number, counts.limit.unwrap_or(LIMIT_PROGRAM));
         if hex::decode_into(&text, &mut bytes).is_err() {
             continue;
         }
@@ -216,15 +230,16 @@ fn closed(tokens: &[Token], j: usize) -> bool {
 }
 
 fn compare(counts: &mut Counts, line: &str, tokens: &[Token], own: usize, mark: Option<usize>) {
+    let limit = counts.limit.unwrap_or(NESTING_LIMIT);
     let grammar = |suppressed_symbols| Grammar {
         line,
         tokens,
         own,
         mark,
-        limit: NESTING_LIMIT,
+        limit,
         suppressed_symbols,
     };
-    let reading = read_operand(line, tokens.to_vec(), own, mark);
+    let reading = read_operand(counts.limit, line, tokens.to_vec(), own, mark);
     counts.lists += 1;
     for (j, operand) in grammar(false).operands() {
         counts.spellings += 1;

@@ -1,7 +1,7 @@
 //! Frames in batches, by seed or from a file.
 
 use super::BATCH;
-use crate::generate::input_line;
+use crate::generate::input_line_at;
 use std::fs::File;
 use std::io::{self, BufRead, BufReader};
 
@@ -38,17 +38,26 @@ impl Batch {
 
 /// Where batches come from.
 pub enum Batches {
-    /// Generated lines: the seed, how many there are, and how many were given.
-    Generated { seed: u64, count: u64, given: u64 },
+    /// Generated lines: the seed, how many there are, their nesting limit, and how many were given.
+    Generated {
+        seed: u64,
+        count: u64,
+        limit: usize,
+        given: u64,
+    },
     /// The lines of a file, and how many were given.
     File { file: BufReader<File>, given: u64 },
 }
 
 impl Batches {
-    /// `count` lines of `seed`.
-    pub fn generated(seed: u64, count: u64) -> Self {
-        let given = 0;
-        Batches::Generated { seed, count, given }
+    /// `count` lines of `seed`, with nests around `limit`.
+    pub fn generated(seed: u64, count: u64, limit: usize) -> Self {
+        Batches::Generated {
+            seed,
+            count,
+            limit,
+            given: 0,
+        }
     }
 
     /// The lines of a file.
@@ -60,10 +69,15 @@ impl Batches {
     /// The next batch; an empty one at the end.
     pub fn next_batch(&mut self) -> io::Result<Batch> {
         match self {
-            Batches::Generated { seed, count, given } => {
+            Batches::Generated {
+                seed,
+                count,
+                limit,
+                given,
+            } => {
                 let first = *given;
                 *given = (first + BATCH as u64).min(*count);
-                let lines = (first..*given).map(|number| input_line(*seed, number));
+                let lines = (first..*given).map(|number| input_line_at(*seed, number, *limit));
                 Ok(batch(first + 1, lines.collect()))
             }
             Batches::File { file, given } => {
@@ -109,7 +123,7 @@ mod tests {
 
     #[test]
     fn batches_hold_every_line() {
-        let mut batches = Batches::generated(1, 2 * BATCH as u64 + 5);
+        let mut batches = Batches::generated(1, 2 * BATCH as u64 + 5, 64);
         let mut lengths = Vec::new();
         loop {
             let batch = batches.next_batch().unwrap();

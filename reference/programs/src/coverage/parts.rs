@@ -42,8 +42,8 @@ pub struct Parts {
 }
 
 impl Parts {
-    /// Nothing counted yet.
-    pub fn new() -> Self {
+    /// Nothing counted yet of a run with this nesting limit.
+    pub fn new(limit: usize) -> Self {
         Self {
             special: Section::numbered("special registers", &names::SPECIAL),
             sizes: Section::numbered("sizes", &names::SIZES),
@@ -52,7 +52,7 @@ impl Parts {
             scales: Section::of_words("scales", &SCALES),
             indirections: Section::of_words("indirections of form 12", &names::INDIRECTIONS),
             bases: Section::of_words("bases of forms 5 to 12", &BASES),
-            unary: Section::of_words("unary operators", &names::UNARY),
+            unary: Section::of_words("unary operators", &names::UNARY).never_if(limit == 1, 0..2),
             binary: Section::of_words("binary operators", &names::BINARY),
             number_bases: Section::of_words("bases of numbers", &names::BASES),
             quotes: Section::of_words("quotes of literals", &names::QUOTES),

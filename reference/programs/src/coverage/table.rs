@@ -1,6 +1,7 @@
 //! Rows of counts, each with what is expected of it.
 
 use std::fmt::Write;
+use std::ops::Range;
 
 /// Whether a row's event can occur.
 #[derive(Debug, Clone, Copy, PartialEq, Eq)]
@@ -46,6 +47,16 @@ impl Section {
             section.add(format!("{number} {word}"), Expected::Always);
         }
         section
+    }
+
+    /// The section with rows that cannot occur under a condition.
+    pub fn never_if(mut self, condition: bool, rows: Range<usize>) -> Self {
+        if condition {
+            for row in &mut self.rows[rows] {
+                row.expected = Expected::Never;
+            }
+        }
+        self
     }
 
     /// Adds a row.

@@ -9,28 +9,29 @@ use crate::tokens::kind;
 /// Lengths at the limits of a line or a list.
 const LENGTHS: [usize; 6] = [0, 1, 254, 255, 254, 255];
 
-/// A frame at some limit.
-pub fn draft(random: &mut Random) -> Draft {
+/// A frame at some limit, `limit` being that of nesting.
+pub fn draft(random: &mut Random, limit: usize) -> Draft {
     match random.below(6) {
-        0..=2 => nest(random),
+        0..=2 => nest(random, limit),
         3 => chain(random),
         4 => tokens_of_one_byte(random),
         _ => one_long_token(random),
     }
 }
 
-/// How many terms are opened: mostly around 64, seldom around 1 and 128, which later nesting
-/// limits may be.
-fn nesting(random: &mut Random) -> usize {
+/// How many terms are opened: mostly around the limit, seldom around the least and the greatest
+/// that it may be.
+fn nesting(random: &mut Random, limit: usize) -> usize {
     match random.below(8) {
         0 => random.between(1, 4),
         1 => random.between(120, 130),
-        _ => random.between(61, 67),
+        _ => random.between(limit.saturating_sub(3).max(1), limit + 3),
     }
 }
 
-/// Minus signs, tildes, pluses and groups around a term, in some operand.
-fn nest(random: &mut Random) -> Draft {
+/// Minus signs, tildes, pluses and groups around a term, in some operand. What 255 tokens do not
+/// hold is cut off.
+fn nest(random: &mut Random, limit: usize) -> Draft {
     let openers = random.pick(&[
         &["-"][..],
         &["("],
@@ -39,7 +40,9 @@ fn nest(random: &mut Random) -> Draft {
         &["+"],
         &["(", "+"],
     ]);
-    let opened: Vec<&str> = (0..nesting(random)).map(|_| random.pick(openers)).collect();
+    let opened: Vec<&str> = (0..nesting(random, limit))
+        .map(|_| random.pick(openers))
+        .collect();
     let groups = opened.iter().filter(|opener| **opener == "(").count();
     let closed = match random.below(6) {
         0 => random.below(groups + 1),

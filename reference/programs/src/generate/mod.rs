@@ -12,6 +12,7 @@ mod spelling;
 mod vocabulary;
 
 use crate::random::Random;
+use crate::refusal::LIMIT_PROGRAM;
 use damage::damage;
 use layout::Draft;
 use spelling::Writer;
@@ -19,11 +20,16 @@ use vocabulary::{any_piece, Piece};
 
 /// Line `number` of the input that belongs to `seed`, without its line feed.
 pub fn input_line(seed: u64, number: u64) -> Vec<u8> {
+    input_line_at(seed, number, LIMIT_PROGRAM)
+}
+
+/// The same with nests around another nesting limit.
+pub fn input_line_at(seed: u64, number: u64, limit: usize) -> Vec<u8> {
     let mut random = Random::new(seed, number);
     match random.below(40) {
         0 => refused::bad_line(&mut random),
         1..=3 => refused::refused_frame(&mut random).to_line(),
-        4..=6 => extremes::draft(&mut random).to_line(),
+        4..=6 => extremes::draft(&mut random, limit).to_line(),
         7 => any_tokens(&mut random).to_line(),
         _ => operand(&mut random).to_line(),
     }

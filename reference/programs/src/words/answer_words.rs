@@ -19,7 +19,7 @@ pub fn answer_fields(answer: &Answer, line: Option<&[u8]>) -> Vec<Field> {
     };
     match answer {
         Answer::Refused(number) => {
-            let words = format!("refused, {}", names::from_one(&names::REFUSALS, *number));
+            let words = format!("refused, {}", names::refusal(*number));
             fields.add("answer", &[2, *number], words);
         }
         Answer::Reading { cursor, records } => fields.add_reading(*cursor, records),

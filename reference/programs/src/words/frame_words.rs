@@ -71,7 +71,7 @@ fn refusal_words(frame: &Frame) -> Option<String> {
         frame.tokens.as_flattened(),
         frame.start as usize,
     )?;
-    let reason = names::from_one(&names::REFUSALS, refusal.number());
+    let reason = names::refusal(refusal.number());
     let place = match refusal {
         Refusal::ForeignByte => {
             let foreign = |byte: &u8| !(0x20..=0x7e).contains(byte);

@@ -6,7 +6,7 @@ use frames::answer::Answer;
 use frames::frame::{Frame, TokenBytes};
 use frames::lexer::tokens_of;
 use frames::records::{operand_at, NodeRecord, Records};
-use frames::reference::answer_line;
+use frames::reference::{answer_line, answer_line_at};
 use frames::words::tree_words;
 
 /// No mark.
@@ -39,11 +39,26 @@ pub fn read_tokens(line: &str, tokens: &[TokenBytes], start: u8, mark: u8) -> Re
         start,
         mark,
     };
+    read_by(answer_line, &frame)
+}
+
+/// Reads a text as [`read`] does, with a nesting limit.
+pub fn read_at(text: &str, limit: usize) -> Read {
+    let frame = Frame {
+        line: text.as_bytes(),
+        tokens: &tokens_of(text.as_bytes(), false).expect("a text for the lexer"),
+        start: 0,
+        mark: NO_MARK,
+    };
+    read_by(|frame| answer_line_at(frame, limit), &frame)
+}
+
+fn read_by(answer_line: impl Fn(&[u8]) -> Vec<u8>, frame: &Frame) -> Read {
     match Answer::of_line(&answer_line(&frame.to_line())) {
         Ok(Answer::Reading { cursor, records }) => Read {
             cursor,
             records,
-            line: line.to_vec(),
+            line: frame.line.to_vec(),
         },
         other => panic!("no reading: {other:?}"),
     }

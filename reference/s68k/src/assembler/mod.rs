@@ -7,5 +7,5 @@ pub mod source;
 pub mod token;
 pub mod tokenizer;
 
-// `pub mod parser;`, of the copy that build.rs made of `parser.rs` and one line.
-include!(concat!(env!("OUT_DIR"), "/parser_module.rs"));
+// `pub mod parser;` and `pub(crate) mod limited;`, the two copies that build.rs made of `parser.rs`.
+include!(concat!(env!("OUT_DIR"), "/modules.rs"));

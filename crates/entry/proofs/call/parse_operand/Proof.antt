@@ -17,7 +17,7 @@ returns c =
     let c-args = c .before .before .before .before .before .before .args in
     let c-refuse-line-and-list = c .before .refuse-line-and-list in
     let c-if1 = c .if1 in
-    let a : Input = call (c-args .line .now) (c-args .tokens .now) (c-args .start) (c-args .mark) (c-args .nodes .now) (c-args .diagnostics .now) (c-args .used) in line-refused a (c-refuse-line-and-list .ensures) (λ e. omega (arith, c-if1 .taken))
+    let a : Input = call (c-args .line .now) (c-args .tokens .now) (c-args .start) (c-args .mark) (c-args .limit) (c-args .nodes .now) (c-args .diagnostics .now) (c-args .used) in line-refused a (c-refuse-line-and-list .ensures) (λ e. omega (arith, c-if1 .taken))
 
 read-8-requires : tie.Need-read-8-requires
 read-8-requires c κs = search needs

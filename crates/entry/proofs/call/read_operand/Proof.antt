@@ -4,6 +4,7 @@
 use native.Mathlib.Omega.{arith}
 use borrow.Author.Tests.{not-true, not-false}
 use Rattle.operand.specs.Entry.{Input, call}
+use Rattle.operand.specs.Conditions.{valid-limit}
 use Rattle.entry.proofs.call.Refusals.{whole-list, decoded-good, token-refused, store-refused, valid}
 use Rattle.entry.proofs.call.Outcomes.{never-unfit, is-read}
 use borrow.Author.Needs.{needs}
@@ -22,10 +23,10 @@ returns c =
     let c-pre = c .before .before .before .before .before .before .before .before .before .before .before .before .pre in
     let c-decode-tokens = c .before .before .before .decode-tokens in
     let c-if1 = c .if1 in
-    let a : Input = call (c-args .line .now) (c-args .tokens .now) (c-args .start) (c-args .mark) (c-args .nodes .now) (c-args .diagnostics .now) (c-args .used) in token-refused a (c-pre .passed) (decoded-good _ _ _ _ _ _ (c-decode-tokens .ensures) (c-pre .tokens) (not-true _ (c-if1 .taken)))
+    let a : Input = call (c-args .line .now) (c-args .tokens .now) (c-args .start) (c-args .mark) (c-args .limit) (c-args .nodes .now) (c-args .diagnostics .now) (c-args .used) in token-refused a (c-pre .passed) (decoded-good _ _ _ _ _ _ (c-decode-tokens .ensures) (c-pre .tokens) (not-true _ (c-if1 .taken)))
 
-refuse-start-and-stores-requires : tie.Need-refuse-start-and-stores-requires
-refuse-start-and-stores-requires c κs = search needs
+refuse-start-stores-and-limit-requires : tie.Need-refuse-start-stores-and-limit-requires
+refuse-start-stores-and-limit-requires c κs = search needs
 
 same-length-2 : tie.Need-same-length-2
 same-length-2 c = search needs
@@ -36,9 +37,9 @@ returns-2 c =
     let c-pre = c .before .before .before .before .before .before .before .before .before .before .before .before .before .before .pre in
     let c-decode-tokens = c .before .before .before .before .before .decode-tokens in
     let c-if1 = c .before .before .if1 in
-    let c-refuse-start-and-stores = c .before .refuse-start-and-stores in
+    let c-refuse-start-stores-and-limit = c .before .refuse-start-stores-and-limit in
     let c-if2 = c .if2 in
-    let a : Input = call (c-args .line .now) (c-args .tokens .now) (c-args .start) (c-args .mark) (c-args .nodes .now) (c-args .diagnostics .now) (c-args .used) in store-refused a (c-pre .passed) (decoded-good _ _ _ _ _ _ (c-decode-tokens .ensures) (c-pre .tokens) (not-false _ (c-if1 .left))) (c-refuse-start-and-stores .ensures) (λ e. omega (arith, c-if2 .taken))
+    let a : Input = call (c-args .line .now) (c-args .tokens .now) (c-args .start) (c-args .mark) (c-args .limit) (c-args .nodes .now) (c-args .diagnostics .now) (c-args .used) in store-refused a (c-pre .passed) (decoded-good _ _ _ _ _ _ (c-decode-tokens .ensures) (c-pre .tokens) (not-false _ (c-if1 .left))) (c-refuse-start-stores-and-limit .ensures) (λ e. omega (arith, c-if2 .taken))
 
 sub-numbers : tie.Need-sub-numbers
 sub-numbers c = search needs
@@ -51,6 +52,16 @@ part-numbers-end c =
     let c-pre = c .before .before .before .before .before .before .before .before .before .before .before .before .before .before .before .pre in
     let c-decode-tokens = c .before .before .before .before .before .before .decode-tokens in
     omega (arith, whole-list _ _ (c-pre .passed) .0, c-pre .tokens, c-decode-tokens .kept)
+
+cast-depth : tie.Need-cast-depth
+cast-depth c =
+    let c-args = c .before .before .before .before .before .before .before .before .before .before .before .before .before .before .before .before .args in
+    let c-pre = c .before .before .before .before .before .before .before .before .before .before .before .before .before .before .before .before .pre in
+    let c-decode-tokens = c .before .before .before .before .before .before .before .decode-tokens in
+    let c-if1 = c .before .before .before .before .if1 in
+    let c-refuse-start-stores-and-limit = c .before .before .before .refuse-start-stores-and-limit in
+    let c-if2 = c .before .before .if2 in
+    let a : Input = call (c-args .line .now) (c-args .tokens .now) (c-args .start) (c-args .mark) (c-args .limit) (c-args .nodes .now) (c-args .diagnostics .now) (c-args .used) in let v = valid a (c-pre .passed) (decoded-good _ _ _ _ _ _ (c-decode-tokens .ensures) (c-pre .tokens) (not-false _ (c-if1 .left))) (c-refuse-start-stores-and-limit .ensures) (omega (arith, c-if2 .left)) in omega (arith, valid-limit a v)
 
 operand-at-requires : tie.Need-operand-at-requires
 operand-at-requires c κs = search needs
@@ -85,12 +96,12 @@ returns-3 c =
     let c-pre = c .before .before .before .before .before .before .before .before .before .before .before .before .before .before .before .before .before .before .before .before .before .before .before .before .before .before .before .before .before .before .before .before .before .before .before .pre in
     let c-decode-tokens = c .before .before .before .before .before .before .before .before .before .before .before .before .before .before .before .before .before .before .before .before .before .before .before .before .before .before .decode-tokens in
     let c-if1 = c .before .before .before .before .before .before .before .before .before .before .before .before .before .before .before .before .before .before .before .before .before .before .before .if1 in
-    let c-refuse-start-and-stores = c .before .before .before .before .before .before .before .before .before .before .before .before .before .before .before .before .before .before .before .before .before .before .refuse-start-and-stores in
+    let c-refuse-start-stores-and-limit = c .before .before .before .before .before .before .before .before .before .before .before .before .before .before .before .before .before .before .before .before .before .before .refuse-start-stores-and-limit in
     let c-if2 = c .before .before .before .before .before .before .before .before .before .before .before .before .before .before .before .before .before .before .before .before .before .if2 in
     let c-operand-at = c .before .before .before .before .before .before .before .before .before .before .before .before .before .before .before .before .operand-at in
     let c-read = c .before .before .before .before .before .before .before .before .before .before .read in
     let c-answered = c .before .before .before .before .answered in
-    let a : Input = call (c-args .line .now) (c-args .tokens .now) (c-args .start) (c-args .mark) (c-args .nodes .now) (c-args .diagnostics .now) (c-args .used) in let v = valid a (c-pre .passed) (decoded-good _ _ _ _ _ _ (c-decode-tokens .ensures) (c-pre .tokens) (not-false _ (c-if1 .left))) (c-refuse-start-and-stores .ensures) (omega (arith, c-if2 .left)) in is-read a _ _ _ _ _ _ v (c-pre) (c-decode-tokens .ensures .numbers) _ (c-operand-at .ensures) _ (c-read .given .1) _ _ _ (c-answered .ensures)
+    let a : Input = call (c-args .line .now) (c-args .tokens .now) (c-args .start) (c-args .mark) (c-args .limit) (c-args .nodes .now) (c-args .diagnostics .now) (c-args .used) in let v = valid a (c-pre .passed) (decoded-good _ _ _ _ _ _ (c-decode-tokens .ensures) (c-pre .tokens) (not-false _ (c-if1 .left))) (c-refuse-start-stores-and-limit .ensures) (omega (arith, c-if2 .left)) in is-read a _ _ _ _ _ _ v (c-pre) (c-decode-tokens .ensures .numbers) _ (c-operand-at .ensures) _ (c-read .given .1) _ _ _ (c-answered .ensures)
 
 same-length-8 : tie.Need-same-length-8
 same-length-8 c = search needs
@@ -107,11 +118,11 @@ returns-4 c =
     let c-pre = c .before .before .before .before .before .before .before .before .before .before .before .before .before .before .before .before .before .before .before .before .before .before .before .before .before .pre in
     let c-decode-tokens = c .before .before .before .before .before .before .before .before .before .before .before .before .before .before .before .before .decode-tokens in
     let c-if1 = c .before .before .before .before .before .before .before .before .before .before .before .before .before .if1 in
-    let c-refuse-start-and-stores = c .before .before .before .before .before .before .before .before .before .before .before .before .refuse-start-and-stores in
+    let c-refuse-start-stores-and-limit = c .before .before .before .before .before .before .before .before .before .before .before .before .refuse-start-stores-and-limit in
     let c-if2 = c .before .before .before .before .before .before .before .before .before .before .before .if2 in
     let c-operand-at = c .before .before .before .before .before .before .operand-at in
     let c-enum-told = c .enum-told in
-    let a : Input = call (c-args .line .now) (c-args .tokens .now) (c-args .start) (c-args .mark) (c-args .nodes .now) (c-args .diagnostics .now) (c-args .used) in let v = valid a (c-pre .passed) (decoded-good _ _ _ _ _ _ (c-decode-tokens .ensures) (c-pre .tokens) (not-false _ (c-if1 .left))) (c-refuse-start-and-stores .ensures) (omega (arith, c-if2 .left)) in absurd (never-unfit a _ _ _ _ _ _ v (c-pre) (c-decode-tokens .ensures .numbers) _ (c-operand-at .ensures) (c-enum-told .given .1))
+    let a : Input = call (c-args .line .now) (c-args .tokens .now) (c-args .start) (c-args .mark) (c-args .limit) (c-args .nodes .now) (c-args .diagnostics .now) (c-args .used) in let v = valid a (c-pre .passed) (decoded-good _ _ _ _ _ _ (c-decode-tokens .ensures) (c-pre .tokens) (not-false _ (c-if1 .left))) (c-refuse-start-stores-and-limit .ensures) (omega (arith, c-if2 .left)) in absurd (never-unfit a _ _ _ _ _ _ v (c-pre) (c-decode-tokens .ensures .numbers) _ (c-operand-at .ensures) (c-enum-told .given .1))
 
 pub read-operand-spec : {M : Type 1} → statement M
 read-operand-spec =
@@ -120,12 +131,13 @@ read-operand-spec =
     decode-tokens-requires
     same-length
     returns
-    refuse-start-and-stores-requires
+    refuse-start-stores-and-limit-requires
     same-length-2
     returns-2
     sub-numbers
     part-numbers-start
     part-numbers-end
+    cast-depth
     operand-at-requires
     enum-known-read
     answered-requires
