@@ -4,7 +4,7 @@ use mathlib.Core.Path.{_≡_, refl, sym, _∙_, ap}
 use mathlib.Core.List.{List}
 use Prim.Native.Nat.{ℕ, zero, suc}
 use lib.ListN.{length, replicate, length-replicate}
-use Rattle.operand.specs.Entry.{nodeStore, conditions, refusal}
+use Rattle.operand.specs.Entry.{nodeStore, refusals, refusal}
 use Rattle.frames.specs.Frame.{diagnosticBytes, lent, inputOf}
 use Rattle.frames.specs.Reply.{bytesAt, inputBytes}
 
@@ -17,7 +17,7 @@ unfolding diagnosticBytes
 diagnostic-zeros = length-replicate {A = ℕ} 5110 0
 
 refusal-lent : (B N D : List ℕ) → length N ≡ 3570 → length D ≡ 5110 → refusal (lent B N D) ≡ refusal (inputOf B)
-unfolding refusal conditions inputOf
+unfolding refusal refusals inputOf
 refusal-lent B N D n d = rw (n ∙ sym node-zeros, d ∙ sym diagnostic-zeros)
 
 pub lent-same : (B N D : List ℕ) → length N ≡ 3570 → length D ≡ 5110 → inputBytes (lent B N D) ≡ inputBytes (inputOf B)

@@ -55,6 +55,11 @@ pub data Refuses (n : ℕ) : Type 0 where
   early : (1 ≤ n) × (n ≤ RefusalNumbers.shortDiagnostics) → Refuses n
   late : n ≡ RefusalNumbers.badLimit → Refuses n
 
+-- so it is neither 0 nor above 18
+pub refuses-bounds : {n : ℕ} → Refuses n → (1 ≤ n) × (n ≤ RefusalNumbers.badLimit)
+refuses-bounds (early h) = omega (arith, h)
+refuses-bounds (late e) = omega (arith, e)
+
 numbered : (a : Input) → Each Refuses (refusals a)
 unfolding refusals lineAndList startStoresAndLimit
 numbered a =
@@ -73,11 +78,7 @@ AllFalse (r ∷ rs) = (r .1 ≡ false) × AllFalse rs
 none-holds : (rs : List Refusal) → Each Refuses rs → firstOf rs ≡ 0 → AllFalse rs
 unfolding firstOf
 none-holds [] e h = tt
-none-holds ((n, true) ∷ rs) e h = absurd (go (e .0))
-  where
-    go : Refuses n → ⊥
-    go (early l) = omega arith
-    go (late q) = omega arith
+none-holds ((n, true) ∷ rs) e h = absurd (omega (arith, refuses-bounds (e .0)))
 none-holds ((n, false) ∷ rs) e h = (refl, none-holds rs (e .1) h)
 
 module _ (a : Input) (v : Valid a) where

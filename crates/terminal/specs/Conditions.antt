@@ -28,7 +28,7 @@ use Rattle.operand.specs.Settings.{withSetting}
 use Rattle.operand.specs.Marks.{remarked, MarksAgree, MarksPast, marks-agree, outcome-same}
 use Rattle.operand.specs.Limits as L
 use Rattle.operand.specs.Limits.{limited, Higher, NoneTooDeep}
-use Rattle.operand.specs.Conditions.{Valid, Refuses, valid-limit, records-enough, AlikeThrough, alike-before, recordAt, SameButPlus}
+use Rattle.operand.specs.Conditions.{Valid, Refuses, refuses-bounds, valid-limit, records-enough, AlikeThrough, alike-before, recordAt, SameButPlus}
 use Rattle.layout.specs.Promise.{given, resultOf, resultAt, given-result, EntryPromise}
 use Rattle.layout.specs.Answers as Answers
 use Rattle.layout.specs.declared.answer.Answer.{Answer}
@@ -238,7 +238,7 @@ module _ (a : Input) (O : List ℕ) (v : Valid a) (room : answerBytes ≤ length
           let c : cursorIn O′ ≡ x .cursor = there .cursor ∙ ap Answers.cursorOf e in
           spelt c (Spellings.answered-is-spelled a N′ D′ r promise v x e (sym (there .added ∙ ap Answers.diagnosticsAdded e) ∙ d) (rw c at u))
       go (Answer.NoOperand x) e t = absurd (omega (arith, there .kind ∙ ap Answers.gapOf e))
-      go (Answer.Refused n) e (Answers.Total.refused _ f known x y) = absurd (omega (arith, f, v, number-bounds known))
+      go (Answer.Refused n) e (Answers.Total.refused _ f known x y) = absurd (omega (arith, f, v, refuses-bounds known))
 
 -- ---- every call
 
@@ -249,11 +249,6 @@ pub data Total (a : Input) (O : List ℕ) (x : Exported) : Type 0 where
   noOperand : Valid a → answerBytes ≤ length O → x .number ≡ 0 → kindIn (x .out) ≡ noOperandNumber → Total a O x
   refused : answerBytes ≤ length O → x .number ≡ refusal a → Refuses (x .number) → x ≡ told (x .number) (a .nodes) (a .diagnostics) O → Total a O x
   short : length O < answerBytes → x .number ≡ shortAnswer → x ≡ told (x .number) (a .nodes) (a .diagnostics) O → Total a O x
-
--- such a number is neither 0 nor the library's own
-number-bounds : {n : ℕ} → Refuses n → (1 ≤ n) × (n < shortAnswer)
-number-bounds (Refuses.early h) = omega (arith, h)
-number-bounds (Refuses.late e) = omega (arith, e)
 
 pub total : (a : Input) (O : List ℕ) → Total a O (exported a O)
 unfolding resultAt
@@ -266,7 +261,7 @@ total a O = go (ltb (length O) answerBytes) refl
         noOperand v room (number-roomy a O room ∙ v) (there a O v room .kind ∙ ap (λ k. Answers.gapOf (resultAt a k)) (sym v) ∙ ap Answers.gapOf e)
     roomy room (Answer.Refused n) e (Answers.Total.refused _ f known x y) =
         let m = number-roomy a O room in
-        refused room m (rw (m, ← f) known) (stays a O (omega (arith, m, f, number-bounds known)))
+        refused room m (rw (m, ← f) known) (stays a O (omega (arith, m, f, refuses-bounds known)))
 
     go : (b : Bool) → ltb (length O) answerBytes ≡ b → Total a O (exported a O)
     go true e = let less = ltb-true (length O) answerBytes e in let n = number-short a O less in short less n (stays a O (omega arith))
@@ -281,7 +276,7 @@ read-valid a O = go (total a O)
     go : {x : Exported} → Total a O x → x .number ≡ 0 → Valid a × (answerBytes ≤ length O)
     go (Total.operand v room n k) e = (v, room)
     go (Total.noOperand v room n k) e = (v, room)
-    go (Total.refused room n known h) e = absurd (omega (arith, number-bounds known))
+    go (Total.refused room n known h) e = absurd (omega (arith, refuses-bounds known))
     go (Total.short less n h) e = absurd (omega arith)
 
 -- and one that is returned the library's own number lent no room
@@ -291,7 +286,7 @@ short-only a O = go (total a O)
     go : {x : Exported} → Total a O x → x .number ≡ shortAnswer → length O < answerBytes
     go (Total.operand v room n k) e = absurd (omega arith)
     go (Total.noOperand v room n k) e = absurd (omega arith)
-    go (Total.refused room n known h) e = absurd (omega (arith, number-bounds known))
+    go (Total.refused room n known h) e = absurd (omega (arith, refuses-bounds known))
     go (Total.short less n h) e = less
 
 -- ---- condition 3

@@ -15,7 +15,7 @@ use Rattle.operand.specs.Forms.{recordOf}
 use Rattle.operand.specs.Layout.{nodesLaid, diagnosticsLaid, bytesOf, answerLine}
 use Rattle.operand.specs.Entry.{Input, refusal, readingAt}
 use Rattle.layout.specs.Promise.{resultOf, resultAt, EntryPromise}
-use Rattle.operand.specs.Conditions.{Valid}
+use Rattle.operand.specs.Conditions.{Valid, refuses-bounds}
 use Rattle.layout.specs.Answers as Answers
 use Rattle.layout.specs.Answers.{Total, operand-valid, missed-valid, cursor-small}
 use Rattle.layout.specs.declared.answer.Answer.{Answer}
@@ -29,7 +29,7 @@ use Rattle.frames.specs.Inner.{Put, foundBytes, FoundAsks, missedBytes, 
 -- ---- of a call that keeps the entry's promise
 
 refused-by : {a : Input} {N D : List ℕ} {k : ℕ} → Total a N D (Answer.Refused k) → (k ≡ refusal a) × (1 ≤ k)
-refused-by (Answers.Total.refused n e low high f g) = (e, low)
+refused-by (Answers.Total.refused n e known f g) = (e, refuses-bounds known .0)
 
 -- the two bytes of a count
 low-first : (n : ℕ) → n ≤ 511 → n % 256 ∷ n / 256 ∷ [] ≡ lowFirst 2 n

@@ -12,7 +12,7 @@ returns : tie.Need-returns
 returns c =
     let c-args = c .before .before .before .before .before .before .args in
     let c-if1 = c .if1 in
-    let a : Input = call (c-args .line .now) (c-args .tokens .now) (c-args .start) (c-args .mark) (c-args .nodes .now) (c-args .diagnostics .now) (c-args .used) in short a _ (omega (arith, c-if1 .taken))
+    let a : Input = call (c-args .line .now) (c-args .tokens .now) (c-args .start) (c-args .mark) (c-args .limit) (c-args .nodes .now) (c-args .diagnostics .now) (c-args .used) in short a _ (omega (arith, c-if1 .taken))
 
 parse-operand-requires : tie.Need-parse-operand-requires
 parse-operand-requires c κs = search needs
@@ -26,7 +26,7 @@ put-found-requires c κs =
     let c-r = c .before .before .r in
     let c-parse-operand = c .before .before .before .before .before .before .before .before .parse-operand in
     let c-if1 = c .before .before .before .before .before .before .before .before .before .before .before .if1 in
-    let a : Input = call (c-args .line .now) (c-args .tokens .now) (c-args .start) (c-args .mark) (c-args .nodes .now) (c-args .diagnostics .now) (c-args .used) in found-asks a _ _ _ _ (rw (c-r .given .1) at (c-parse-operand .ensures)) (omega (arith, c-if1 .left))
+    let a : Input = call (c-args .line .now) (c-args .tokens .now) (c-args .start) (c-args .mark) (c-args .limit) (c-args .nodes .now) (c-args .diagnostics .now) (c-args .used) in found-asks a _ _ _ _ (rw (c-r .given .1) at (c-parse-operand .ensures)) (omega (arith, c-if1 .left))
 
 enum-known-r-2 : tie.Need-enum-known-r-2
 enum-known-r-2 c = search needs
@@ -37,7 +37,7 @@ put-missed-requires c κs =
     let c-r2 = c .before .before .r2 in
     let c-parse-operand = c .before .before .before .before .before .before .before .before .parse-operand in
     let c-if1 = c .before .before .before .before .before .before .before .before .before .before .before .if1 in
-    let a : Input = call (c-args .line .now) (c-args .tokens .now) (c-args .start) (c-args .mark) (c-args .nodes .now) (c-args .diagnostics .now) (c-args .used) in missed-asks a _ _ _ _ (rw (c-r2 .given .1) at (c-parse-operand .ensures)) (omega (arith, c-if1 .left))
+    let a : Input = call (c-args .line .now) (c-args .tokens .now) (c-args .start) (c-args .mark) (c-args .limit) (c-args .nodes .now) (c-args .diagnostics .now) (c-args .used) in missed-asks a _ _ _ _ (rw (c-r2 .given .1) at (c-parse-operand .ensures)) (omega (arith, c-if1 .left))
 
 enum-known-r-3 : tie.Need-enum-known-r-3
 enum-known-r-3 c = search needs
@@ -58,7 +58,7 @@ returns-2 c =
     let c-parse-operand = c .before .before .before .before .before .before .before .before .before .before .before .parse-operand in
     let c-if1 = c .before .before .before .before .before .before .before .before .before .before .before .before .before .before .if1 in
     let c-put-found = c .before .before .put-found in
-    let a : Input = call (c-args .line .now) (c-args .tokens .now) (c-args .start) (c-args .mark) (c-args .nodes .now) (c-args .diagnostics .now) (c-args .used) in whole a _ _ _ _ _ _ (rw (c-r .given .1) at (c-parse-operand .ensures)) (omega (arith, c-if1 .left)) (c-put-found .ensures)
+    let a : Input = call (c-args .line .now) (c-args .tokens .now) (c-args .start) (c-args .mark) (c-args .limit) (c-args .nodes .now) (c-args .diagnostics .now) (c-args .used) in whole a _ _ _ _ _ _ (rw (c-r .given .1) at (c-parse-operand .ensures)) (omega (arith, c-if1 .left)) (c-put-found .ensures)
 
 same-length-4 : tie.Need-same-length-4
 same-length-4 c = search needs
@@ -76,7 +76,7 @@ returns-3 c =
     let c-parse-operand = c .before .before .before .before .before .before .before .before .before .before .before .parse-operand in
     let c-if1 = c .before .before .before .before .before .before .before .before .before .before .before .before .before .before .if1 in
     let c-put-missed = c .before .before .put-missed in
-    let a : Input = call (c-args .line .now) (c-args .tokens .now) (c-args .start) (c-args .mark) (c-args .nodes .now) (c-args .diagnostics .now) (c-args .used) in whole a _ _ _ _ _ _ (rw (c-r2 .given .1) at (c-parse-operand .ensures)) (omega (arith, c-if1 .left)) (c-put-missed .ensures)
+    let a : Input = call (c-args .line .now) (c-args .tokens .now) (c-args .start) (c-args .mark) (c-args .limit) (c-args .nodes .now) (c-args .diagnostics .now) (c-args .used) in whole a _ _ _ _ _ _ (rw (c-r2 .given .1) at (c-parse-operand .ensures)) (omega (arith, c-if1 .left)) (c-put-missed .ensures)
 
 same-length-7 : tie.Need-same-length-7
 same-length-7 c = search needs
@@ -90,7 +90,7 @@ returns-4 c =
     let c-r3 = c .before .r3 in
     let c-parse-operand = c .before .before .before .before .before .before .before .parse-operand in
     let c-if1 = c .before .before .before .before .before .before .before .before .before .before .if1 in
-    let a : Input = call (c-args .line .now) (c-args .tokens .now) (c-args .start) (c-args .mark) (c-args .nodes .now) (c-args .diagnostics .now) (c-args .used) in whole a _ _ _ _ _ _ (rw (c-r3 .given .1) at (c-parse-operand .ensures)) (omega (arith, c-if1 .left)) (refused-put _ _)
+    let a : Input = call (c-args .line .now) (c-args .tokens .now) (c-args .start) (c-args .mark) (c-args .limit) (c-args .nodes .now) (c-args .diagnostics .now) (c-args .used) in whole a _ _ _ _ _ _ (rw (c-r3 .given .1) at (c-parse-operand .ensures)) (omega (arith, c-if1 .left)) (refused-put _ _)
 
 pub sagdrif-parse-operand-spec : {M : Type 1} → statement M
 sagdrif-parse-operand-spec =
