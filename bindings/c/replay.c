@@ -8,7 +8,7 @@
 #include <stdlib.h>
 #include <string.h>
 
-#define LONGEST 2560
+#define LONGEST 2558                    /* digits of the longest frame */
 
 static uint8_t *block(size_t length) {
     uint8_t *bytes = malloc(length ? length : 1);
@@ -119,22 +119,32 @@ static int arbitrary(void) {
     return well ? number : -1;
 }
 
+/* Reads a line of any bytes and keeps as many as a frame can have. Returns its length, or -1 at the end. */
+static long read_line(char *text) {
+    long length = 0;
+    int c = getchar();
+    if (c == EOF) {
+        return -1;
+    }
+    for (; c != EOF && c != '\n'; c = getchar()) {
+        if (length < LONGEST) {
+            text[length] = (char)c;
+        }
+        length++;
+    }
+    return length;
+}
+
 int main(int count, char **words) {
-    static char text[2 * LONGEST];
-    static uint8_t frame[LONGEST];
+    static char text[LONGEST];
+    static uint8_t frame[LONGEST / 2];
     size_t limit = SAGDRIF_LIMIT_PROGRAM;
     if (count > 2 && !strcmp(words[1], "--limit")) {
         limit = (size_t)strtoull(words[2], NULL, 10);
         count -= 2, words += 2;
     }
-    while (fgets(text, sizeof text, stdin)) {
-        size_t length = strcspn(text, "\n");
-        if (length + 1 == sizeof text) {
-            int c;
-            while ((c = getchar()) != EOF && c != '\n') {
-            }
-        }
-        long bytes = length > 2558 ? -1 : decode(text, length, frame);
+    for (long length; (length = read_line(text)) >= 0;) {
+        long bytes = length > LONGEST ? -1 : decode(text, (size_t)length, frame);
         if (bytes < 0) {
             printf("0208\n");
         } else {

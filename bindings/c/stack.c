@@ -13,7 +13,7 @@ static _Alignas(64) uint8_t stack[SAGDRIF_STACK_BYTES + 262144];
 static uint8_t nodes[SAGDRIF_NODES_BYTES], diagnostics[SAGDRIF_DIAGNOSTIC * SAGDRIF_DIAGNOSTICS_FREE], answer[SAGDRIF_ANSWER_BYTES];
 static uint8_t tokens[SAGDRIF_TOKEN * SAGDRIF_TOKENS_MOST];
 static char line[SAGDRIF_LINE_MOST + 1], deepest_line[SAGDRIF_LINE_MOST + 1];
-static size_t limit, deepest, deepest_limit, tried;
+static size_t limit, most_at_limit, deepest, deepest_limit, tried;
 
 /* Adds a text to the line as often as it fits, `count` times at most. */
 static void add(const char *text, size_t count) {
@@ -64,6 +64,7 @@ static __attribute__((noinline)) size_t painted(uint8_t colour) {
 static size_t measured(void) {
     size_t first = painted(0xA5), second = painted(0x5A), bytes = first > second ? first : second;
     tried++;
+    most_at_limit = bytes > most_at_limit ? bytes : most_at_limit;
     if (bytes > deepest) {
         deepest = bytes, deepest_limit = limit;
         strcpy(deepest_line, line);
@@ -110,7 +111,7 @@ static int piled(size_t k) {
 }
 
 static void all_at(size_t terms) {
-    limit = terms;
+    limit = terms, most_at_limit = 0;
     printf("nesting limit %zu\n", limit);
     repeated("d0", "d0", 1, "");
     repeated("4(a0)", "4(a0)", 1, "");
@@ -125,6 +126,7 @@ static void all_at(size_t terms) {
         measured();
     }
     line[0] = 0;
+    printf("%-28s %7zu\n", "any line tried, at most", most_at_limit);
 }
 
 static void *all(void *nothing) {
