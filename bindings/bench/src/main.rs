@@ -1,173 +1,163 @@
-//! The proved reader beside the Rust's `parse_operand`, in one process on the same operands.
+//! The proved reader in both layouts beside the Rust's `parse_operand`, in one process on the same operands.
 //!
 //!     bench FILE          an operand a line, as bindings/corpus/operands.txt
 //!     bench FILE COUNT    the proved reader alone, so many times over the file, for a profiler
+//!     bench FILE COUNT wide    in the wide layout
 //!     bench FILE COUNT rust    the Rust alone
 //!
 //! Tokens and parsers are made before the clock runs. Each time is the least of many rounds, the
 //! readers taking turns.
 
 mod case;
+mod readers;
 
 use case::{same_answer, Case, Stores};
-use frames::records::Records;
-use s68k::assembler::ast::Operand;
-use s68k::assembler::parser::driver::{read_operand, Prepared};
-use std::hint::black_box;
+use readers::Readers;
+use sagdrif::Layout::{self, Narrow, Wide};
 use std::time::Instant;
 
 const ROUNDS: usize = 300;
 
-/// Nanoseconds a reading, of each way of reading.
+/// Nanoseconds a reading, of each way of reading (`Readers`). What was not timed stays infinite.
 #[derive(Clone, Copy)]
 struct Times {
-    /// The proved reader's whole call.
-    proved: f64,
-    /// Its checks alone: a call that the seventh refusal ends.
-    checks: f64,
-    /// Its checks, the clearing of the node store and the answer: a call whose start is the end.
-    cleared: f64,
-    /// `parse_operand` of the Rust, its operand dropped in time.
+    narrow: Proved,
+    wide: Proved,
     rust: f64,
-    /// The same with the operands kept until the clock has stopped.
     kept: f64,
-    /// The operand dropped in time, and the parser made and dropped for each reading.
     made: f64,
-    /// What the proved call does: the checks, the reading, and the records of docs/FORMAT.md, by the reference's programs.
     whole: f64,
 }
 
+/// Those of the proved reader in a layout.
+#[derive(Clone, Copy)]
+struct Proved {
+    call: f64,
+    checks: f64,
+    cleared: f64,
+}
+
+const NEVER: f64 = f64::INFINITY;
+
+const NONE: Proved = Proved {
+    call: NEVER,
+    checks: NEVER,
+    cleared: NEVER,
+};
+
 impl Times {
     const NONE: Times = Times {
-        proved: f64::MAX,
-        checks: f64::MAX,
-        cleared: f64::MAX,
-        rust: f64::MAX,
-        kept: f64::MAX,
-        made: f64::MAX,
-        whole: f64::MAX,
+        narrow: NONE,
+        wide: NONE,
+        rust: NEVER,
+        kept: NEVER,
+        made: NEVER,
+        whole: NEVER,
     };
 }
 
-fn timed(least: &mut f64, readings: usize, work: impl FnOnce()) {
-    let begun = Instant::now();
-    work();
-    let each = begun.elapsed().as_nanos() as f64 / readings as f64;
-    *least = least.min(each);
+/// The clock of one measurement: how often a pass is repeated, and how many readings that makes.
+struct Clock {
+    repeats: usize,
+    readings: usize,
+}
+
+impl Clock {
+    #[inline(always)]
+    fn time(&self, least: &mut f64, mut pass: impl FnMut()) {
+        let begun = Instant::now();
+        for _ in 0..self.repeats {
+            pass();
+        }
+        let each = begun.elapsed().as_nanos() as f64 / self.readings as f64;
+        *least = least.min(each);
+    }
+
+    #[inline(always)]
+    fn proved(&self, least: &mut Proved, readers: &mut Readers, layout: Layout) {
+        self.time(&mut least.call, || readers.proved(layout));
+        self.time(&mut least.checks, || readers.checks(layout));
+        self.time(&mut least.cleared, || readers.cleared(layout));
+    }
 }
 
 fn measured(cases: &[Case], repeats: usize) -> Times {
-    let mut stores = Stores::new();
-    let mut parsers: Vec<Prepared> = cases
-        .iter()
-        .map(|case| Prepared::new(&case.text, case.rust_tokens(), 0, None))
-        .collect();
-    let mut lists: Vec<_> = cases.iter().map(|case| case.rust_tokens()).collect();
-    let mut records = Records::default();
-    let readings = cases.len() * repeats;
-    let mut operands: Vec<Option<Operand>> = Vec::with_capacity(readings);
+    let clock = Clock {
+        repeats,
+        readings: cases.len() * repeats,
+    };
+    let narrow = cases.iter().all(|case| case.fits(Narrow));
+    let mut readers = Readers::new(cases, repeats);
     let mut least = Times::NONE;
     for _ in 0..ROUNDS {
-        timed(&mut least.proved, readings, || {
-            for _ in 0..repeats {
-                for case in cases {
-                    let _ = black_box(stores.read(black_box(case), 0));
-                }
-            }
-        });
-        timed(&mut least.checks, readings, || {
-            for _ in 0..repeats {
-                for case in cases {
-                    let _ = black_box(stores.check(black_box(case)));
-                }
-            }
-        });
-        timed(&mut least.cleared, readings, || {
-            for _ in 0..repeats {
-                for case in cases {
-                    let _ = black_box(stores.read(black_box(case), case.tokens.len()));
-                }
-            }
-        });
-        timed(&mut least.rust, readings, || {
-            for _ in 0..repeats {
-                for parser in &mut parsers {
-                    black_box(parser.read());
-                }
-            }
-        });
-        parsers.iter_mut().for_each(Prepared::forget_diagnostics);
-        timed(&mut least.kept, readings, || {
-            for _ in 0..repeats {
-                for parser in &mut parsers {
-                    operands.push(parser.read());
-                }
-            }
-        });
-        operands.clear();
-        parsers.iter_mut().for_each(Prepared::forget_diagnostics);
-        timed(&mut least.made, readings, || {
-            for _ in 0..repeats {
-                for (case, tokens) in cases.iter().zip(&mut lists) {
-                    let reading = read_operand(&case.text, std::mem::take(tokens), 0, None);
-                    black_box(&reading.operand);
-                    *tokens = reading.tokens;
-                }
-            }
-        });
-        timed(&mut least.whole, readings, || {
-            for _ in 0..repeats {
-                for (case, tokens) in cases.iter().zip(&mut lists) {
-                    case.read_whole(tokens, &mut records);
-                    black_box(&records);
-                }
-            }
-        });
+        if narrow {
+            clock.proved(&mut least.narrow, &mut readers, Narrow);
+        }
+        clock.proved(&mut least.wide, &mut readers, Wide);
+        clock.time(&mut least.rust, || readers.rust());
+        readers.forget();
+        clock.time(&mut least.kept, || readers.kept());
+        readers.forget();
+        clock.time(&mut least.made, || readers.made());
+        clock.time(&mut least.whole, || readers.whole());
     }
     least
 }
 
+fn must_answer_alike(layout: Layout, cases: &[Case]) {
+    let mut stores = Stores::new(layout);
+    for case in cases.iter().filter(|case| case.fits(layout)) {
+        let alike = same_answer(layout, case, &mut stores);
+        assert!(alike, "{layout:?}: `{}` is answered otherwise", case.text);
+    }
+}
+
+/// A cell of the table. What follows from an infinite time, which is infinite, none or 0, was not timed.
+fn cell(number: f64, digits: usize) -> String {
+    if number.is_finite() && number != 0.0 {
+        format!("{number:>10.digits$}")
+    } else {
+        format!("{:>10}", "-")
+    }
+}
+
 fn show(name: &str, cases: &[Case], repeats: usize) {
-    let mut stores = Stores::new();
-    for case in cases {
-        assert!(
-            same_answer(case, &mut stores),
-            "`{}` is answered otherwise",
-            case.text
-        );
+    for layout in Layout::ALL {
+        must_answer_alike(layout, cases);
     }
     let t = measured(cases, repeats);
-    let second = |nanoseconds: f64| 1e9 / nanoseconds;
-    println!(
-        "{name:<26} {:>9.1} {:>9.1} {:>10.0} {:>10.0} {:>6.2} {:>9.1} {:>9.1} {:>9.1} {:>9.1} {:>9.1}",
-        t.proved,
-        t.rust,
-        second(t.proved),
-        second(t.rust),
-        t.rust / t.proved,
-        t.checks,
-        t.cleared - t.checks,
-        t.kept,
-        t.made,
-        t.whole
-    );
+    let proved = [t.narrow, t.wide];
+    let calls = [t.narrow.call, t.wide.call, t.rust];
+    let times = calls.map(|time| cell(time, 1));
+    let rates = calls.map(|time| cell(1e9 / time, 0));
+    let ratios = proved.map(|proved| cell(t.rust / proved.call, 2));
+    let checks = proved.map(|proved| cell(proved.checks, 1));
+    let clearings = proved.map(|proved| cell(proved.cleared - proved.checks, 1));
+    let others = [t.kept, t.made, t.whole].map(|time| cell(time, 1));
+    let line = [&times[..], &rates, &ratios, &checks, &clearings, &others];
+    println!("{name:<26}{}", line.concat().concat());
 }
 
 fn head() {
-    println!(
-        "{:<26} {:>9} {:>9} {:>10} {:>10} {:>6} {:>9} {:>9} {:>9} {:>9} {:>9}",
-        "",
-        "proved ns",
+    let columns = [
+        "narrow ns",
+        "wide ns",
         "Rust ns",
-        "proved/s",
+        "narrow/s",
+        "wide/s",
         "Rust/s",
-        "ratio",
-        "checks ns",
-        "clear ns",
+        "R/narrow",
+        "R/wide",
+        "n.checks",
+        "w.checks",
+        "n.clear",
+        "w.clear",
         "kept ns",
         "+new ns",
-        "whole ns"
-    );
+        "whole ns",
+    ];
+    let line: String = columns.iter().map(|name| format!("{name:>10}")).collect();
+    println!("{:<26}{line}", "");
 }
 
 fn sum(terms: usize) -> String {
@@ -175,34 +165,21 @@ fn sum(terms: usize) -> String {
 }
 
 /// One reader alone, for a profiler.
-fn profiled<'a>(cases: &'a [Case], count: usize, rust: bool) {
-    let mut stores = Stores::new();
-    let prepared = |case: &'a Case| Prepared::new(&case.text, case.rust_tokens(), 0, None);
-    let mut parsers: Vec<Prepared> = cases.iter().map(prepared).collect();
+fn profiled(cases: &[Case], count: usize, reader: Option<&str>) {
+    let mut readers = Readers::new(cases, 0);
     for _ in 0..count {
-        if rust {
-            parsers
-                .iter_mut()
-                .for_each(|parser| drop(black_box(parser.read())));
-        } else {
-            for case in cases {
-                let _ = black_box(stores.read(black_box(case), 0));
-            }
+        match reader {
+            None => readers.proved(Narrow),
+            Some("wide") => readers.proved(Wide),
+            Some(_) => readers.rust(),
         }
     }
 }
 
-fn main() {
-    let path = std::env::args().nth(1).expect("a file of operands");
-    let text = std::fs::read_to_string(path).expect("a file of operands");
-    let corpus: Vec<Case> = text.lines().map(Case::new).collect();
+fn show_corpus(corpus: &[Case]) {
     let bytes: usize = corpus.iter().map(|case| case.text.len()).sum();
     let tokens: usize = corpus.iter().map(|case| case.tokens.len()).sum();
     let each = |total: usize| total as f64 / corpus.len() as f64;
-    if let Some(count) = std::env::args().nth(2) {
-        let rust = std::env::args().nth(3).is_some();
-        return profiled(&corpus, count.parse().expect("a count"), rust);
-    }
     println!(
         "{} operands, {:.1} bytes and {:.1} tokens each",
         corpus.len(),
@@ -210,7 +187,11 @@ fn main() {
         each(tokens)
     );
     head();
-    show("corpus", &corpus, 1);
+    show("corpus", corpus, 1);
+}
+
+/// Small operands, and such as take long.
+fn show_single() {
     for text in [
         "d0",
         "(a0)+",
@@ -223,12 +204,10 @@ fn main() {
     ] {
         show(text, &[Case::new(text)], 200);
     }
+    let nested = format!("{}1{}", "(".repeat(63), ")".repeat(63));
     let worst = [
         ("128 terms, 255 tokens", sum(128)),
-        (
-            "63 groups in each other",
-            format!("{}1{}", "(".repeat(63), ")".repeat(63)),
-        ),
+        ("63 groups in each other", nested),
         ("64 terms open, too deep", format!("{}1", "-".repeat(64))),
         ("63 minus signs", format!("{}1", "-".repeat(63))),
         ("list of 85 registers", vec!["d0"; 85].join("/")),
@@ -238,13 +217,24 @@ fn main() {
     for (name, text) in worst {
         show(name, &[Case::new(&text)], 200);
     }
+    show("512 terms, 1,023 tokens", &[Case::new(&sum(512))], 50);
+}
+
+fn main() {
+    let words: Vec<String> = std::env::args().skip(1).collect();
+    let path = words.first().expect("a file of operands");
+    let text = std::fs::read_to_string(path).expect("a file of operands");
+    let corpus: Vec<Case> = text.lines().map(Case::new).collect();
+    if let Some(count) = words.get(1) {
+        let count = count.parse().expect("a count");
+        return profiled(&corpus, count, words.get(2).map(String::as_str));
+    }
+    show_corpus(&corpus);
+    show_single();
     println!();
     head();
     for terms in [1, 2, 4, 8, 16, 32, 48, 64, 80, 96, 112, 127] {
-        show(
-            &format!("sum of {terms} terms"),
-            &[Case::new(&sum(terms))],
-            200,
-        );
+        let name = format!("sum of {terms} terms");
+        show(&name, &[Case::new(&sum(terms))], 200);
     }
 }

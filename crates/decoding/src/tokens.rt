@@ -1,15 +1,18 @@
-// The tokens of a call: checked, and decoded from four bytes each into four numbers.
+// The tokens of a call: checked, and decoded into four numbers each.
 use names::Token;
 use names::kinds;
+use operand::Layout;
+use operand::layouts::token_count;
 ghost use mathlib.Core.Path.{_≡_};
 ghost use mathlib.Core.List.{[], _∷_};
-ghost use Prim.Native.Nat.{_+_, _-_, _*_, _≤_, _<_};
+ghost use Prim.Native.Nat.{_+_, _-_, _*_, _/_, _≤_, _<_};
 ghost use lib.ListN.{length};
 ghost use Rattle.names.specs.Choice.{both};
 ghost use Rattle.names.specs.Kinds;
 ghost use Rattle.names.specs.Letters.{same};
-ghost use Rattle.names.specs.Tokens.{count, tokenFrom};
+ghost use Rattle.names.specs.Tokens.{tokenFrom};
 ghost use Rattle.records.specs.Stores.{written};
+ghost use Rattle.operand.specs.Layouts.{tokenSize, joined, joinedTokens, tokenNumbers};
 ghost use Rattle.operand.specs.Entry.{signs, spelledAs, prefixed, wellSpelled, goodToken};
 ghost use Rattle.decoding.specs.Tokens.{Decoded};
 
@@ -121,9 +124,16 @@ fn both(a: bool, b: bool) -> bool
     false
 }
 
-// The i-th token of the list.
-fn token_from(tokens: &[u8], i: usize) -> Token
-    requires { ⌜ i < count (now tokens) ⌝ }
+// The number of two bytes.
+fn joined(low: u8, high: u8) -> u16
+    ensures { λ r. ⌜ r ≡ joined low high ⌝ }
+{
+    low as u16 + 256 * (high as u16)
+}
+
+// The i-th token of a narrow list.
+fn narrow_token(tokens: &[u8], i: usize) -> Token
+    requires { ⌜ i < length (now tokens) / 4 ⌝ }
     ensures { λ r. ⌜ r ≡ tokenFrom (now (tokens .entry)) i ⌝ }
 {
     let at = 4 * i;
@@ -136,6 +146,35 @@ fn token_from(tokens: &[u8], i: usize) -> Token
         detail: detail,
         start: start,
         end: end,
+    }
+}
+
+// The i-th token of a wide list.
+fn wide_token(tokens: &[u8], i: usize) -> Token
+    requires { ⌜ i < length (now tokens) / 6 ⌝ }
+    ensures { λ r. ⌜ r ≡ tokenFrom (joinedTokens (now (tokens .entry))) i ⌝ }
+{
+    let at = 6 * i;
+    let kind = tokens[at] as u16;
+    let detail = tokens[at + 1] as u16;
+    let start = joined(tokens[at + 2], tokens[at + 3]);
+    let end = joined(tokens[at + 4], tokens[at + 5]);
+    Token {
+        kind: kind,
+        detail: detail,
+        start: start,
+        end: end,
+    }
+}
+
+// The i-th token of the list.
+fn token_from(layout: Layout, tokens: &[u8], i: usize) -> Token
+    requires { ⌜ i < length (now tokens) / tokenSize layout ⌝ }
+    ensures { λ r. ⌜ r ≡ tokenFrom (tokenNumbers layout (now (tokens .entry))) i ⌝ }
+{
+    match layout {
+        Layout::Narrow => narrow_token(tokens, i),
+        Layout::Wide => wide_token(tokens, i),
     }
 }
 
@@ -152,10 +191,10 @@ fn put_token(numbers: &mut [u16], i: usize, token: Token)
 }
 
 // Whether each token is good, the first one behind the line's start, and all fit; their numbers stand at the front of `numbers`.
-pub fn decode_tokens(line: &[u8], tokens: &[u8], numbers: &mut [u16]) -> bool
-    ensures { λ r. ⌜ Decoded (now (line .entry)) (now (tokens .entry)) (now (numbers .entry)) (now (numbers .exit)) r ⌝ }
+pub fn decode_tokens(layout: Layout, line: &[u8], tokens: &[u8], numbers: &mut [u16]) -> bool
+    ensures { λ r. ⌜ Decoded layout (now (line .entry)) (now (tokens .entry)) (now (numbers .entry)) (now (numbers .exit)) r ⌝ }
 {
-    let n = tokens.len() / 4;
+    let n = token_count(layout, tokens.len());
     if numbers.len() / 4 < n {
         return false;
     }
@@ -163,7 +202,7 @@ pub fn decode_tokens(line: &[u8], tokens: &[u8], numbers: &mut [u16]) -> bool
     let mut last: u16 = 0;
     let mut good = true;
     while i < n {
-        let token = token_from(tokens, i);
+        let token = token_from(layout, tokens, i);
         put_token(numbers, i, token);
         good = both(good, good_token(line, last, token));
         last = token.end;

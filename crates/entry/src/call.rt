@@ -5,8 +5,10 @@ use layout::Found;
 use layout::Missed;
 use layout::encode_diagnostics;
 use layout::encode_nodes;
+use operand::Layout;
 use operand::OperandRead;
 use operand::OperandStep;
+use operand::layouts::token_count;
 use operand::refusal_numbers::BAD_START;
 use operand::refusal_numbers::BAD_TOKEN;
 use operand_code::OperandAnswer;
@@ -18,8 +20,9 @@ ghost use Rattle.layout.specs.Promise.{EntryPromise};
 ghost use Rattle.entry.specs.Call.{ListAsks, StoresAsk, AnswerTold};
 
 // Reads the operand that begins at the token `start`; at most `limit` terms may be open in each other. A refusal writes nothing. The
-// numbers of the reading stand in stores of the call's own, in four sizes, since to clear them takes longer than to read a short list.
+// numbers of the reading stand in stores of the call's own, in five sizes, since to clear them takes longer than to read a short list.
 pub fn parse_operand(
+    layout: Layout,
     line: &[u8],
     tokens: &[u8],
     start: usize,
@@ -29,28 +32,82 @@ pub fn parse_operand(
     diagnostics: &mut [u8],
     used: usize,
 ) -> Answer
-    ensures { λ r. ⌜ EntryPromise (call (now (line .entry)) (now (tokens .entry)) start mark limit (now (nodes .entry)) (now (diagnostics .entry)) used) (now (nodes .exit)) (now (diagnostics .exit)) r ⌝ }
+    ensures { λ r. ⌜ EntryPromise (call layout (now (line .entry)) (now (tokens .entry)) start mark limit (now (nodes .entry)) (now (diagnostics .entry)) used) (now (nodes .exit)) (now (diagnostics .exit)) r ⌝ }
 {
-    let n = refuse_line_and_list(line, tokens);
+    let n = refuse_line_and_list(layout, line, tokens);
     if n != 0 {
         return Answer::Refused(n);
     }
-    let count = tokens.len() / 4;
+    let count = token_count(layout, tokens.len());
     if count <= 8 {
-        return read_8(line, tokens, start, mark, limit, nodes, diagnostics, used);
+        return read_8(
+            layout,
+            line,
+            tokens,
+            start,
+            mark,
+            limit,
+            nodes,
+            diagnostics,
+            used,
+        );
     }
     if count <= 16 {
-        return read_16(line, tokens, start, mark, limit, nodes, diagnostics, used);
+        return read_16(
+            layout,
+            line,
+            tokens,
+            start,
+            mark,
+            limit,
+            nodes,
+            diagnostics,
+            used,
+        );
     }
     if count <= 64 {
-        return read_64(line, tokens, start, mark, limit, nodes, diagnostics, used);
+        return read_64(
+            layout,
+            line,
+            tokens,
+            start,
+            mark,
+            limit,
+            nodes,
+            diagnostics,
+            used,
+        );
     }
-    read_255(line, tokens, start, mark, limit, nodes, diagnostics, used)
+    if count <= 255 {
+        return read_255(
+            layout,
+            line,
+            tokens,
+            start,
+            mark,
+            limit,
+            nodes,
+            diagnostics,
+            used,
+        );
+    }
+    read_1023(
+        layout,
+        line,
+        tokens,
+        start,
+        mark,
+        limit,
+        nodes,
+        diagnostics,
+        used,
+    )
 }
 
 // The operand of a list of at most 8 tokens. Of numbers a token has four, a node and a diagnostic ten; there may be a node for each
 // token, and a diagnostic more.
 fn read_8(
+    layout: Layout,
     line: &[u8],
     tokens: &[u8],
     start: usize,
@@ -60,13 +117,14 @@ fn read_8(
     diagnostics: &mut [u8],
     used: usize,
 ) -> Answer
-    requires { ⌜ ListAsks (now line) (now tokens) 8 ⌝ }
-    ensures { λ r. ⌜ EntryPromise (call (now (line .entry)) (now (tokens .entry)) start mark limit (now (nodes .entry)) (now (diagnostics .entry)) used) (now (nodes .exit)) (now (diagnostics .exit)) r ⌝ }
+    requires { ⌜ ListAsks layout (now line) (now tokens) 8 ⌝ }
+    ensures { λ r. ⌜ EntryPromise (call layout (now (line .entry)) (now (tokens .entry)) start mark limit (now (nodes .entry)) (now (diagnostics .entry)) used) (now (nodes .exit)) (now (diagnostics .exit)) r ⌝ }
 {
     let mut list: [u16; 32] = [0; 32];
     let mut records: [u16; 80] = [0; 80];
     let mut reports: [u16; 90] = [0; 90];
     read_operand(
+        layout,
         line,
         tokens,
         start,
@@ -83,6 +141,7 @@ fn read_8(
 
 // The same of at most 16.
 fn read_16(
+    layout: Layout,
     line: &[u8],
     tokens: &[u8],
     start: usize,
@@ -92,13 +151,14 @@ fn read_16(
     diagnostics: &mut [u8],
     used: usize,
 ) -> Answer
-    requires { ⌜ ListAsks (now line) (now tokens) 16 ⌝ }
-    ensures { λ r. ⌜ EntryPromise (call (now (line .entry)) (now (tokens .entry)) start mark limit (now (nodes .entry)) (now (diagnostics .entry)) used) (now (nodes .exit)) (now (diagnostics .exit)) r ⌝ }
+    requires { ⌜ ListAsks layout (now line) (now tokens) 16 ⌝ }
+    ensures { λ r. ⌜ EntryPromise (call layout (now (line .entry)) (now (tokens .entry)) start mark limit (now (nodes .entry)) (now (diagnostics .entry)) used) (now (nodes .exit)) (now (diagnostics .exit)) r ⌝ }
 {
     let mut list: [u16; 64] = [0; 64];
     let mut records: [u16; 160] = [0; 160];
     let mut reports: [u16; 170] = [0; 170];
     read_operand(
+        layout,
         line,
         tokens,
         start,
@@ -115,6 +175,7 @@ fn read_16(
 
 // The same of at most 64.
 fn read_64(
+    layout: Layout,
     line: &[u8],
     tokens: &[u8],
     start: usize,
@@ -124,13 +185,14 @@ fn read_64(
     diagnostics: &mut [u8],
     used: usize,
 ) -> Answer
-    requires { ⌜ ListAsks (now line) (now tokens) 64 ⌝ }
-    ensures { λ r. ⌜ EntryPromise (call (now (line .entry)) (now (tokens .entry)) start mark limit (now (nodes .entry)) (now (diagnostics .entry)) used) (now (nodes .exit)) (now (diagnostics .exit)) r ⌝ }
+    requires { ⌜ ListAsks layout (now line) (now tokens) 64 ⌝ }
+    ensures { λ r. ⌜ EntryPromise (call layout (now (line .entry)) (now (tokens .entry)) start mark limit (now (nodes .entry)) (now (diagnostics .entry)) used) (now (nodes .exit)) (now (diagnostics .exit)) r ⌝ }
 {
     let mut list: [u16; 256] = [0; 256];
     let mut records: [u16; 640] = [0; 640];
     let mut reports: [u16; 650] = [0; 650];
     read_operand(
+        layout,
         line,
         tokens,
         start,
@@ -145,8 +207,9 @@ fn read_64(
     )
 }
 
-// The same of the longest list.
+// The same of at most 255: the longest narrow list.
 fn read_255(
+    layout: Layout,
     line: &[u8],
     tokens: &[u8],
     start: usize,
@@ -156,13 +219,48 @@ fn read_255(
     diagnostics: &mut [u8],
     used: usize,
 ) -> Answer
-    requires { ⌜ ListAsks (now line) (now tokens) 255 ⌝ }
-    ensures { λ r. ⌜ EntryPromise (call (now (line .entry)) (now (tokens .entry)) start mark limit (now (nodes .entry)) (now (diagnostics .entry)) used) (now (nodes .exit)) (now (diagnostics .exit)) r ⌝ }
+    requires { ⌜ ListAsks layout (now line) (now tokens) 255 ⌝ }
+    ensures { λ r. ⌜ EntryPromise (call layout (now (line .entry)) (now (tokens .entry)) start mark limit (now (nodes .entry)) (now (diagnostics .entry)) used) (now (nodes .exit)) (now (diagnostics .exit)) r ⌝ }
 {
     let mut list: [u16; 1020] = [0; 1020];
     let mut records: [u16; 2550] = [0; 2550];
     let mut reports: [u16; 2560] = [0; 2560];
     read_operand(
+        layout,
+        line,
+        tokens,
+        start,
+        mark,
+        limit,
+        nodes,
+        diagnostics,
+        used,
+        &mut list,
+        &mut records,
+        &mut reports,
+    )
+}
+
+// The same of the longest wide list.
+fn read_1023(
+    layout: Layout,
+    line: &[u8],
+    tokens: &[u8],
+    start: usize,
+    mark: usize,
+    limit: usize,
+    nodes: &mut [u8],
+    diagnostics: &mut [u8],
+    used: usize,
+) -> Answer
+    requires { ⌜ ListAsks layout (now line) (now tokens) 1023 ⌝ }
+    ensures { λ r. ⌜ EntryPromise (call layout (now (line .entry)) (now (tokens .entry)) start mark limit (now (nodes .entry)) (now (diagnostics .entry)) used) (now (nodes .exit)) (now (diagnostics .exit)) r ⌝ }
+{
+    let mut list: [u16; 4092] = [0; 4092];
+    let mut records: [u16; 10230] = [0; 10230];
+    let mut reports: [u16; 10240] = [0; 10240];
+    read_operand(
+        layout,
         line,
         tokens,
         start,
@@ -179,6 +277,7 @@ fn read_255(
 
 // The operand, read in stores of the call's own: the numbers of the list, of the nodes and of the diagnostics.
 fn read_operand(
+    layout: Layout,
     line: &[u8],
     tokens: &[u8],
     start: usize,
@@ -191,15 +290,16 @@ fn read_operand(
     records: &mut [u16],
     reports: &mut [u16],
 ) -> Answer
-    requires { ⌜ StoresAsk (now line) (now tokens) (now list) (now records) (now reports) ⌝ }
-    ensures { λ r. ⌜ EntryPromise (call (now (line .entry)) (now (tokens .entry)) start mark limit (now (nodes .entry)) (now (diagnostics .entry)) used) (now (nodes .exit)) (now (diagnostics .exit)) r ⌝ }
+    requires { ⌜ StoresAsk layout (now line) (now tokens) (now list) (now records) (now reports) ⌝ }
+    ensures { λ r. ⌜ EntryPromise (call layout (now (line .entry)) (now (tokens .entry)) start mark limit (now (nodes .entry)) (now (diagnostics .entry)) used) (now (nodes .exit)) (now (diagnostics .exit)) r ⌝ }
 {
-    if !decode_tokens(line, tokens, list) {
+    if !decode_tokens(layout, line, tokens, list) {
         return Answer::Refused(BAD_TOKEN);
     }
-    let end = tokens.len();
+    let count = token_count(layout, tokens.len());
     let k = refuse_start_stores_and_limit(
-        end / 4,
+        layout,
+        count,
         start,
         limit,
         nodes.len(),
@@ -209,11 +309,12 @@ fn read_operand(
     if k != 0 {
         return Answer::Refused(k);
     }
+    let end = 4 * count;
     let numbers = &list[0..end];
     let depth = limit as u16;
     let read = operand_at(line, numbers, records, reports, start, mark, depth);
     match read {
-        OperandAnswer::Is(r) => answered(r, records, reports, nodes, diagnostics, used),
+        OperandAnswer::Is(r) => answered(layout, r, records, reports, nodes, diagnostics, used),
         // There is room, so that this never comes.
         OperandAnswer::Unfit => Answer::Refused(BAD_START),
     }
@@ -221,6 +322,7 @@ fn read_operand(
 
 // What was read, with its records written into the lent stores.
 fn answered(
+    layout: Layout,
     r: OperandStep,
     records: &[u16],
     reports: &[u16],
@@ -228,14 +330,14 @@ fn answered(
     diagnostics: &mut [u8],
     used: usize,
 ) -> Answer
-    ensures { λ x. ⌜ AnswerTold r (now (records .entry)) (now (reports .entry)) (now (nodes .entry)) (now (diagnostics .entry)) (now (nodes .exit)) (now (diagnostics .exit)) used x ⌝ }
+    ensures { λ x. ⌜ AnswerTold layout r (now (records .entry)) (now (reports .entry)) (now (nodes .entry)) (now (diagnostics .entry)) (now (nodes .exit)) (now (diagnostics .exit)) used x ⌝ }
 {
     let e = r.counters;
     let cursor = e.at as usize;
     let n = e.nodes as usize;
     let added = e.diagnostics as usize;
-    encode_nodes(records, n, nodes);
-    encode_diagnostics(reports, added, diagnostics, used);
+    encode_nodes(layout, records, n, nodes);
+    encode_diagnostics(layout, reports, added, diagnostics, used);
     let read = r.operand;
     match read {
         OperandRead::Is(x) => Answer::Operand(Found {

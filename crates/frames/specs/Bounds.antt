@@ -7,13 +7,14 @@ use Prim.Native.Nat.{ℕ, _+_, _≤_, _<_}
 use native.Mathlib.Omega.{arith}
 use borrow.Author.Tests.{ltb-false, le-ltb}
 use lib.Dec.{eqb, ltb}
-use lib.ListN.{length, take, length-append}
+use lib.ListN.{length, take}
 use Rattle.names.specs.Choice.{pick}
 use Rattle.operand.specs.RefusalNumbers
+use Rattle.frames.specs.Frame.{layoutOf}
 use Rattle.frames.specs.Reply.{refused, ended, answerLine}
 use Rattle.frames.specs.Machine.{longest, roomy, State, heldLine, fed, kept, step, steps, fresh, lastLine}
 use Rattle.frames.specs.Batches.{BatchTold, FinishTold}
-use Rattle.frames.specs.Lengths.{length-digits, answer-bound}
+use Rattle.frames.specs.Lengths.{ended-bound, answer-bound}
 use Rattle.frames.specs.declared.batches.Batched.{Batched}
 
 -- ---- what is consumed
@@ -42,38 +43,38 @@ progress b bs h C O = rw (le-ltb roomy 0 (omega arith)) (omega (arith, consumed-
 
 -- ---- what is written
 
-pub held-bound : (h : ℕ) (C : List ℕ) → length (heldLine h C) ≤ 17411
-unfolding heldLine ended
+pub held-bound : (h : ℕ) (C : List ℕ) → length (heldLine h C) ≤ 102408
+unfolding heldLine
 held-bound h C = go (ltb longest h)
   where
-    go : (c : Bool) → length (pick c (ended (refused RefusalNumbers.badFrame)) (answerLine (take h C))) ≤ 17411
-    go true = simp length-append (omega (arith, length-digits (refused RefusalNumbers.badFrame)))
+    go : (c : Bool) → length (pick c (ended (layoutOf C) (refused RefusalNumbers.badFrame)) (answerLine (take h C))) ≤ 102408
+    go true = omega (arith, ended-bound (layoutOf C) (refused RefusalNumbers.badFrame))
     go false = answer-bound (take h C)
 
-pub last-bound : (h : ℕ) (C : List ℕ) → length (lastLine h C) ≤ 17411
+pub last-bound : (h : ℕ) (C : List ℕ) → length (lastLine h C) ≤ 102408
 unfolding lastLine
 last-bound h C = go (eqb h 0)
   where
-    go : (c : Bool) → length (pick c [] (heldLine h C)) ≤ 17411
+    go : (c : Bool) → length (pick c [] (heldLine h C)) ≤ 102408
     go true = omega arith
     go false = held-bound h C
 
-filled-within : (bs : List ℕ) (s : State) → s .filled ≤ 65536 → steps bs s .filled ≤ 65536
+filled-within : (bs : List ℕ) (s : State) → s .filled ≤ 163840 → steps bs s .filled ≤ 163840
 unfolding steps step roomy
 filled-within [] s h = h
-filled-within (b ∷ bs) s h = go (ltb 48125 (s .filled)) refl (λ k. filled-within bs (step b s) k)
+filled-within (b ∷ bs) s h = go (ltb 61432 (s .filled)) refl (λ k. filled-within bs (step b s) k)
   where
-    one : s .filled ≤ 48125 → (c : Bool) → pick c (fed s) (kept b s) .filled ≤ 65536
+    one : s .filled ≤ 61432 → (c : Bool) → pick c (fed s) (kept b s) .filled ≤ 163840
     one g true = omega (arith, held-bound (s .held) (s .carry))
     one g false = omega arith
 
-    go : (c : Bool) → ltb 48125 (s .filled) ≡ c → (step b s .filled ≤ 65536 → steps bs (step b s) .filled ≤ 65536) → pick c s (steps bs (step b s)) .filled ≤ 65536
+    go : (c : Bool) → ltb 61432 (s .filled) ≡ c → (step b s .filled ≤ 163840 → steps bs (step b s) .filled ≤ 163840) → pick c s (steps bs (step b s)) .filled ≤ 163840
     go true e r = h
-    go false e r = r (one (ltb-false 48125 (s .filled) e) (eqb b 10))
+    go false e r = r (one (ltb-false 61432 (s .filled) e) (eqb b 10))
 
 -- ---- of every call that keeps its promise
 
-pub batch-bounds : (I : List ℕ) (H : ℕ) (C O C′ O′ : List ℕ) (r : Batched) → BatchTold I H C O C′ O′ r → (r .consumed ≤ length I) × (r .written ≤ 65536)
+pub batch-bounds : (I : List ℕ) (H : ℕ) (C O C′ O′ : List ℕ) (r : Batched) → BatchTold I H C O C′ O′ r → (r .consumed ≤ length I) × (r .written ≤ 163840)
 batch-bounds I H C O C′ O′ r p =
     (omega (arith, p .consumed, further I (fresh H C O) .1), omega (arith, p .filled, filled-within I (fresh H C O) (omega arith)))
 
@@ -81,5 +82,5 @@ pub batch-progress : (I : List ℕ) (H : ℕ) (C O C′ O′ : List ℕ) (r : Ba
 batch-progress [] H C O C′ O′ r p h = absurd (omega arith)
 batch-progress (b ∷ bs) H C O C′ O′ r p h = omega (arith, p .consumed, progress b bs H C O)
 
-pub finish-bound : (H : ℕ) (C O O′ : List ℕ) (r : ℕ) → FinishTold H C O O′ r → r ≤ 65536
+pub finish-bound : (H : ℕ) (C O O′ : List ℕ) (r : ℕ) → FinishTold H C O O′ r → r ≤ 163840
 finish-bound H C O O′ r p = omega (arith, p .filled, last-bound H C)

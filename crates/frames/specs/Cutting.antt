@@ -9,29 +9,45 @@ use native.Mathlib.Omega.{arith}
 use native.Mathlib.Numerals.{add-one}
 use borrow.Author.Tests.{ltb-true, ltb-false, lt-ltb, le-ltb, ne-eqb, eq-eqb}
 use lib.Dec.{eqb, ltb}
-use lib.ListN.{length, take, drop, set, length-append, length-set, length-drop}
+use lib.ListN.{length, take, drop, getD, set, length-append, length-set, length-drop}
 use lib.Seq.{take-suc-set}
 use Rattle.names.specs.Choice.{pick}
 use Rattle.records.specs.Stores.{written}
+use Rattle.frames.specs.Frame.{layoutOf}
 use Rattle.frames.specs.Reply.{answerLine}
 use Rattle.frames.specs.Lines.{onto, lines, answerLines, answers}
 use Rattle.frames.specs.Machine.{longest, outBytes, roomy, State, heldLine, fed, heldOn, carryOn, kept, step, steps, fresh, lastLine}
 use Rattle.frames.specs.Program.{Run, drained, program, joined}
 use Rattle.records.specs.Written.{length-written, written-take}
 use Rattle.frames.specs.Bounds.{progress, last-bound}
-use Rattle.frames.specs.Lengths.{answer-bound, long-refused}
+use Rattle.frames.specs.Lengths.{answer-bound, long-line}
 
 -- ---- an unfinished line
 
--- how the state has the bytes l of an unfinished line
+longest-some : 0 < longest
+unfolding longest
+longest-some = omega arith
+
+-- how the state has the bytes l of an unfinished line: all of them, or, of one that is longer than any frame, the first
 pub data Holds (h : ℕ) (C l : List ℕ) : Type 0 where
   whole : h ≡ length l → h ≤ longest → take h C ≡ l → Holds h C l
-  long : h ≡ longest + 1 → longest < length l → Holds h C l
+  long : h ≡ longest + 1 → longest < length l → getD C 0 0 ≡ getD l 0 0 → Holds h C l
 
 held-answer : (h : ℕ) (C l : List ℕ) → Holds h C l → heldLine h C ≡ answerLine l
-unfolding heldLine
+unfolding heldLine layoutOf
 held-answer h C l (whole e f g) = rw (le-ltb longest h f, g)
-held-answer h C l (long e f) = rw (lt-ltb longest h (omega arith)) (sym (long-refused l f))
+held-answer h C l (long e f g) = rw (lt-ltb longest h (omega arith), g) (sym (long-line l f))
+
+-- the first of a part is the first of the whole
+first-of : (h : ℕ) (C l : List ℕ) → 0 < length l → take h C ≡ l → getD C 0 0 ≡ getD l 0 0
+first-of zero C l n g = absurd (omega (arith, ap length g))
+first-of (suc h) [] l n g = absurd (omega (arith, ap length g))
+first-of (suc h) (c ∷ C) l n g = rw (← g) refl
+
+-- and stays so with one byte more
+first-on : (l : List ℕ) (b : ℕ) → 0 < length l → getD (l ++ (b ∷ [])) 0 0 ≡ getD l 0 0
+first-on [] b n = absurd (omega arith)
+first-on (c ∷ l) b n = refl
 
 holds-on : (h : ℕ) (C l : List ℕ) (b : ℕ) → length C ≡ longest → Holds h C l → Holds (heldOn h) (carryOn C h b) (l ++ (b ∷ []))
 unfolding heldOn carryOn
@@ -41,8 +57,12 @@ holds-on h C l b n (whole e f g) = go (ltb h longest) refl
     go true q =
         let less = ltb-true h longest q in
         whole (simp length-append (omega arith)) (omega arith) (rw add-one (take-suc-set C h b (omega arith) ∙ rw g refl))
-    go false q = let more = ltb-false h longest q in long refl (simp length-append (omega arith))
-holds-on h C l b n (long e f) = rw (le-ltb h longest (omega arith)) (long refl (simp length-append (omega arith)))
+    go false q =
+        let more = ltb-false h longest q in
+        let some-held : 0 < length l = omega (arith, longest-some) in
+        long refl (simp length-append (omega arith)) (first-of h C l some-held g ∙ sym (first-on l b some-held))
+holds-on h C l b n (long e f g) =
+    rw (le-ltb h longest (omega arith)) (long refl (simp length-append (omega arith)) (g ∙ sym (first-on l b (omega (arith, longest-some)))))
 
 -- ---- lines that begin with what is held
 
@@ -81,12 +101,12 @@ pending-on l xs b e = rw e (ap answerLines (before-on l b (lines xs)))
 pending-end : (h : ℕ) (C l : List ℕ) → Holds h C l → pending l [] ≡ lastLine h C
 unfolding pending lines answerLines lastLine before longest
 pending-end h C [] (whole e f g) = rw (eq-eqb h 0 e) refl
-pending-end h C [] (long e f) = absurd (omega arith)
+pending-end h C [] (long e f g) = absurd (omega arith)
 pending-end h C (c ∷ l) o = rw (before-end c l, append-nil, ne-eqb h 0 (some-held o)) (sym (held-answer h C (c ∷ l) o))
   where
     some-held : Holds h C (c ∷ l) → h ≡ 0 → ⊥
     some-held (whole e f g) z = omega arith
-    some-held (long e f) z = omega arith
+    some-held (long e f g) z = omega arith
 
 -- ---- one call
 

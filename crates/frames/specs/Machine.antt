@@ -7,19 +7,20 @@ use lib.ListN.{length, take, set}
 use Rattle.names.specs.Choice.{pick}
 use Rattle.records.specs.Stores.{written}
 use Rattle.operand.specs.RefusalNumbers
+use Rattle.frames.specs.Frame.{layoutOf}
 use Rattle.frames.specs.Reply.{refused, ended, answerLine}
 
--- the digits of the longest frame: 2 * (1 + 255 + 1 + 4 * 255 + 2)
+-- the characters of the longest line that is a frame, a wide one: 1 + 2 * (65,535 + 6 * 65,535 + 8)
 unfoldable pub longest : ℕ
-longest = 2558
+longest = 917507
 
 -- the bytes of the output store
 unfoldable pub outBytes : ℕ
-outBytes = 65536
+outBytes = 163840
 
--- what may be filled of the 65,536 bytes of output so that the longest answer still has room: 2 * (5 + 20 + 3570 + 5110) + 1
+-- what may be filled of them so that the longest answer still has room: 1 + 2 * (7 + 30 + 18,414 + 32,752) + 1 bytes
 unfoldable pub roomy : ℕ
-roomy = 48125
+roomy = 61432
 
 -- how much of the input is consumed; how many bytes of the unfinished line are held, above `longest` for one that is longer;
 -- how many bytes of the output are filled; and both stores
@@ -32,7 +33,7 @@ pub record State : Type 0 where
 
 -- the answer to a line that is held
 unfoldable pub heldLine : ℕ → List ℕ → List ℕ
-heldLine held carry = pick (ltb longest held) (ended (refused RefusalNumbers.badFrame)) (answerLine (take held carry))
+heldLine held carry = pick (ltb longest held) (ended (layoutOf carry) (refused RefusalNumbers.badFrame)) (answerLine (take held carry))
 
 -- a line feed: the answer, and nothing held
 abbrev pub fed : State → State

@@ -6,8 +6,8 @@ ghost use lib.ListN.{length};
 ghost use Rattle.frames.specs.Batches.{BatchTold, FinishTold};
 ghost use Rattle.frames.specs.Inner.{HoldTold, TurnAsks, TurnTold, BatchAsks};
 
-// What may be filled of the output so that the longest answer has room: 65536 - (2 * (5 + 20 + 3570 + 5110) + 1).
-const ROOMY: usize = 48125;
+// What may be filled of the output so that the longest answer has room: 163840 - (1 + 2 * (7 + 30 + 18414 + 32752) + 1).
+const ROOMY: usize = 61432;
 
 // How many bytes of the input were read, how many of the unfinished line are held, how many were written.
 pub struct Batched {
@@ -24,7 +24,7 @@ struct Turned {
 
 // Holds one byte more of a line, if there is room. Of a line longer than any frame only that it is longer is kept.
 fn hold(carry: &mut [u8], held: usize, b: u8) -> usize
-    requires { ⌜ length (now carry) ≡ 2558 ⌝ }
+    requires { ⌜ length (now carry) ≡ 917507 ⌝ }
     ensures { λ r. ⌜ HoldTold (now (carry .entry)) held b (now (carry .exit)) r ⌝ }
 {
     if held < LONGEST {
@@ -99,7 +99,7 @@ fn batch_in(
 }
 
 // Answers the lines that end in the input, until the longest answer has no room, and holds what is left of the last one.
-pub fn batch(input: &[u8], held: usize, carry: &mut [u8; 2558], out: &mut [u8; 65536]) -> Batched
+pub fn batch(input: &[u8], held: usize, carry: &mut [u8; 917507], out: &mut [u8; 163840]) -> Batched
     ensures { λ r. ⌜ BatchTold (now (input .entry)) held (now (carry .entry)) (now (out .entry)) (now (carry .exit)) (now (out .exit)) r ⌝ }
 {
     let mut frame = [0u8; 1279];
@@ -117,7 +117,7 @@ pub fn batch(input: &[u8], held: usize, carry: &mut [u8; 2558], out: &mut [u8; 6
 }
 
 // Answers the last line, if it lacks its line feed, and returns how many bytes were written.
-pub fn finish(held: usize, carry: &[u8; 2558], out: &mut [u8; 65536]) -> usize
+pub fn finish(held: usize, carry: &[u8; 917507], out: &mut [u8; 163840]) -> usize
     ensures { λ r. ⌜ FinishTold held (now (carry .entry)) (now (out .entry)) (now (out .exit)) r ⌝ }
 {
     if held == 0 {

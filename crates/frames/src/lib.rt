@@ -1,5 +1,6 @@
 // Frames in, answer lines out: the program's work on bytes.
 mod batches;
+mod frame;
 mod hex;
 mod reply;
 

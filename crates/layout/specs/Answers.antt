@@ -1,10 +1,10 @@
 -- The buyer's conditions, of what the entry returns and writes: they follow from its promise, and from Conditions.antt.
 -- Assumes nothing.
-use mathlib.Core.Path.{_≡_, refl, sym, _∙_, ap}
+use mathlib.Core.Path.{_≡_, refl, sym, _∙_, ap, ap₂}
 use mathlib.Core.Bool.{false}
 use mathlib.Core.List.{List, [], _++_}
 use Prim.Native.Nat.{ℕ, zero, suc, _+_, _-_, _*_, _≤_, _<_}
-use native.Mathlib.Nat.{add-zero}
+use native.Mathlib.Nat.{add-zero, mul-zero, mul-add}
 use native.Mathlib.Omega.{arith}
 use lib.Dec.{eqb}
 use lib.ListN.{length, take, drop, replicate, take-append-drop}
@@ -17,15 +17,19 @@ use Rattle.expressions.specs.Reader.{Reading, reading}
 use Rattle.expressions.specs.Laws.{Every}
 use Rattle.expressions.specs.Limits.{NotTooDeep}
 use Rattle.operand.specs.Operands.{Operand, Maybe, some, none}
-use Rattle.operand.specs.Records.{sizeM, diagnosticRecords}
-use Rattle.operand.specs.Layout.{nodeBytes, nodesLaid, lows, diagnosticsLaid}
-use Rattle.operand.specs.Entry.{Input, placeOf, nodeStore, refusal, readingAt, nodesAfter, diagnosticsAfter, outcome, outcomeOf}
+use Rattle.operand.specs.Records.{sizeM}
+use Rattle.operand.specs.declared.layouts.Layout.{Layout}
+use Rattle.operand.specs.Layouts.{number, numberAt, number-read, nodeSize, diagnosticSize, mostTokens, nodeStore, freeRecords, nodes-within, numbers-fit}
+use Rattle.operand.specs.Layout.{recordsLaid, nodesLaid, diagnosticsLaid}
+use Rattle.operand.specs.Widened.{SameGiven, Satisfies, reading-same, refusal-same}
+use Rattle.operand.specs.Entry.{Input, tokensOf, placeOf, refusal, readingAt, nodesAfter, diagnosticsAfter, outcome, outcomeOf}
 use Rattle.layout.specs.Promise.{resultOf, resultAt, EntryPromise}
 use Rattle.operand.specs.Readings.{gap, ended}
 use Rattle.operand.specs.Settings.{withSetting, outcome-alike}
-use Rattle.operand.specs.Marks.{remarked, MarksAgree, MarksPast, marks-agree, refusal-same, reading-remarked}
+use Rattle.operand.specs.Marks.{remarked, MarksAgree, MarksPast, marks-agree, reading-remarked}
+use Rattle.operand.specs.Marks as M
 use Rattle.operand.specs.Limits.{limited, Higher, refusal-limited, reading-limited, NoneTooDeep, none-too-deep}
-use Rattle.operand.specs.Conditions.{Valid, Refuses, refusal-number, valid-bounds, valid-stores, valid-limit, AlikeThrough, recordAt, SameButPlus}
+use Rattle.operand.specs.Conditions.{Valid, Refuses, refusal-number, valid-bounds, valid-limit, AlikeThrough, recordAt, SameButPlus}
 use Rattle.operand.specs.Conditions as C
 use Rattle.operand.specs.Lengths.{length-node-bytes, length-laid}
 use Rattle.layout.specs.declared.answer.Answer.{Answer}
@@ -77,7 +81,7 @@ missed-valid (Total.noOperand x v) = v
 -- "Start equal to the count gives no operand and no diagnostic.": all node records are 0, and nothing else moves
 pub record AtTheEnd (a : Input) (N′ D′ : List ℕ) (r : Answer) : Type 0 where
   pub answer : r ≡ Answer.NoOperand (record { cursor = a .start; diagnostics = 0 })
-  pub nodes : N′ ≡ replicate nodeStore 0 ++ drop nodeStore (a .nodes)
+  pub nodes : N′ ≡ replicate (nodeStore (a .layout)) 0 ++ drop (nodeStore (a .layout)) (a .nodes)
   pub diagnostics : D′ ≡ a .diagnostics
 
 -- ---- the answer of a reading
@@ -111,6 +115,9 @@ module _ (r : Reading (Maybe Operand)) where
 -- ---- of every call that keeps the promise
 
 module _ (a : Input) (N′ D′ : List ℕ) (r : Answer) (p : EntryPromise a N′ D′ r) where
+  abbrev w : Layout
+  w = a .layout
+
   abbrev s : Reading (Maybe Operand)
   s = readingAt a
 
@@ -136,11 +143,11 @@ module _ (a : Input) (N′ D′ : List ℕ) (r : Answer) (p : EntryPromise a N�
     unfolding resultAt
     value-is = p .value ∙ ap (resultAt a) v
 
-    nodes-are : N′ ≡ nodesAfter (s .value) (a .nodes)
+    nodes-are : N′ ≡ nodesAfter w (s .value) (a .nodes)
     unfolding outcome outcomeOf
     nodes-are = p .nodes ∙ ap (λ n. outcomeOf a n .nodes) v
 
-    diagnostics-are : D′ ≡ diagnosticsAfter s (a .used) (a .diagnostics)
+    diagnostics-are : D′ ≡ diagnosticsAfter w s (a .used) (a .diagnostics)
     unfolding outcome outcomeOf
     diagnostics-are = p .diagnostics ∙ ap (λ n. outcomeOf a n .diagnostics) v
 
@@ -159,12 +166,12 @@ module _ (a : Input) (N′ D′ : List ℕ) (r : Answer) (p : EntryPromise a N�
     -- ---- condition 1
 
     -- the cursor neither goes back nor passes the end
-    pub cursor-bounds : (a .start ≤ cursorOf r) × (cursorOf r ≤ count (a .tokens))
+    pub cursor-bounds : (a .start ≤ cursorOf r) × (cursorOf r ≤ count (tokensOf a))
     cursor-bounds = let h = C.cursor-bounds a lim v in (omega (arith, cursor-is), omega (arith, cursor-is))
 
-    -- so it is a byte
-    pub cursor-small : cursorOf r < 256
-    cursor-small = omega (arith, cursor-bounds, valid-bounds a v)
+    -- so it is written whole
+    pub cursor-written : numberAt w (number w (cursorOf r)) 0 ≡ cursorOf r
+    cursor-written = number-read w (cursorOf r) (omega (arith, cursor-bounds, valid-bounds a v, numbers-fit w))
 
     -- no operand is never silent, unless the start is the end or an Error token stood from there on
     pub never-silent : (k : Token) (x : List ℕ) → placeOf a (a .start) ≡ stands k x
@@ -178,126 +185,140 @@ module _ (a : Input) (N′ D′ : List ℕ) (r : Answer) (p : EntryPromise a N�
     pub diagnostics-bound : diagnosticsAdded r + 2 * a .start ≤ 2 * cursorOf r + 1
     diagnostics-bound = omega (arith, C.diagnostics-bound a lim, added-is, cursor-is)
 
-    -- so 511 records are enough
-    pub records-enough : diagnosticsAdded r ≤ 511
+    -- so the records that must be free are enough
+    pub records-enough : diagnosticsAdded r ≤ freeRecords w
     records-enough = omega (arith, C.records-enough a lim v, added-is)
 
     -- the nodes are at most the consumed tokens
     pub nodes-bound : nodesUsed r + a .start ≤ cursorOf r
     nodes-bound = omega (arith, C.nodes-bound a lim, used-is, cursor-is)
 
-    -- so 255 of fourteen bytes are enough
-    pub nodes-enough : 14 * nodesUsed r ≤ 3570
-    nodes-enough = omega (arith, C.nodes-enough a lim v, used-is)
+    -- so a store of one record a token is enough
+    pub nodes-few : nodesUsed r ≤ mostTokens w
+    nodes-few = omega (arith, nodes-bound, cursor-bounds, valid-bounds a v)
+
+    pub nodes-enough : nodeSize w * nodesUsed r ≤ nodeStore w
+    nodes-enough = nodes-within w (nodesUsed r) nodes-few
 
     -- ---- the diagnostics: the used records, the added ones, and the bytes past them
 
-    before-long : length (take (10 * a .used) (a .diagnostics)) ≡ 10 * a .used
-    before-long = length-take-le (10 * a .used) (a .diagnostics) (omega (arith, valid-stores a v))
+    -- the bytes of so many records
+    abbrev before : ℕ
+    before = diagnosticSize w * a .used
+
+    before-long : length (take before (a .diagnostics)) ≡ before
+    before-long = length-take-le before (a .diagnostics) (C.used-within a v)
 
     -- earlier diagnostics stand
-    pub earlier-stand : take (10 * a .used) D′ ≡ take (10 * a .used) (a .diagnostics)
-    earlier-stand = ap (take (10 * a .used)) (p .diagnostics) ∙ C.earlier-stand a v
+    pub earlier-stand : take before D′ ≡ take before (a .diagnostics)
+    earlier-stand = ap (take before) (p .diagnostics) ∙ C.earlier-stand a v
 
-    behind : drop (10 * a .used) D′ ≡ diagnosticsLaid (s .raised) ++ drop (10 * (a .used + length (s .raised))) (a .diagnostics)
+    behind : drop before D′ ≡ diagnosticsLaid w (s .raised) ++ drop (diagnosticSize w * (a .used + length (s .raised))) (a .diagnostics)
     unfolding diagnosticsAfter
-    behind = ap (drop (10 * a .used)) diagnostics-are ∙ drop-at (take (10 * a .used) (a .diagnostics)) _ (10 * a .used) before-long
+    behind = ap (drop before) diagnostics-are ∙ drop-at (take before (a .diagnostics)) _ before before-long
 
-    added-long : length (diagnosticsLaid (s .raised)) ≡ 10 * diagnosticsAdded r
-    added-long = length-laid (s .raised) ∙ ap (λ n. 10 * n) (sym added-is)
+    added-long : length (diagnosticsLaid w (s .raised)) ≡ diagnosticSize w * diagnosticsAdded r
+    added-long = length-laid w (s .raised) ∙ ap (λ n. diagnosticSize w * n) (sym added-is)
 
     -- the added ones are the reading's, in their order
-    pub added-records : take (10 * diagnosticsAdded r) (drop (10 * a .used) D′) ≡ diagnosticsLaid (s .raised)
-    added-records = ap (take (10 * diagnosticsAdded r)) behind ∙ take-at _ _ (10 * diagnosticsAdded r) added-long
+    pub added-records : take (diagnosticSize w * diagnosticsAdded r) (drop before D′) ≡ diagnosticsLaid w (s .raised)
+    added-records = ap (take (diagnosticSize w * diagnosticsAdded r)) behind ∙ take-at _ _ (diagnosticSize w * diagnosticsAdded r) added-long
 
     -- where no added one is of kind 6, no NestingTooDeep was raised
-    pub none-raised : NoneTooDeep (take (10 * diagnosticsAdded r) (drop (10 * a .used) D′)) (diagnosticsAdded r) → Every NotTooDeep (s .raised)
-    none-raised h = none-too-deep (s .raised) (rw (added-records, added-is) at h)
+    pub none-raised : NoneTooDeep w (take (diagnosticSize w * diagnosticsAdded r) (drop before D′)) (diagnosticsAdded r) → Every NotTooDeep (s .raised)
+    none-raised h = none-too-deep w (s .raised) (rw (added-records, added-is) at h)
 
     -- "Bytes past the added records stay."
-    pub later-stand : drop (10 * (a .used + diagnosticsAdded r)) D′ ≡ drop (10 * (a .used + diagnosticsAdded r)) (a .diagnostics)
+    pub later-stand : drop (diagnosticSize w * (a .used + diagnosticsAdded r)) D′ ≡ drop (diagnosticSize w * (a .used + diagnosticsAdded r)) (a .diagnostics)
     later-stand =
-        let e : 10 * (a .used + diagnosticsAdded r) ≡ 10 * a .used + 10 * diagnosticsAdded r = omega arith in
-        ap (λ n. drop n D′) e
-        ∙ sym (drop-drop (10 * diagnosticsAdded r) (10 * a .used) D′)
-        ∙ ap (drop (10 * diagnosticsAdded r)) behind
-        ∙ drop-at (diagnosticsLaid (s .raised)) _ (10 * diagnosticsAdded r) added-long
-        ∙ ap (λ n. drop (10 * (a .used + n)) (a .diagnostics)) (sym added-is)
+        ap (λ n. drop n D′) (mul-add (diagnosticSize w) (a .used) (diagnosticsAdded r))
+        ∙ sym (drop-drop (diagnosticSize w * diagnosticsAdded r) before D′)
+        ∙ ap (drop (diagnosticSize w * diagnosticsAdded r)) behind
+        ∙ drop-at (diagnosticsLaid w (s .raised)) _ (diagnosticSize w * diagnosticsAdded r) added-long
+        ∙ ap (λ n. drop (diagnosticSize w * (a .used + n)) (a .diagnostics)) (sym added-is)
 
-    -- ---- the nodes: the used records, zeros, and the bytes past the 255th
+    -- ---- the nodes: the used records, zeros, and the bytes past the store's last record
 
-    used-long : length (nodesLaid (s .value)) ≡ 14 * nodesUsed r
-    used-long = length-node-bytes _ (sizeM (s .value)) ∙ ap (λ n. 14 * n) (sym used-is)
+    used-long : length (nodesLaid w (s .value)) ≡ nodeSize w * nodesUsed r
+    used-long = length-node-bytes w _ (sizeM (s .value)) ∙ ap (λ n. nodeSize w * n) (sym used-is)
 
     -- the used records are the reading's
-    pub used-records : take (14 * nodesUsed r) N′ ≡ nodesLaid (s .value)
+    pub used-records : take (nodeSize w * nodesUsed r) N′ ≡ nodesLaid w (s .value)
     unfolding nodesAfter
-    used-records = ap (take (14 * nodesUsed r)) nodes-are ∙ take-at _ _ (14 * nodesUsed r) used-long
+    used-records = ap (take (nodeSize w * nodesUsed r)) nodes-are ∙ take-at _ _ (nodeSize w * nodesUsed r) used-long
 
-    -- "Unused node records of the 255 are zero; bytes past 3,570 stay."
-    pub unused-zero : drop (14 * nodesUsed r) N′ ≡ replicate (nodeStore - 14 * nodesUsed r) 0 ++ drop nodeStore (a .nodes)
+    -- "Unused node records of the 255 are zero; bytes past 3,570 stay.", and so of the 1,023
+    pub unused-zero : drop (nodeSize w * nodesUsed r) N′ ≡ replicate (nodeStore w - nodeSize w * nodesUsed r) 0 ++ drop (nodeStore w) (a .nodes)
     unfolding nodesAfter
     unused-zero =
-        ap (drop (14 * nodesUsed r)) nodes-are
-        ∙ drop-at (nodesLaid (s .value)) _ (14 * nodesUsed r) used-long
-        ∙ ap (λ n. replicate (nodeStore - 14 * n) 0 ++ drop nodeStore (a .nodes)) (sym used-is)
+        ap (drop (nodeSize w * nodesUsed r)) nodes-are
+        ∙ drop-at (nodesLaid w (s .value)) _ (nodeSize w * nodesUsed r) used-long
+        ∙ ap (λ n. replicate (nodeStore w - nodeSize w * n) 0 ++ drop (nodeStore w) (a .nodes)) (sym used-is)
 
     -- ---- the end
 
-    pub at-the-end : a .start ≡ count (a .tokens) → AtTheEnd a N′ D′ r
-    unfolding resultOf nodesAfter diagnosticsAfter sizeM nodeBytes lows diagnosticRecords
+    pub at-the-end : a .start ≡ count (tokensOf a) → AtTheEnd a N′ D′ r
+    unfolding resultOf nodesAfter diagnosticsAfter sizeM recordsLaid diagnosticsLaid
     at-the-end e = go (placeOf a (a .start)) refl
       where
         none-read : s ≡ reading (a .start) 0 [] none → AtTheEnd a N′ D′ r
         none-read q = record {
           answer = value-is ∙ ap (λ (t : Reading (Maybe Operand)). resultOf t (t .value)) q;
           nodes =
-              let z : nodeStore - 14 * 0 ≡ nodeStore = omega arith in
-              nodes-are ∙ ap (λ (t : Reading (Maybe Operand)). nodesAfter (t .value) (a .nodes)) q ∙ ap (λ n. replicate n 0 ++ drop nodeStore (a .nodes)) z;
-          diagnostics = diagnostics-are ∙ ap (λ (t : Reading (Maybe Operand)). diagnosticsAfter t (a .used) (a .diagnostics)) q ∙ rw add-zero (take-append-drop (10 * a .used) (a .diagnostics));
+              let z : nodeStore w - nodeSize w * 0 ≡ nodeStore w = omega (arith, mul-zero (nodeSize w)) in
+              nodes-are ∙ ap (λ (t : Reading (Maybe Operand)). nodesAfter w (t .value) (a .nodes)) q ∙ ap (λ n. replicate n 0 ++ drop (nodeStore w) (a .nodes)) z;
+          diagnostics = diagnostics-are ∙ ap (λ (t : Reading (Maybe Operand)). diagnosticsAfter w t (a .used) (a .diagnostics)) q ∙ rw add-zero (take-append-drop before (a .diagnostics));
         }
 
-        go : (w : Place) → placeOf a (a .start) ≡ w → AtTheEnd a N′ D′ r
+        go : (x : Place) → placeOf a (a .start) ≡ x → AtTheEnd a N′ D′ r
         go nothing q = none-read (ended (a .limit) (a .mark) (placeOf a) (a .start) q)
-        go (stands k x) q = absurd (omega (arith, below (a .line) (a .tokens) (a .start) k x q))
+        go (stands k x) q = absurd (omega (arith, below (a .line) (tokensOf a) (a .start) k x q))
 
 -- ---- condition 3
+
+-- the bytes of the added diagnostics
+abbrev pub addedIn : Input → List ℕ → Answer → List ℕ
+addedIn a D′ r = take (diagnosticSize (a .layout) * diagnosticsAdded r) (drop (diagnosticSize (a .layout) * a .used) D′)
 
 -- "Answers are the same if both have an operand, with the same record, or both have none; the cursor is the same; as many nodes are used, with the same
 -- records; and as many diagnostics are added, the same records in the same order." The first line is all but the records in the stores; the mask is the same too
 pub record SameOutcome (a b : Input) (N′ D′ N″ D″ : List ℕ) (r q : Answer) : Type 0 where
   pub answer : r ≡ q
-  pub nodes : take (14 * nodesUsed r) N′ ≡ take (14 * nodesUsed q) N″
-  pub diagnostics : take (10 * diagnosticsAdded r) (drop (10 * a .used) D′) ≡ take (10 * diagnosticsAdded q) (drop (10 * b .used) D″)
+  pub nodes : take (nodeSize (a .layout) * nodesUsed r) N′ ≡ take (nodeSize (b .layout) * nodesUsed q) N″
+  pub diagnostics : addedIn a D′ r ≡ addedIn b D″ q
 
--- two valid inputs alike from the start through the cursor (one place further where there is no operand) have the same answer, without exception
+-- two valid inputs that are read alike give the same answer, in whichever layouts: all but the records in the stores
+read-alike : (a b : Input) (N′ D′ N″ D″ : List ℕ) (r q : Answer) → EntryPromise a N′ D′ r → EntryPromise b N″ D″ q → Valid a → Valid b → readingAt a ≡ readingAt b → r ≡ q
+read-alike a b N′ D′ N″ D″ r q p h va vb e =
+    value-is a N′ D′ r p va ∙ ap (λ (t : Reading (Maybe Operand)). resultOf t (t .value)) e ∙ sym (value-is b N″ D″ q h vb)
+
+-- two valid inputs of one layout alike from the start through the cursor (one place further where there is no operand) have the same answer, without exception
 pub local : (a b : Input) (N′ D′ N″ D″ : List ℕ) (r q : Answer) → EntryPromise a N′ D′ r → EntryPromise b N″ D″ q → Valid a → Valid b
-    → AlikeThrough a b (cursorOf r + gapOf r) → SameOutcome a b N′ D′ N″ D″ r q
-local a b N′ D′ N″ D″ r q p h va vb alike =
+    → a .layout ≡ b .layout → AlikeThrough a b (cursorOf r + gapOf r) → SameOutcome a b N′ D′ N″ D″ r q
+local a b N′ D′ N″ D″ r q p h va vb one alike =
     let e = C.same-reading a b (lim a N′ D′ r p va) (record { start = alike .start; mark = alike .mark; limit = alike .limit; places = λ j x y. alike .places j x (omega (arith, cursor-is a N′ D′ r p va, gap-is a N′ D′ r p va)) }) in
     record {
-      answer = value-is a N′ D′ r p va ∙ ap (λ (t : Reading (Maybe Operand)). resultOf t (t .value)) e ∙ sym (value-is b N″ D″ q h vb);
-      nodes = used-records a N′ D′ r p va ∙ ap (λ (t : Reading (Maybe Operand)). nodesLaid (t .value)) e ∙ sym (used-records b N″ D″ q h vb);
-      diagnostics = added-records a N′ D′ r p va ∙ ap (λ (t : Reading (Maybe Operand)). diagnosticsLaid (t .raised)) e ∙ sym (added-records b N″ D″ q h vb);
+      answer = read-alike a b N′ D′ N″ D″ r q p h va vb e;
+      nodes = used-records a N′ D′ r p va ∙ ap₂ (λ w (t : Reading (Maybe Operand)). nodesLaid w (t .value)) one e ∙ sym (used-records b N″ D″ q h vb);
+      diagnostics = added-records a N′ D′ r p va ∙ ap₂ (λ w (t : Reading (Maybe Operand)). diagnosticsLaid w (t .raised)) one e ∙ sym (added-records b N″ D″ q h vb);
     }
 
 -- but for a kind 13 with its plus at this place, which is the same in all but its kind
-pub record SameOutcomeButPlus (w : Place) (a b : Input) (N′ D′ N″ D″ : List ℕ) (r q : Answer) : Type 0 where
+pub record SameOutcomeButPlus (x : Place) (a b : Input) (N′ D′ N″ D″ : List ℕ) (r q : Answer) : Type 0 where
   pub answer : r ≡ q
-  pub nodes : take (14 * nodesUsed r) N′ ≡ take (14 * nodesUsed q) N″
-  pub diagnostics : (i : ℕ)
-      → SameButPlus w (recordAt (take (10 * diagnosticsAdded r) (drop (10 * a .used) D′)) i) (recordAt (take (10 * diagnosticsAdded q) (drop (10 * b .used) D″)) i)
+  pub nodes : take (nodeSize (a .layout) * nodesUsed r) N′ ≡ take (nodeSize (b .layout) * nodesUsed q) N″
+  pub diagnostics : (i : ℕ) → SameButPlus (a .layout) x (recordAt (a .layout) (addedIn a D′ r) i) (recordAt (a .layout) (addedIn b D″ q) i)
 
 -- condition 3 as it is asked for (operand `Conditions.two-readings`): alike through the cursor, the same but for such a plus at the cursor; alike one token
 -- further, the same without exception
 pub two-calls : (a b : Input) (N′ D′ N″ D″ : List ℕ) (r q : Answer) → EntryPromise a N′ D′ r → EntryPromise b N″ D″ q → Valid a → Valid b
-    → (AlikeThrough a b (cursorOf r + gapOf r) → SameOutcomeButPlus (placeOf a (cursorOf r)) a b N′ D′ N″ D″ r q)
+    → a .layout ≡ b .layout → (AlikeThrough a b (cursorOf r + gapOf r) → SameOutcomeButPlus (placeOf a (cursorOf r)) a b N′ D′ N″ D″ r q)
     × (AlikeThrough a b (cursorOf r + 1) → SameOutcome a b N′ D′ N″ D″ r q)
-two-calls a b N′ D′ N″ D″ r q p h va vb = (
+two-calls a b N′ D′ N″ D″ r q p h va vb one = (
   (λ alike.
-      let s = local a b N′ D′ N″ D″ r q p h va vb alike in
-      record { answer = s .answer; nodes = s .nodes; diagnostics = λ i. SameButPlus.same (ap (λ D. recordAt D i) (s .diagnostics)) }),
-  λ alike. local a b N′ D′ N″ D″ r q p h va vb (C.alike-before (omega (arith, gap-small r)) alike),
+      let s = local a b N′ D′ N″ D″ r q p h va vb one alike in
+      record { answer = s .answer; nodes = s .nodes; diagnostics = λ i. SameButPlus.same (ap (λ D. recordAt (a .layout) D i) (s .diagnostics)) }),
+  λ alike. local a b N′ D′ N″ D″ r q p h va vb one (C.alike-before (omega (arith, gap-small r)) alike),
 )
 
 -- ---- the mark and the limit
@@ -327,7 +348,7 @@ same-call a m n N′ D′ N″ D″ r q p h e f =
 -- of two calls that differ in their marks alone, where these agree wherever a token stands
 pub marks-same : (a : Input) (n : ℕ) (N′ D′ N″ D″ : List ℕ) (r q : Answer) → EntryPromise a N′ D′ r → EntryPromise (remarked a n) N″ D″ q
     → MarksAgree a n → SameCall N′ D′ N″ D″ r q
-marks-same a n N′ D′ N″ D″ r q p h agree = same-call a n (a .limit) N′ D′ N″ D″ r q p h (refusal-same a n) (reading-remarked a n agree)
+marks-same a n N′ D′ N″ D″ r q p h agree = same-call a n (a .limit) N′ D′ N″ D″ r q p h (M.refusal-same a n) (reading-remarked a n agree)
 
 -- "one at or past the token count means none": of any two such marks
 pub marks-past : (a : Input) (n : ℕ) (N′ D′ N″ D″ : List ℕ) (r q : Answer) → EntryPromise a N′ D′ r → EntryPromise (remarked a n) N″ D″ q
@@ -337,6 +358,34 @@ marks-past a n N′ D′ N″ D″ r q p h past = marks-same a n N′ D′ N″ 
 -- "A reading that raises no NestingTooDeep at one limit has the same answer at every higher one" (document 02): of two calls that differ in their limits alone,
 -- where no added record is of that kind
 pub higher-limit : (a : Input) (n : ℕ) (N′ D′ N″ D″ : List ℕ) (r q : Answer) → EntryPromise a N′ D′ r → EntryPromise (limited a n) N″ D″ q
-    → Valid a → Higher a n → NoneTooDeep (take (10 * diagnosticsAdded r) (drop (10 * a .used) D′)) (diagnosticsAdded r) → SameCall N′ D′ N″ D″ r q
+    → Valid a → Higher a n → NoneTooDeep (a .layout) (addedIn a D′ r) (diagnosticsAdded r) → SameCall N′ D′ N″ D″ r q
 higher-limit a n N′ D′ N″ D″ r q p h v high none-deep =
     same-call a (a .mark) n N′ D′ N″ D″ r q p h (refusal-limited a n high) (reading-limited a n high (none-raised a N′ D′ r p v none-deep))
+
+-- ---- both layouts
+
+-- "A line that satisfies both has the same answer in both, layout and refusal 20 aside" (document 02): of two calls with the same line, tokens, start, mark and
+-- limit, in whichever layouts, each of which satisfies its own. Both have the same operand, cursor, counts and mask, or the same refusal
+pub same-in-both : (a b : Input) (N′ D′ N″ D″ : List ℕ) (r q : Answer) → EntryPromise a N′ D′ r → EntryPromise b N″ D″ q → SameGiven a b → Satisfies a → Satisfies b → r ≡ q
+unfolding resultAt
+same-in-both a b N′ D′ N″ D″ r q p h given s t = p .value ∙ result (refusal a) ∙ ap (resultAt b) (refusal-same a b given s t) ∙ sym (h .value)
+  where
+    result : (k : ℕ) → resultAt a k ≡ resultAt b k
+    result zero = ap (λ (x : Reading (Maybe Operand)). resultOf x (x .value)) (reading-same a b given)
+    result (suc k) = refl
+
+-- and where they are read, the records in the stores are those of one reading, each in its layout
+pub record OneReading (a b : Input) (N′ D′ N″ D″ : List ℕ) (r q : Answer) : Type 0 where
+  pub reading : Reading (Maybe Operand)
+  pub nodes : (take (nodeSize (a .layout) * nodesUsed r) N′ ≡ nodesLaid (a .layout) (reading .value)) × (take (nodeSize (b .layout) * nodesUsed q) N″ ≡ nodesLaid (b .layout) (reading .value))
+  pub diagnostics : (addedIn a D′ r ≡ diagnosticsLaid (a .layout) (reading .raised)) × (addedIn b D″ q ≡ diagnosticsLaid (b .layout) (reading .raised))
+
+pub one-reading : (a b : Input) (N′ D′ N″ D″ : List ℕ) (r q : Answer) → EntryPromise a N′ D′ r → EntryPromise b N″ D″ q → Valid a → Valid b → SameGiven a b
+    → OneReading a b N′ D′ N″ D″ r q
+one-reading a b N′ D′ N″ D″ r q p h va vb given =
+    let e = reading-same a b given in
+    record {
+      reading = readingAt a;
+      nodes = (used-records a N′ D′ r p va, used-records b N″ D″ q h vb ∙ ap (λ (x : Reading (Maybe Operand)). nodesLaid (b .layout) (x .value)) (sym e));
+      diagnostics = (added-records a N′ D′ r p va, added-records b N″ D″ q h vb ∙ ap (λ (x : Reading (Maybe Operand)). diagnosticsLaid (b .layout) (x .raised)) (sym e));
+    }

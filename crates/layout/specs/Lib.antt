@@ -3,6 +3,8 @@
 pub mod Promise
 pub mod Nodes
 pub mod Diagnostics
+pub mod Record
+pub mod Head
 -- the laws
 pub mod Answers
 pub mod Stored

@@ -7,9 +7,10 @@ use lib.ListN.{length, replicate}
 use Rattle.names.specs.Choice.{pick, both}
 use Rattle.records.specs.Stores.{written}
 use Rattle.operand.specs.Layout.{nodeBytes}
-use Rattle.operand.specs.Entry.{nodeStore}
+use Rattle.operand.specs.declared.layouts.Layout.{Layout}
+use Rattle.operand.specs.Layouts.{nodeSize, mostTokens, nodeStore}
 
--- the first n node records of M, and zeros up to the 255th
-unfoldable pub nodesEncoded : List ℕ → ℕ → List ℕ → List ℕ
-nodesEncoded M n N =
-    pick (both (leb (14 * n) nodeStore) (leb (10 * n) (length M))) (written N 0 (nodeBytes M n ++ replicate (nodeStore - 14 * n) 0)) N
+-- the first n node records of M, and zeros up to the store's last record
+unfoldable pub nodesEncoded : Layout → List ℕ → ℕ → List ℕ → List ℕ
+nodesEncoded w M n N =
+    pick (both (leb n (mostTokens w)) (leb (10 * n) (length M))) (written N 0 (nodeBytes w M n ++ replicate (nodeStore w - nodeSize w * n) 0)) N

@@ -10,16 +10,17 @@ use Rattle.operand.specs.Records.{sizeM}
 use Rattle.operand.specs.Entry.{Input, readingAt, refusal, answerOf, answerNumber, outcome, outcomeNumber}
 use Rattle.operand.specs.Entry as E
 use Rattle.operand.specs.Forms.{recordOf}
+use Rattle.operand.specs.declared.layouts.Layout.{Layout}
 use Rattle.operand.specs.Layout.{bytesOf}
 use Rattle.layout.specs.declared.answer.Answer.{Answer}
 
 -- ---- the answer
 
--- the definition's answer for the code's: the record as its twenty bytes, and the mask
-unfoldable pub given : Answer → E.Answer
-given (Answer.Operand x) = E.operand (bytesOf (x .operand)) (x .cursor) (x .nodes) (x .diagnostics) (x .operand .mask)
-given (Answer.NoOperand x) = E.noOperand (x .cursor) (x .diagnostics)
-given (Answer.Refused n) = E.refused n
+-- the definition's answer for the code's: the record as its bytes, and the mask
+unfoldable pub given : Layout → Answer → E.Answer
+given w (Answer.Operand x) = E.operand (bytesOf w (x .operand)) (x .cursor) (x .nodes) (x .diagnostics) (x .operand .mask)
+given w (Answer.NoOperand x) = E.noOperand (x .cursor) (x .diagnostics)
+given w (Answer.Refused n) = E.refused n
 
 -- the code's answer for a reading
 unfoldable pub resultOf : Reading (Maybe Operand) → Maybe Operand → Answer
@@ -32,17 +33,17 @@ unfoldable pub resultAt : Input → ℕ → Answer
 resultAt a zero = let r = readingAt a in resultOf r (r .value)
 resultAt a (suc k) = Answer.Refused (suc k)
 
-pub given-result : (r : Reading (Maybe Operand)) (v : Maybe Operand) → given (resultOf r v) ≡ answerOf r v
+pub given-result : (w : Layout) (r : Reading (Maybe Operand)) (v : Maybe Operand) → given w (resultOf r v) ≡ answerOf w r v
 unfolding given resultOf answerOf
-given-result r (some x) = refl
-given-result r none = refl
+given-result w r (some x) = refl
+given-result w r none = refl
 
 -- ---- the promise
 
--- every byte, and the number of the answer's case. The last: the twenty bytes alone would leave open whether FF is an absent part
+-- every byte, and the number of the answer's case. The last: the record's bytes alone would leave open whether FF is an absent part
 pub record EntryPromise (a : Input) (N′ D′ : List ℕ) (r : Answer) : Type 0 where
-  pub answer : given r ≡ outcome a .answer
-  pub number : answerNumber (given r) ≡ outcomeNumber a
+  pub answer : given (a .layout) r ≡ outcome a .answer
+  pub number : answerNumber (given (a .layout) r) ≡ outcomeNumber a
   pub nodes : N′ ≡ outcome a .nodes
   pub diagnostics : D′ ≡ outcome a .diagnostics
   pub value : r ≡ resultAt a (refusal a)

@@ -3,7 +3,6 @@ ghost use mathlib.Core.Path.{_≡_};
 ghost use Prim.Native.Nat.{_+_, _≤_};
 ghost use lib.ListN.{length};
 ghost use Rattle.records.specs.Stores.{written, cleared};
-ghost use Rattle.operand.specs.Layout.{lows};
 
 // Writes the bytes from a place of the store on, where all of them fit.
 pub fn write(store: &mut [u8], at: usize, bytes: &[u8])
@@ -18,18 +17,6 @@ pub fn write(store: &mut [u8], at: usize, bytes: &[u8])
     let mut i = 0;
     while i < bytes.len() {
         store[at + i] = bytes[i];
-        i += 1;
-    }
-}
-
-// Writes the low byte of each number from a place of the store on.
-pub(crate) fn write_low(store: &mut [u8], at: usize, numbers: &[u16])
-    requires { ⌜ at + length (now numbers) ≤ length (now store) ⌝ }
-    ensures { λ _. ⌜ now (store .exit) ≡ written (now (store .entry)) at (lows (now (numbers .entry))) ⌝ }
-{
-    let mut i = 0;
-    while i < numbers.len() {
-        store[at + i] = (numbers[i] % 256) as u8;
         i += 1;
     }
 }

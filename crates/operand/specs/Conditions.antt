@@ -28,7 +28,9 @@ use Rattle.operand.specs.Operand.{_>>=?_, readingOf, listItem, nextItem,
 use Rattle.operand.specs.Records.{sizeM}
 use Rattle.operand.specs.Layout.{nodesLaid, diagnosticsLaid, operandRecord}
 use Rattle.operand.specs.RefusalNumbers
-use Rattle.operand.specs.Entry.{Input, placeOf, longestLine, mostTokens, nodeStore, freeRecords, highestLimit, goodTokens, Refusal, lineAndList, startStoresAndLimit, refusals, firstOf, refusal, readingAt, refused, diagnosticsAfter, outcomeOf, outcome}
+use Rattle.operand.specs.declared.layouts.Layout.{Layout}
+use Rattle.operand.specs.Layouts.{width, numberAt, tokenSize, nodeSize, diagnosticSize, longestLine, mostTokens, nodeStore, freeRecords, numbers-count, nodes-within, free-records, records-within, most-tokens}
+use Rattle.operand.specs.Entry.{Input, tokensOf, placeOf, highestLimit, goodTokens, Refusal, lineAndList, startStoresAndLimit, refusals, firstOf, refusal, readingAt, refused, diagnosticsAfter, outcomeOf, outcome}
 use Rattle.operand.specs.Readings as R
 use Rattle.operand.specs.Readings.{gap}
 use Rattle.operand.specs.Fuel.{list-equation}
@@ -86,25 +88,30 @@ module _ (a : Input) (v : Valid a) where
   unfolding refusal
   none-refuses = none-holds (refusals a) (numbered a) v
 
-  -- a list of at most 255 tokens, and a start within it
-  pub valid-bounds : (count (a .tokens) ≤ 255) × (a .start ≤ count (a .tokens))
-  unfolding refusals lineAndList startStoresAndLimit mostTokens
+  -- a list of as many tokens as its layout allows, and a start within it
+  pub valid-bounds : (count (tokensOf a) ≤ mostTokens (a .layout)) × (a .start ≤ count (tokensOf a))
+  unfolding refusals lineAndList startStoresAndLimit
   valid-bounds =
       let h = none-refuses in
-      (ltb-false 255 (count (a .tokens)) (either-second (not (eqb (length (a .tokens) % 4) 0)) _ (h .1 .1 .0)), ltb-false (count (a .tokens)) (a .start) (h .1 .1 .1 .1 .0))
+      let few = ltb-false (mostTokens (a .layout)) (length (a .tokens) / tokenSize (a .layout)) (either-second (not (eqb (length (a .tokens) % tokenSize (a .layout)) 0)) _ (h .1 .1 .0)) in
+      (omega (arith, few, numbers-count (a .layout) (a .tokens)), ltb-false (count (tokensOf a)) (a .start) (h .1 .1 .1 .1 .0))
 
-  -- a line of at most 255 bytes, over which each token is good
-  pub valid-tokens : (length (a .line) ≤ 255) × (goodTokens (a .line) 0 (a .tokens) ≡ true)
-  unfolding refusals lineAndList longestLine
-  valid-tokens = let h = none-refuses in (ltb-false 255 (length (a .line)) (h .0), not-false _ (h .1 .1 .1 .0))
+  -- so in each layout there are at most as many as the fuel allows
+  pub valid-count : count (tokensOf a) ≤ 1023
+  valid-count = omega (arith, valid-bounds .0, most-tokens (a .layout))
 
-  -- 255 node records, and 511 free diagnostic records
-  pub valid-stores : (nodeStore ≤ length (a .nodes)) × (10 * a .used + 5110 ≤ length (a .diagnostics))
-  unfolding refusals lineAndList startStoresAndLimit freeRecords
+  -- a line of as many bytes as its layout allows, over which each token is good
+  pub valid-tokens : (length (a .line) ≤ longestLine (a .layout)) × (goodTokens (a .line) 0 (tokensOf a) ≡ true)
+  unfolding refusals lineAndList
+  valid-tokens = let h = none-refuses in (ltb-false (longestLine (a .layout)) (length (a .line)) (h .0), not-false _ (h .1 .1 .1 .0))
+
+  -- whole node records and free diagnostic records, as many as its layout asks for
+  pub valid-stores : (nodeStore (a .layout) ≤ length (a .nodes)) × (diagnosticSize (a .layout) * (a .used + freeRecords (a .layout)) ≤ length (a .diagnostics))
+  unfolding refusals lineAndList startStoresAndLimit
   valid-stores =
       let h = none-refuses in
-      let free = ltb-false (length (a .diagnostics) / 10) (a .used + 511) (h .1 .1 .1 .1 .1 .1 .0) in
-      (ltb-false (length (a .nodes)) nodeStore (h .1 .1 .1 .1 .1 .0), omega arith)
+      let free = ltb-false (length (a .diagnostics) / diagnosticSize (a .layout)) (a .used + freeRecords (a .layout)) (h .1 .1 .1 .1 .1 .1 .0) in
+      (ltb-false (length (a .nodes)) (nodeStore (a .layout)) (h .1 .1 .1 .1 .1 .0), records-within (a .layout) (a .used + freeRecords (a .layout)) (length (a .diagnostics)) free)
 
   -- "Let the caller choose the nesting limit from 1 to 128" (document 02)
   pub valid-limit : (1 ≤ a .limit) × (a .limit ≤ 128)
@@ -120,10 +127,10 @@ module _ (a : Input) (lim : 1 ≤ a .limit) where
   -- ---- condition 1
 
   -- the cursor neither goes back nor passes the end
-  pub cursor-bounds : Valid a → (a .start ≤ answered .cursor) × (answered .cursor ≤ count (a .tokens))
+  pub cursor-bounds : Valid a → (a .start ≤ answered .cursor) × (answered .cursor ≤ count (tokensOf a))
   cursor-bounds v = (
     R.forward (a .limit) (a .mark) (placeOf a) (a .start),
-    R.within (a .limit) (a .mark) (placeOf a) (count (a .tokens)) (a .start) (λ j k x h. below (a .line) (a .tokens) j k x h) (valid-bounds a v .1),
+    R.within (a .limit) (a .mark) (placeOf a) (count (tokensOf a)) (a .start) (λ j k x h. below (a .line) (tokensOf a) j k x h) (valid-bounds a v .1),
   )
 
   -- no operand is never silent, unless the start is the end or an Error token stood from there on
@@ -136,17 +143,17 @@ module _ (a : Input) (lim : 1 ≤ a .limit) where
   pub diagnostics-bound : length (answered .raised) + 2 * a .start ≤ 2 * answered .cursor + 1
   diagnostics-bound = omega (arith, R.raised-few (a .limit) lim (a .mark) (placeOf a) (a .start), R.forward (a .limit) (a .mark) (placeOf a) (a .start))
 
-  -- so 511 records are enough
-  pub records-enough : Valid a → length (answered .raised) ≤ 511
-  records-enough v = omega (arith, diagnostics-bound, cursor-bounds v .0, cursor-bounds v .1, valid-bounds a v .0)
+  -- so the records that must be free are enough: 511, and 2,047 in the wide layout
+  pub records-enough : Valid a → length (answered .raised) ≤ freeRecords (a .layout)
+  records-enough v = omega (arith, diagnostics-bound, cursor-bounds v .0, cursor-bounds v .1, valid-bounds a v .0, free-records (a .layout))
 
   -- the nodes are at most the consumed tokens
   pub nodes-bound : sizeM (answered .value) + a .start ≤ answered .cursor
   nodes-bound = R.nodes-few (a .limit) lim (a .mark) (placeOf a) (a .start)
 
-  -- so 255 of fourteen bytes are enough
-  pub nodes-enough : Valid a → 14 * sizeM (answered .value) ≤ 3570
-  nodes-enough v = omega (arith, nodes-bound, cursor-bounds v .1, valid-bounds a v .0)
+  -- so a store of one record a token is enough: 255 of fourteen bytes, and 1,023 of eighteen in the wide layout
+  pub nodes-enough : Valid a → nodeSize (a .layout) * sizeM (answered .value) ≤ nodeStore (a .layout)
+  nodes-enough v = nodes-within (a .layout) _ (omega (arith, nodes-bound, cursor-bounds v .1, valid-bounds a v .0))
 
   -- "PlusIsNotAUnaryOperator": its plus stands before the cursor, never at it
   pub plus-before-cursor : Every (λ d. Fine (placeOf a) d (answered .cursor)) (answered .raised)
@@ -160,28 +167,28 @@ abbrev pub AlikeAt : Input → Input → ℕ → Type 0
 AlikeAt a b j = placeOf a j ≡ placeOf b j
 
 -- the operand's record, or none
-abbrev pub recordM : Maybe Operand → Maybe (List ℕ)
-recordM (some x) = some (operandRecord x)
-recordM none = none
+abbrev pub recordM : Layout → Maybe Operand → Maybe (List ℕ)
+recordM w (some x) = some (operandRecord w x)
+recordM w none = none
 
 -- "Answers are the same if both have an operand, with the same record, or both have none; the cursor is the same; as many nodes are used, with the same
--- records; and as many diagnostics are added, the same records in the same order."
-pub record SameAnswer (r q : Reading (Maybe Operand)) : Type 0 where
-  pub operand : recordM (r .value) ≡ recordM (q .value)
+-- records; and as many diagnostics are added, the same records in the same order." The records are those of a layout
+pub record SameAnswer (w : Layout) (r q : Reading (Maybe Operand)) : Type 0 where
+  pub operand : recordM w (r .value) ≡ recordM w (q .value)
   pub cursor : r .cursor ≡ q .cursor
   pub nodesUsed : sizeM (r .value) ≡ sizeM (q .value)
-  pub nodes : nodesLaid (r .value) ≡ nodesLaid (q .value)
+  pub nodes : nodesLaid w (r .value) ≡ nodesLaid w (q .value)
   pub added : length (r .raised) ≡ length (q .raised)
-  pub diagnostics : diagnosticsLaid (r .raised) ≡ diagnosticsLaid (q .raised)
+  pub diagnostics : diagnosticsLaid w (r .raised) ≡ diagnosticsLaid w (q .raised)
 
-same-answer : {r q : Reading (Maybe Operand)} → r ≡ q → SameAnswer r q
-same-answer e = record {
-  operand = ap (λ r. recordM (r .value)) e;
+same-answer : (w : Layout) {r q : Reading (Maybe Operand)} → r ≡ q → SameAnswer w r q
+same-answer w e = record {
+  operand = ap (λ r. recordM w (r .value)) e;
   cursor = ap (λ r. r .cursor) e;
   nodesUsed = ap (λ r. sizeM (r .value)) e;
-  nodes = ap (λ r. nodesLaid (r .value)) e;
+  nodes = ap (λ r. nodesLaid w (r .value)) e;
   added = ap (λ r. length (r .raised)) e;
-  diagnostics = ap (λ r. diagnosticsLaid (r .raised)) e;
+  diagnostics = ap (λ r. diagnosticsLaid w (r .raised)) e;
 }
 
 -- what two inputs have in common that are given the same start, mark and limit, and are alike from the start through a place
@@ -199,43 +206,44 @@ same-reading a b lim h =
     ∙ ap (λ n. readingOf n (b .mark) (placeOf b) (b .start)) (h .limit)
 
 -- What stands behind the cursor's token changes nothing: two valid inputs alike from the start through the cursor (one place further where there is no
--- operand) have the same answer, at every limit. There is no exception.
-pub local : (a b : Input) → Valid a → Valid b → AlikeThrough a b (readingAt a .cursor + gap (readingAt a .value)) → SameAnswer (readingAt a) (readingAt b)
-local a b va vb h = same-answer (same-reading a b (valid-limit a va .0) h)
+-- operand) have the same answer, at every limit and in every layout: `w` is whichever the records are compared in. There is no exception.
+pub local : (a b : Input) → Valid a → Valid b → AlikeThrough a b (readingAt a .cursor + gap (readingAt a .value)) → (w : Layout) → SameAnswer w (readingAt a) (readingAt b)
+local a b va vb h w = same-answer w (same-reading a b (valid-limit a va .0) h)
 
 -- ---- condition 3 with its exception
 
 -- the i-th of some diagnostic records
-abbrev pub recordAt : List ℕ → ℕ → List ℕ
-recordAt D i = take 10 (drop (10 * i) D)
+abbrev pub recordAt : Layout → List ℕ → ℕ → List ℕ
+recordAt w D i = take (diagnosticSize w) (drop (diagnosticSize w * i) D)
 
 -- a record of kind 13, PlusIsNotAUnaryOperator, whose plus is the token at this place
-unfoldable pub plusAt : Place → List ℕ → Bool
-plusAt nothing x = false
-plusAt (stands t y) x = both (eqb (getD x 0 0) DiagnosticKinds.plusIsNotAUnaryOperator) (both (eqb (getD x 3 0) (t .start)) (eqb (getD x 4 0) (t .end)))
+unfoldable pub plusAt : Layout → Place → List ℕ → Bool
+plusAt w nothing x = false
+plusAt w (stands t y) x =
+    both (eqb (getD x 0 0) DiagnosticKinds.plusIsNotAUnaryOperator) (both (eqb (numberAt w x 3) (t .start)) (eqb (numberAt w x (3 + width w)) (t .end)))
 
 -- the same record; or, where one is such a plus, the same in all but the kind, which is its first byte
-pub data SameButPlus (p : Place) (x y : List ℕ) : Type 0 where
-  same : x ≡ y → SameButPlus p x y
-  plus : either (plusAt p x) (plusAt p y) ≡ true → drop 1 x ≡ drop 1 y → SameButPlus p x y
+pub data SameButPlus (w : Layout) (p : Place) (x y : List ℕ) : Type 0 where
+  same : x ≡ y → SameButPlus w p x y
+  plus : either (plusAt w p x) (plusAt w p y) ≡ true → drop 1 x ≡ drop 1 y → SameButPlus w p x y
 
 -- the same answers but for a kind 13 with its plus at this place
-pub record SameAnswerButPlus (p : Place) (r q : Reading (Maybe Operand)) : Type 0 where
-  pub operand : recordM (r .value) ≡ recordM (q .value)
+pub record SameAnswerButPlus (w : Layout) (p : Place) (r q : Reading (Maybe Operand)) : Type 0 where
+  pub operand : recordM w (r .value) ≡ recordM w (q .value)
   pub cursor : r .cursor ≡ q .cursor
   pub nodesUsed : sizeM (r .value) ≡ sizeM (q .value)
-  pub nodes : nodesLaid (r .value) ≡ nodesLaid (q .value)
+  pub nodes : nodesLaid w (r .value) ≡ nodesLaid w (q .value)
   pub added : length (r .raised) ≡ length (q .raised)
-  pub diagnostics : (i : ℕ) → SameButPlus p (recordAt (diagnosticsLaid (r .raised)) i) (recordAt (diagnosticsLaid (q .raised)) i)
+  pub diagnostics : (i : ℕ) → SameButPlus w p (recordAt w (diagnosticsLaid w (r .raised)) i) (recordAt w (diagnosticsLaid w (q .raised)) i)
 
-but-plus : (p : Place) {r q : Reading (Maybe Operand)} → SameAnswer r q → SameAnswerButPlus p r q
-but-plus p h = record {
+but-plus : {w : Layout} (p : Place) {r q : Reading (Maybe Operand)} → SameAnswer w r q → SameAnswerButPlus w p r q
+but-plus {w = w} p h = record {
   operand = h .operand;
   cursor = h .cursor;
   nodesUsed = h .nodesUsed;
   nodes = h .nodes;
   added = h .added;
-  diagnostics = λ i. SameButPlus.same (ap (λ D. recordAt D i) (h .diagnostics));
+  diagnostics = λ i. SameButPlus.same (ap (λ D. recordAt w D i) (h .diagnostics));
 }
 
 -- a reading looks at most one place past its cursor
@@ -251,12 +259,12 @@ alike-before le h = record { start = h .start; mark = h .mark; limit = h .limit;
 -- Condition 3 as it is asked for: of two valid inputs alike through the cursor (one place further where there is no operand) the answers are the same but for
 -- a kind 13 with its plus at the cursor, which is the same in all but its kind; of two alike one token further they are the same without exception.
 -- `local` gives more: the exception is never needed, since such a plus stands before the cursor (`plus-before-cursor`).
-pub two-readings : (a b : Input) → Valid a → Valid b
-    → (AlikeThrough a b (readingAt a .cursor + gap (readingAt a .value)) → SameAnswerButPlus (placeOf a (readingAt a .cursor)) (readingAt a) (readingAt b))
-    × (AlikeThrough a b (readingAt a .cursor + 1) → SameAnswer (readingAt a) (readingAt b))
-two-readings a b va vb = (
-  (λ h. but-plus _ (local a b va vb h)),
-  λ h. local a b va vb (alike-before (omega (arith, gap-one (readingAt a .value))) h),
+pub two-readings : (a b : Input) → Valid a → Valid b → (w : Layout)
+    → (AlikeThrough a b (readingAt a .cursor + gap (readingAt a .value)) → SameAnswerButPlus w (placeOf a (readingAt a .cursor)) (readingAt a) (readingAt b))
+    × (AlikeThrough a b (readingAt a .cursor + 1) → SameAnswer w (readingAt a) (readingAt b))
+two-readings a b va vb w = (
+  (λ h. but-plus _ (local a b va vb h w)),
+  λ h. local a b va vb (alike-before (omega (arith, gap-one (readingAt a .value))) h) w,
 )
 
 -- how far past the cursor document 02 asks for agreement: one token where there is no operand, and two at limit 1
@@ -276,8 +284,8 @@ further-enough limit none = go (eqb limit 1)
 -- "Condition 3 holds at every limit, for two inputs with the same one; only at limit 1, where no operand comes back, agreement two tokens further is needed"
 -- (document 02). `local` gives more: one token further is enough at limit 1 too.
 pub two-further : (a b : Input) → Valid a → Valid b → AlikeThrough a b (readingAt a .cursor + further (a .limit) (readingAt a .value))
-    → SameAnswer (readingAt a) (readingAt b)
-two-further a b va vb h = local a b va vb (alike-before (omega (arith, further-enough (a .limit) (readingAt a .value))) h)
+    → (w : Layout) → SameAnswer w (readingAt a) (readingAt b)
+two-further a b va vb h w = local a b va vb (alike-before (omega (arith, further-enough (a .limit) (readingAt a .value))) h) w
 
 -- ---- what stays
 
@@ -286,12 +294,30 @@ pub refused-stays : (a : Input) (k : ℕ) → refusal a ≡ suc k → outcome a 
 unfolding outcome outcomeOf
 refused-stays a k e = ap (outcomeOf a) e
 
+-- the used records and the added ones lie in the list
+pub added-within : (a : Input) → 1 ≤ a .limit → Valid a → diagnosticSize (a .layout) * (a .used + length (readingAt a .raised)) ≤ length (a .diagnostics)
+added-within a lim v = go (a .layout) (records-enough a lim v) (valid-stores a v .1)
+  where
+    go : (w : Layout) → length (readingAt a .raised) ≤ freeRecords w → diagnosticSize w * (a .used + freeRecords w) ≤ length (a .diagnostics)
+        → diagnosticSize w * (a .used + length (readingAt a .raised)) ≤ length (a .diagnostics)
+    go Layout.Narrow f h = omega arith
+    go Layout.Wide f h = omega arith
+
+-- the used records lie in the list
+pub used-within : (a : Input) → Valid a → diagnosticSize (a .layout) * a .used ≤ length (a .diagnostics)
+used-within a v = go (a .layout) (valid-stores a v .1)
+  where
+    go : (w : Layout) → diagnosticSize w * (a .used + freeRecords w) ≤ length (a .diagnostics) → diagnosticSize w * a .used ≤ length (a .diagnostics)
+    go Layout.Narrow h = omega arith
+    go Layout.Wide h = omega arith
+
 -- earlier diagnostics stand
-pub earlier-stand : (a : Input) → Valid a → take (10 * a .used) (outcome a .diagnostics) ≡ take (10 * a .used) (a .diagnostics)
+pub earlier-stand : (a : Input) → Valid a
+    → take (diagnosticSize (a .layout) * a .used) (outcome a .diagnostics) ≡ take (diagnosticSize (a .layout) * a .used) (a .diagnostics)
 unfolding outcome outcomeOf diagnosticsAfter
 earlier-stand a v =
-    ap (λ k. take (10 * a .used) (outcomeOf a k .diagnostics)) v
-    ∙ take-at (take (10 * a .used) (a .diagnostics)) _ (10 * a .used) (length-take-le (10 * a .used) (a .diagnostics) (omega (arith, valid-stores a v)))
+    let n = diagnosticSize (a .layout) * a .used in
+    ap (λ k. take n (outcomeOf a k .diagnostics)) v ∙ take-at (take n (a .diagnostics)) _ n (length-take-le n (a .diagnostics) (used-within a v))
 
 -- ---- the definition means what it says
 
@@ -300,12 +326,12 @@ pub fuel-never-decides : (a : Input) → Valid a → (room min : ℕ) (left : Ex
     → run (parseExpressionFrom fuel (parsePrefix fuel room) min left) (placeOf a) i l
     ≡ run (turn (parseExpressionFrom fuel (parsePrefix fuel room)) (parsePrefix fuel room) min left) (placeOf a) i l
 fuel-never-decides a v room min left i l =
-    climb-equation (placeOf a) (count (a .tokens)) (λ j k x h. below (a .line) (a .tokens) j k x h) (omega (arith, valid-bounds a v .0, fuel-enough)) room min left i l
+    climb-equation (placeOf a) (count (tokensOf a)) (λ j k x h. below (a .line) (tokensOf a) j k x h) (omega (arith, valid-count a v, fuel-enough)) room min left i l
 
 pub list-fuel-never-decides : (a : Input) → Valid a → (s : Setting) (items : List RegisterListItem) (r : Register) (i l : ℕ)
     → run (listLoop fuel s items r) (placeOf a) i l ≡ run (listItem r >>=? nextItem (listLoop fuel s) s items) (placeOf a) i l
 list-fuel-never-decides a v s items r i l =
-    list-equation (placeOf a) (count (a .tokens)) (λ j k x h. below (a .line) (a .tokens) j k x h) (omega (arith, valid-bounds a v .0, fuel-enough)) s items r i l
+    list-equation (placeOf a) (count (tokensOf a)) (λ j k x h. below (a .line) (tokensOf a) j k x h) (omega (arith, valid-count a v, fuel-enough)) s items r i l
 
 -- so a list is read as its loop says, however long it is
 pub list-loops : (a : Input) → Valid a → (s : Setting) (r : Register) (i l : ℕ)

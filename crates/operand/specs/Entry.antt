@@ -20,10 +20,13 @@ use Rattle.operand.specs.Operands.{Operand, Maybe, some, none}
 use Rattle.operand.specs.Operand.{readingOf}
 use Rattle.operand.specs.Records.{sizeM}
 use Rattle.operand.specs.Forms.{maskO}
+use Rattle.operand.specs.declared.layouts.Layout.{Layout}
+use Rattle.operand.specs.Layouts.{tokenSize, nodeSize, diagnosticSize, longestLine, mostTokens, nodeStore, freeRecords, tokenNumbers}
 use Rattle.operand.specs.Layout.{nodesLaid, diagnosticsLaid, operandRecord, operandNumber, noOperandNumber, refusedNumber}
 
--- what a call lends and gives: a line, four-byte tokens, a start, a symbol mark, a nesting limit, a node store, a diagnostic list with its used count
+-- what a call lends and gives: a layout, a line, tokens, a start, a symbol mark, a nesting limit, a node store, a diagnostic list with its used count
 pub record Input : Type 0 where
+  pub layout : Layout
   pub line : List ℕ
   pub tokens : List ℕ
   pub start : ℕ
@@ -33,48 +36,18 @@ pub record Input : Type 0 where
   pub diagnostics : List ℕ
   pub used : ℕ
 
-abbrev pub call : List ℕ → List ℕ → ℕ → ℕ → ℕ → List ℕ → List ℕ → ℕ → Input
-call L T start mark limit N D used = record { line = L; tokens = T; start = start; mark = mark; limit = limit; nodes = N; diagnostics = D; used = used }
+abbrev pub call : Layout → List ℕ → List ℕ → ℕ → ℕ → ℕ → List ℕ → List ℕ → ℕ → Input
+call w L T start mark limit N D used = record { layout = w; line = L; tokens = T; start = start; mark = mark; limit = limit; nodes = N; diagnostics = D; used = used }
+
+-- the list's numbers, four a token
+abbrev pub tokensOf : Input → List ℕ
+tokensOf a = tokenNumbers (a .layout) (a .tokens)
 
 -- what stands at each place
 abbrev pub placeOf : Input → ℕ → Place
-placeOf a j = place (a .line) (a .tokens) j
+placeOf a j = place (a .line) (tokensOf a) j
 
--- ---- limits, shut so that nothing computes them
-
--- the bytes of the longest line
-unfoldable pub longestLine : ℕ
-longestLine = 255
-
-pub longest-line : longestLine ≡ 255
-unfolding longestLine
-longest-line = refl
-
--- the tokens of the longest list
-unfoldable pub mostTokens : ℕ
-mostTokens = 255
-
-pub most-tokens : mostTokens ≡ 255
-unfolding mostTokens
-most-tokens = refl
-
--- the bytes of a node store: 255 records of fourteen
-unfoldable pub nodeStore : ℕ
-nodeStore = 3570
-
-pub node-store : nodeStore ≡ 3570
-unfolding nodeStore
-node-store = refl
-
--- the diagnostic records that must be free
-unfoldable pub freeRecords : ℕ
-freeRecords = 511
-
-pub free-records : freeRecords ≡ 511
-unfolding freeRecords
-free-records = refl
-
--- the highest nesting limit
+-- the highest nesting limit, shut so that nothing computes it
 unfoldable pub highestLimit : ℕ
 highestLimit = 128
 
@@ -131,28 +104,28 @@ abbrev pub Refusal : Type 0
 Refusal = ℕ × Bool
 
 -- long line, foreign byte, bad list
-unfoldable pub lineAndList : List ℕ → List ℕ → List Refusal
-lineAndList L T =
-    (RefusalNumbers.longLine, ltb longestLine (length L))
+unfoldable pub lineAndList : Layout → List ℕ → List ℕ → List Refusal
+lineAndList w L T =
+    (RefusalNumbers.longLine, ltb (longestLine w) (length L))
     ∷ (RefusalNumbers.foreignByte, foreign L)
-    ∷ (RefusalNumbers.badList, either (not (eqb (length T % 4) 0)) (ltb mostTokens (count T)))
+    ∷ (RefusalNumbers.badList, either (not (eqb (length T % tokenSize w) 0)) (ltb (mostTokens w) (length T / tokenSize w)))
     ∷ []
 
 -- bad start, short nodes, short diagnostics, bad limit, by the tokens' number and the stores' lengths
-unfoldable pub startStoresAndLimit : ℕ → ℕ → ℕ → ℕ → ℕ → ℕ → List Refusal
-startStoresAndLimit tokens start limit nodes diagnostics used =
+unfoldable pub startStoresAndLimit : Layout → ℕ → ℕ → ℕ → ℕ → ℕ → ℕ → List Refusal
+startStoresAndLimit w tokens start limit nodes diagnostics used =
     (RefusalNumbers.badStart, ltb tokens start)
-    ∷ (RefusalNumbers.shortNodes, ltb nodes nodeStore)
-    ∷ (RefusalNumbers.shortDiagnostics, ltb (diagnostics / 10) (used + freeRecords))
+    ∷ (RefusalNumbers.shortNodes, ltb nodes (nodeStore w))
+    ∷ (RefusalNumbers.shortDiagnostics, ltb (diagnostics / diagnosticSize w) (used + freeRecords w))
     ∷ (RefusalNumbers.badLimit, either (ltb limit 1) (ltb highestLimit limit))
     ∷ []
 
 -- the table, in the order in which it is looked through
 unfoldable pub refusals : Input → List Refusal
 refusals a =
-    lineAndList (a .line) (a .tokens)
-    ++ ((RefusalNumbers.badToken, not (goodTokens (a .line) 0 (a .tokens)))
-    ∷ startStoresAndLimit (count (a .tokens)) (a .start) (a .limit) (length (a .nodes)) (length (a .diagnostics)) (a .used))
+    lineAndList (a .layout) (a .line) (a .tokens)
+    ++ ((RefusalNumbers.badToken, not (goodTokens (a .line) 0 (tokensOf a)))
+    ∷ startStoresAndLimit (a .layout) (count (tokensOf a)) (a .start) (a .limit) (length (a .nodes)) (length (a .diagnostics)) (a .used))
 
 -- the number of the first that holds, and 0 if none does
 unfoldable pub firstOf : List Refusal → ℕ
@@ -166,13 +139,13 @@ refusal a = firstOf (refusals a)
 -- each by its name
 pub refusal-named : (a : Input)
     → refusal a
-    ≡ pick (ltb longestLine (length (a .line))) RefusalNumbers.longLine
+    ≡ pick (ltb (longestLine (a .layout)) (length (a .line))) RefusalNumbers.longLine
     (pick (foreign (a .line)) RefusalNumbers.foreignByte
-    (pick (either (not (eqb (length (a .tokens) % 4) 0)) (ltb mostTokens (count (a .tokens)))) RefusalNumbers.badList
-    (pick (not (goodTokens (a .line) 0 (a .tokens))) RefusalNumbers.badToken
-    (pick (ltb (count (a .tokens)) (a .start)) RefusalNumbers.badStart
-    (pick (ltb (length (a .nodes)) nodeStore) RefusalNumbers.shortNodes
-    (pick (ltb (length (a .diagnostics) / 10) (a .used + freeRecords)) RefusalNumbers.shortDiagnostics
+    (pick (either (not (eqb (length (a .tokens) % tokenSize (a .layout)) 0)) (ltb (mostTokens (a .layout)) (length (a .tokens) / tokenSize (a .layout)))) RefusalNumbers.badList
+    (pick (not (goodTokens (a .line) 0 (tokensOf a))) RefusalNumbers.badToken
+    (pick (ltb (count (tokensOf a)) (a .start)) RefusalNumbers.badStart
+    (pick (ltb (length (a .nodes)) (nodeStore (a .layout))) RefusalNumbers.shortNodes
+    (pick (ltb (length (a .diagnostics) / diagnosticSize (a .layout)) (a .used + freeRecords (a .layout))) RefusalNumbers.shortDiagnostics
     (pick (either (ltb (a .limit) 1) (ltb highestLimit (a .limit))) RefusalNumbers.badLimit 0)))))))
 unfolding refusal refusals lineAndList startStoresAndLimit firstOf
 refusal-named a = refl
@@ -201,23 +174,24 @@ pub record Outcome : Type 0 where
 abbrev pub readingAt : Input → Reading (Maybe Operand)
 readingAt a = readingOf (a .limit) (a .mark) (placeOf a) (a .start)
 
-unfoldable pub answerOf : Reading (Maybe Operand) → Maybe Operand → Answer
-answerOf r (some x) = operand (operandRecord x) (r .cursor) (sizeM (some x)) (length (r .raised)) (maskO x)
-answerOf r none = noOperand (r .cursor) (length (r .raised))
+unfoldable pub answerOf : Layout → Reading (Maybe Operand) → Maybe Operand → Answer
+answerOf w r (some x) = operand (operandRecord w x) (r .cursor) (sizeM (some x)) (length (r .raised)) (maskO x)
+answerOf w r none = noOperand (r .cursor) (length (r .raised))
 
--- the nodes' records, zeros up to the 255th, and the bytes past them
-unfoldable pub nodesAfter : Maybe Operand → List ℕ → List ℕ
-nodesAfter v N = nodesLaid v ++ (replicate (nodeStore - 14 * sizeM v) 0 ++ drop nodeStore N)
+-- the nodes' records, zeros up to the store's last record, and the bytes past them
+unfoldable pub nodesAfter : Layout → Maybe Operand → List ℕ → List ℕ
+nodesAfter w v N = nodesLaid w v ++ (replicate (nodeStore w - nodeSize w * sizeM v) 0 ++ drop (nodeStore w) N)
 
 -- the used records, the added ones, and the bytes past them
-unfoldable pub diagnosticsAfter : Reading (Maybe Operand) → ℕ → List ℕ → List ℕ
-diagnosticsAfter r used D = take (10 * used) D ++ (diagnosticsLaid (r .raised) ++ drop (10 * (used + length (r .raised))) D)
+unfoldable pub diagnosticsAfter : Layout → Reading (Maybe Operand) → ℕ → List ℕ → List ℕ
+diagnosticsAfter w r used D = take (diagnosticSize w * used) D ++ (diagnosticsLaid w (r .raised) ++ drop (diagnosticSize w * (used + length (r .raised))) D)
 
 -- a refusal leaves both stores as they were
 unfoldable pub outcomeOf : Input → ℕ → Outcome
 outcomeOf a zero =
     let r = readingAt a in
-    record { answer = answerOf r (r .value); nodes = nodesAfter (r .value) (a .nodes); diagnostics = diagnosticsAfter r (a .used) (a .diagnostics) }
+    let w = a .layout in
+    record { answer = answerOf w r (r .value); nodes = nodesAfter w (r .value) (a .nodes); diagnostics = diagnosticsAfter w r (a .used) (a .diagnostics) }
 outcomeOf a (suc k) = record { answer = refused (suc k); nodes = a .nodes; diagnostics = a .diagnostics }
 
 unfoldable pub outcome : Input → Outcome
@@ -235,7 +209,7 @@ pub outcome-number : (a : Input) → answerNumber (outcome a .answer) ≡ outcom
 unfolding answerNumber answerOf outcome outcomeOf readNumber outcomeNumber
 outcome-number a = go (refusal a)
   where
-    at : (r : Reading (Maybe Operand)) (v : Maybe Operand) → answerNumber (answerOf r v) ≡ readNumber v
+    at : (r : Reading (Maybe Operand)) (v : Maybe Operand) → answerNumber (answerOf (a .layout) r v) ≡ readNumber v
     at r (some x) = refl
     at r none = refl
 

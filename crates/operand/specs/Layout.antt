@@ -11,80 +11,97 @@ use Rattle.records.specs.declared.spans.Span.{Span}
 use Rattle.records.specs.declared.diagnostics.Diagnostic.{Diagnostic}
 use Rattle.expressions.specs.Reader.{Reading}
 use Rattle.operand.specs.Operands.{Operand, Maybe, some, none}
-use Rattle.operand.specs.Records.{flag, sizeO, sizeM, nodesM, diagnosticRecords}
+use Rattle.operand.specs.Records.{flag, sizeO, sizeM, nodesM}
+use Rattle.operand.specs.Layouts.{number}
+use Rattle.operand.specs.declared.layouts.Layout.{Layout}
 use Rattle.operand.specs.Forms.{recordOf}
 use Rattle.operand.specs.declared.forms.BaseRegister.{BaseRegister}
 use Rattle.operand.specs.declared.forms.Index.{Index}
 use Rattle.operand.specs.declared.forms.SizedDisplacement.{SizedDisplacement}
 use Rattle.operand.specs.declared.forms.OperandRecord.{OperandRecord}
 
--- how an offset, a node's number or a register is written: its low byte. So one that is absent is FF
+-- a byte's number, and an absent register: its low byte
 abbrev pub low : ℕ → ℕ
 low v = v % 256
 
+-- the first n records of ten numbers each, where f lays out the one that begins at a place
+unfoldable pub recordsLaid : (List ℕ → ℕ → List ℕ) → List ℕ → ℕ → List ℕ
+recordsLaid f M zero = []
+recordsLaid f M (suc n) = recordsLaid f M n ++ f M (10 * n)
+
 -- ---- nodes
 
--- a node's last eight bytes: the value of a number (kind 1), low byte first; else an own span or two registers' spans, and zeros
-unfoldable pub lastEight : ℕ → ℕ → ℕ → ℕ → ℕ → List ℕ
-lastEight kind a b c d =
-    pick (eqb kind 1) (lowFirst 2 a ++ (lowFirst 2 b ++ (lowFirst 2 c ++ lowFirst 2 d))) (low a ∷ low b ∷ low c ∷ low d ∷ zeros)
+-- four numbers of two bytes
+abbrev pub fourWords : ℕ → ℕ → ℕ → ℕ → List ℕ
+fourWords a b c d = lowFirst 2 a ++ (lowFirst 2 b ++ (lowFirst 2 c ++ lowFirst 2 d))
 
--- the record whose ten numbers begin at p, as fourteen bytes: kind, detail, left, right, span, and the last eight
-unfoldable pub nodeFrom : List ℕ → ℕ → List ℕ
-nodeFrom N p =
-    low (getD N p 0) ∷ low (getD N (p + 1) 0) ∷ low (getD N (p + 2) 0) ∷ low (getD N (p + 3) 0) ∷ low (getD N (p + 4) 0) ∷ low (getD N (p + 5) 0)
-    ∷ lastEight (getD N p 0) (getD N (p + 6) 0) (getD N (p + 7) 0) (getD N (p + 8) 0) (getD N (p + 9) 0)
+-- a node's last eight bytes: the value of a number (kind 1), low byte first; else an own span or two registers' spans, and zeros
+unfoldable pub lastEight : Layout → ℕ → ℕ → ℕ → ℕ → ℕ → List ℕ
+lastEight Layout.Narrow kind a b c d = pick (eqb kind 1) (fourWords a b c d) (low a ∷ low b ∷ low c ∷ low d ∷ zeros)
+lastEight Layout.Wide kind a b c d = fourWords a b c d
+
+-- the record whose ten numbers begin at p: kind, detail, left, right, span, and the last eight
+unfoldable pub nodeFrom : Layout → List ℕ → ℕ → List ℕ
+nodeFrom w N p =
+    low (getD N p 0) ∷ low (getD N (p + 1) 0)
+    ∷ (number w (getD N (p + 2) 0) ++ (number w (getD N (p + 3) 0) ++ (number w (getD N (p + 4) 0) ++ (number w (getD N (p + 5) 0)
+    ++ lastEight w (getD N p 0) (getD N (p + 6) 0) (getD N (p + 7) 0) (getD N (p + 8) 0) (getD N (p + 9) 0)))))
 
 -- the first n records
-unfoldable pub nodeBytes : List ℕ → ℕ → List ℕ
-nodeBytes N zero = []
-nodeBytes N (suc n) = nodeBytes N n ++ nodeFrom N (10 * n)
+abbrev pub nodeBytes : Layout → List ℕ → ℕ → List ℕ
+nodeBytes w N n = recordsLaid (nodeFrom w) N n
 
 -- an operand's, or none
-abbrev pub nodesLaid : Maybe Operand → List ℕ
-nodesLaid v = nodeBytes (nodesM v) (sizeM v)
+abbrev pub nodesLaid : Layout → Maybe Operand → List ℕ
+nodesLaid w v = nodeBytes w (nodesM v) (sizeM v)
 
--- ---- diagnostics: ten numbers, ten bytes
+-- ---- diagnostics
 
-unfoldable pub lows : List ℕ → List ℕ
-lows [] = []
-lows (v ∷ vs) = low v ∷ lows vs
+-- a span, or two registers
+abbrev pub spanLaid : Layout → Span → List ℕ
+spanLaid w s = number w (s .start) ++ number w (s .end)
 
-abbrev pub diagnosticsLaid : List Diagnostic → List ℕ
-diagnosticsLaid ds = lows (diagnosticRecords ds)
+-- kind, shape, problem, span, text, related, and whether there is a related one
+unfoldable pub diagnosticLaid : Layout → Diagnostic → List ℕ
+diagnosticLaid w d =
+    low (d .kind) ∷ low (d .shape) ∷ low (d .problem) ∷ (spanLaid w (d .span) ++ (spanLaid w (d .text) ++ (spanLaid w (d .related) ++ (low (d .«has_related») ∷ []))))
 
--- ---- the operand's twenty bytes
+unfoldable pub diagnosticsLaid : Layout → List Diagnostic → List ℕ
+diagnosticsLaid w [] = []
+diagnosticsLaid w (d ∷ ds) = diagnosticLaid w d ++ diagnosticsLaid w ds
+
+-- ---- the operand
 
 -- a byte and a span
-abbrev pub spanned : ℕ → Span → List ℕ
-spanned n s = n ∷ low (s .start) ∷ low (s .end) ∷ []
+abbrev pub spanned : Layout → ℕ → Span → List ℕ
+spanned w n s = n ∷ spanLaid w s
 
 -- the node and the size of a displacement
-unfoldable pub sizedPart : SizedDisplacement → List ℕ
-sizedPart (SizedDisplacement.Is d) = low (d .node) ∷ d .size ∷ []
-sizedPart SizedDisplacement.Not = low absent ∷ 0 ∷ []
+unfoldable pub sizedPart : Layout → SizedDisplacement → List ℕ
+sizedPart w (SizedDisplacement.Is d) = number w (d .node) ++ (d .size ∷ [])
+sizedPart w SizedDisplacement.Not = number w absent ++ (0 ∷ [])
 
 -- a base has its span only where it is a register that stands there; a suppressed address register has the number 0 to 7
-unfoldable pub basePart : BaseRegister → List ℕ
-basePart (BaseRegister.Address r) = spanned (r .index) (r .span)
-basePart BaseRegister.ProgramCounter = spanned 32 noSpan
-basePart (BaseRegister.SuppressedAddress n) = spanned (24 + n % 8) noSpan
-basePart BaseRegister.SuppressedProgramCounter = spanned 33 noSpan
-basePart BaseRegister.Omitted = spanned (low absent) noSpan
+unfoldable pub basePart : Layout → BaseRegister → List ℕ
+basePart w (BaseRegister.Address r) = spanned w (r .index) (r .span)
+basePart w BaseRegister.ProgramCounter = spanned w 32 noSpan
+basePart w (BaseRegister.SuppressedAddress n) = spanned w (24 + n % 8) noSpan
+basePart w BaseRegister.SuppressedProgramCounter = spanned w 33 noSpan
+basePart w BaseRegister.Omitted = spanned w (low absent) noSpan
 
 -- register and its span; size, scale, suppressed, and the whole span
-unfoldable pub indexPart : Index → List ℕ
-indexPart (Index.Indexed x) = spanned (x .register .index) (x .register .span) ++ (x .size ∷ x .scale ∷ spanned (flag (x .suppressed)) (x .span))
-indexPart Index.Unindexed = spanned (low absent) noSpan ++ (0 ∷ 0 ∷ spanned 0 noSpan)
+unfoldable pub indexPart : Layout → Index → List ℕ
+indexPart w (Index.Indexed x) = spanned w (x .register .index) (x .register .span) ++ (x .size ∷ x .scale ∷ spanned w (flag (x .suppressed)) (x .span))
+indexPart w Index.Unindexed = spanned w (low absent) noSpan ++ (0 ∷ 0 ∷ spanned w 0 noSpan)
 
 -- form and span; displacement; base; index; indirection; outer displacement; special register, or 1 for long
-unfoldable pub bytesOf : OperandRecord → List ℕ
-bytesOf r =
-    spanned (r .form) (r .span)
-    ++ (sizedPart (r .displacement) ++ (basePart (r .base) ++ (indexPart (r .index) ++ (r .indirection ∷ sizedPart (r .outer) ++ (r .special ∷ [])))))
+unfoldable pub bytesOf : Layout → OperandRecord → List ℕ
+bytesOf w r =
+    spanned w (r .form) (r .span)
+    ++ (sizedPart w (r .displacement) ++ (basePart w (r .base) ++ (indexPart w (r .index) ++ (r .indirection ∷ sizedPart w (r .outer) ++ (r .special ∷ [])))))
 
-abbrev pub operandRecord : Operand → List ℕ
-operandRecord x = bytesOf (recordOf x)
+abbrev pub operandRecord : Layout → Operand → List ℕ
+operandRecord w x = bytesOf w (recordOf x)
 
 -- ---- the program's answer
 
@@ -98,8 +115,12 @@ noOperandNumber = 1
 abbrev pub refusedNumber : ℕ
 refusedNumber = 2
 
--- the case's number, the cursor, the nodes used, the diagnostics (two bytes, low first), and the records
-unfoldable pub answerLine : Reading (Maybe Operand) → Maybe Operand → List ℕ
-answerLine r (some x) =
-    operandNumber ∷ r .cursor ∷ sizeO x ∷ (lowFirst 2 (length (r .raised)) ++ (operandRecord x ++ (nodesLaid (some x) ++ diagnosticsLaid (r .raised))))
-answerLine r none = noOperandNumber ∷ r .cursor ∷ 0 ∷ (lowFirst 2 (length (r .raised)) ++ diagnosticsLaid (r .raised))
+-- an answer's beginning: the case's number, the cursor, the nodes used, the diagnostics (two bytes in both layouts)
+unfoldable pub headLaid : Layout → ℕ → ℕ → ℕ → ℕ → List ℕ
+headLaid w k cursor n d = k ∷ (number w cursor ++ (number w n ++ lowFirst 2 d))
+
+-- and the records
+unfoldable pub answerLine : Layout → Reading (Maybe Operand) → Maybe Operand → List ℕ
+answerLine w r (some x) =
+    headLaid w operandNumber (r .cursor) (sizeO x) (length (r .raised)) ++ (operandRecord w x ++ (nodesLaid w (some x) ++ diagnosticsLaid w (r .raised)))
+answerLine w r none = headLaid w noOperandNumber (r .cursor) 0 (length (r .raised)) ++ diagnosticsLaid w (r .raised)

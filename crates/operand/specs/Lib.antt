@@ -6,6 +6,7 @@ pub mod Records
 pub mod Mask
 pub mod FormNumbers
 pub mod Forms
+pub mod Layouts
 pub mod Layout
 pub mod RefusalNumbers
 pub mod Entry
@@ -22,4 +23,5 @@ pub mod Limits
 pub mod Offsets
 pub mod Numbering
 pub mod Lengths
+pub mod Widened
 pub mod MaskRule

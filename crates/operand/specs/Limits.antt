@@ -1,23 +1,26 @@
 -- The nesting limit, of which document 02 says: "A reading that raises no NestingTooDeep at one limit has the same answer at every higher one."
 -- Assumes nothing.
-use mathlib.Core.Path.{_≡_, refl, ap₂}
+use mathlib.Core.Path.{_≡_, refl, sym, _∙_, ap, ap₂}
 use mathlib.Core.Bool.{false}
-use mathlib.Core.List.{List, [], _∷_}
-use Prim.Native.Nat.{ℕ, suc, _*_, _≤_, _<_}
+use mathlib.Core.List.{List, [], _∷_, _++_}
+use Prim.Native.Nat.{ℕ, suc, _+_, _*_, _≤_, _<_}
+use native.Mathlib.Nat.{add-comm, mul-suc}
 use native.Mathlib.Omega.{arith}
 use borrow.Author.Tests.{le-ltb}
 use lib.Dec.{ltb}
-use lib.ListN.{length, getD}
+use lib.ListN.{length, take, drop, getD}
+use lib.Seq.{drop-append-add}
 use Rattle.names.specs.Choice.{either}
 use Rattle.names.specs.Places.{Place}
 use Rattle.records.specs.DiagnosticKinds
-use Rattle.records.specs.Diagnostics.{diagnosticRecord}
 use Rattle.records.specs.declared.diagnostics.Diagnostic.{Diagnostic}
 use Rattle.expressions.specs.Laws.{Every}
 use Rattle.expressions.specs.Limits.{NotTooDeep, expression-higher, expression-from-higher}
 use Rattle.operand.specs.Operand.{readingOf}
-use Rattle.operand.specs.Records.{diagnosticRecords}
-use Rattle.operand.specs.Layout.{lows, diagnosticsLaid}
+use Rattle.operand.specs.declared.layouts.Layout.{Layout}
+use Rattle.operand.specs.Layouts.{diagnosticSize}
+use Rattle.operand.specs.Layout.{low, diagnosticLaid, diagnosticsLaid}
+use Rattle.operand.specs.Lengths.{length-diagnostic-laid}
 use Rattle.operand.specs.Entry.{Input, placeOf, highestLimit, startStoresAndLimit, refusals, refusal, readingAt, outcome}
 use Rattle.operand.specs.Conditions.{recordAt}
 use Rattle.operand.specs.Settings.{reading-alike, withSetting, outcome-alike}
@@ -59,13 +62,26 @@ higher-limit a n h calm = outcome-alike a (a .mark) n (refusal-limited a n h) (r
 -- ---- as a caller sees it: by the kinds of the records
 
 -- no record of these is of kind 6
-abbrev pub NoneTooDeep : List ℕ → ℕ → Type 0
-NoneTooDeep D added = (i : ℕ) → i < added → getD (recordAt D i) 0 0 ≡ DiagnosticKinds.nestingTooDeep → ⊥
+abbrev pub NoneTooDeep : Layout → List ℕ → ℕ → Type 0
+NoneTooDeep w D added = (i : ℕ) → i < added → getD (recordAt w D i) 0 0 ≡ DiagnosticKinds.nestingTooDeep → ⊥
 
-pub none-too-deep : (ds : List Diagnostic) → NoneTooDeep (diagnosticsLaid ds) (length ds) → Every NotTooDeep ds
-unfolding diagnosticRecords diagnosticRecord lows
-none-too-deep [] h = tt
-none-too-deep (d ∷ ds) h = (
-  (λ e. h 0 (omega arith) (omega (arith, e))),
-  none-too-deep ds λ i l e. h (suc i) (omega arith) (let n : 10 * suc i ≡ suc (suc (suc (suc (suc (suc (suc (suc (suc (suc (10 * i)))))))))) = omega arith in rw n e),
+-- a record's first byte is its kind
+first-kind : (w : Layout) (d : Diagnostic) (D : List ℕ) → getD (recordAt w (diagnosticLaid w d ++ D) 0) 0 0 ≡ low (d .kind)
+unfolding diagnosticLaid
+first-kind Layout.Narrow d D = refl
+first-kind Layout.Wide d D = refl
+
+-- the records behind the first
+later-record : (w : Layout) (d : Diagnostic) (D : List ℕ) (i : ℕ) → recordAt w (diagnosticLaid w d ++ D) (suc i) ≡ recordAt w D i
+later-record w d D i =
+    ap (λ n. take (diagnosticSize w) (drop n (diagnosticLaid w d ++ D)))
+    (mul-suc (diagnosticSize w) i ∙ add-comm (diagnosticSize w * i) (diagnosticSize w) ∙ ap (λ n. n + diagnosticSize w * i) (sym (length-diagnostic-laid w d)))
+    ∙ ap (take (diagnosticSize w)) (drop-append-add (diagnosticLaid w d) D (diagnosticSize w * i))
+
+pub none-too-deep : (w : Layout) (ds : List Diagnostic) → NoneTooDeep w (diagnosticsLaid w ds) (length ds) → Every NotTooDeep ds
+unfolding diagnosticsLaid
+none-too-deep w [] h = tt
+none-too-deep w (d ∷ ds) h = (
+  (λ e. h 0 (omega arith) (first-kind w d (diagnosticsLaid w ds) ∙ ap low e)),
+  none-too-deep w ds λ i l e. h (suc i) (omega arith) (ap (λ x. getD x 0 0) (later-record w d (diagnosticsLaid w ds) i) ∙ e),
 )

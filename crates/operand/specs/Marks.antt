@@ -11,7 +11,7 @@ use Rattle.names.specs.Places.{Place, stands, place, below}
 use Rattle.names.specs.declared.tokens.Token.{Token}
 use Rattle.expressions.specs.Alike.{Any, alike-run, same-alike}
 use Rattle.operand.specs.Operand.{readingOf}
-use Rattle.operand.specs.Entry.{Input, placeOf, refusals, refusal, readingAt, outcome}
+use Rattle.operand.specs.Entry.{Input, tokensOf, placeOf, refusals, refusal, readingAt, outcome}
 use Rattle.operand.specs.Settings.{reading-alike, withSetting, outcome-alike}
 
 -- two marks that agree wherever a token stands give the same reading
@@ -44,10 +44,10 @@ MarksAgree a n = (i : ℕ) (k : Token) (x : List ℕ) → placeOf a i ≡ stands
 
 -- both are at or past the token count
 abbrev pub MarksPast : Input → ℕ → Type 0
-MarksPast a n = (count (a .tokens) ≤ a .mark) × (count (a .tokens) ≤ n)
+MarksPast a n = (count (tokensOf a) ≤ a .mark) × (count (tokensOf a) ≤ n)
 
 pub marks-agree : (a : Input) (n : ℕ) → MarksPast a n → MarksAgree a n
-marks-agree a n h = past-agree (a .line) (a .tokens) (a .mark) n (h .0) (h .1)
+marks-agree a n h = past-agree (a .line) (tokensOf a) (a .mark) n (h .0) (h .1)
 
 -- no refusal looks at the mark
 pub refusal-same : (a : Input) (n : ℕ) → refusal a ≡ refusal (remarked a n)

@@ -1,4 +1,4 @@
--- The numbers of nodes: a child's is below its parent's, and all are below the nodes used. So in a valid input each is a byte, and its low byte is itself.
+-- The numbers of nodes: a child's is below its parent's, and all are below the nodes used. So in a valid input each is written whole (`Layouts.number-read`).
 -- Assumes nothing.
 use Prim.Native.Nat.{ℕ, _+_, _-_, _<_, _≤_}
 use native.Mathlib.Omega.{arith}
@@ -8,6 +8,8 @@ use Rattle.operand.specs.Operands.{Displacement, displaced, undisplaced,
 use Rattle.operand.specs.Operands as O
 use Rattle.operand.specs.Records.{sizeD, sizeO, sizeM}
 use Rattle.operand.specs.Forms.{sizedOf, recordOf}
+use Rattle.operand.specs.declared.layouts.Layout.{Layout}
+use Rattle.operand.specs.Layouts.{mostTokens}
 use Rattle.operand.specs.Entry.{Input, readingAt}
 use Rattle.operand.specs.Conditions.{Valid, valid-bounds, valid-limit, nodes-bound, cursor-bounds}
 use Rattle.operand.specs.declared.forms.SizedDisplacement.{SizedDisplacement}
@@ -67,15 +69,20 @@ record-in m (O.registerList items s) z h = (z, tt)
 
 -- ---- the law
 
+some-tokens : (w : Layout) → 0 < mostTokens w
+unfolding mostTokens
+some-tokens Layout.Narrow = omega arith
+some-tokens Layout.Wide = omega arith
+
 abbrev pub AnswerIn : ℕ → Maybe Operand → Type 0
 AnswerIn m (some x) = NodesIn m (recordOf x)
 AnswerIn m none = Unit {0}
 
--- below 255, so that none is taken for an absent one either
-pub numbers-bytes : (a : Input) → Valid a → AnswerIn 255 (readingAt a .value)
+-- below the most tokens, so that none is taken for an absent one either
+pub numbers-written : (a : Input) → Valid a → AnswerIn (mostTokens (a .layout)) (readingAt a .value)
 unfolding sizeM
-numbers-bytes a v = let lim = valid-limit a v .0 in go (readingAt a .value) (omega (arith, nodes-bound a lim, cursor-bounds a lim v .1, valid-bounds a v .0))
+numbers-written a v = let lim = valid-limit a v .0 in go (readingAt a .value) (omega (arith, nodes-bound a lim, cursor-bounds a lim v .1, valid-bounds a v .0))
   where
-    go : (z : Maybe Operand) → sizeM z ≤ 255 → AnswerIn 255 z
-    go (some x) h = record-in 255 x (omega arith) h
+    go : (z : Maybe Operand) → sizeM z ≤ mostTokens (a .layout) → AnswerIn (mostTokens (a .layout)) z
+    go (some x) h = record-in _ x (some-tokens (a .layout)) h
     go none h = tt

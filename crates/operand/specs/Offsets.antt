@@ -1,11 +1,11 @@
--- The law that an offset fits: for a valid input, no offset that a reading leaves lies past the line. So one that is written as its low byte loses nothing.
+-- The law that an offset fits: for a valid input, no offset that a reading leaves lies past the line. So one that is written in the bytes of its layout loses nothing.
 -- Assumes nothing.
 pub mod Operands
 pub mod Readers
 use mathlib.Core.Path.{_≡_, refl}
 use mathlib.Core.Bool.{Bool, true, false}
 use mathlib.Core.List.{List, [], _∷_}
-use Prim.Native.Nat.{ℕ, zero, suc, _+_, _*_, _%_, _≤_, _<_}
+use Prim.Native.Nat.{ℕ, zero, suc, _+_, _*_, _≤_, _<_}
 use native.Mathlib.Omega.{arith}
 use borrow.Author.Tests.{leb-true, leb-false}
 use lib.Dec.{leb}
@@ -23,7 +23,9 @@ use Rattle.expressions.specs.Laws.{Every}
 use Rattle.expressions.specs.Offsets.{SpanIn, DiagnosticIn, TokensIn, Fits, answers, sees}
 use Rattle.operand.specs.Operands.{Operand, Maybe}
 use Rattle.operand.specs.Operand.{parseOperand, readingOf}
-use Rattle.operand.specs.Entry.{Input, placeOf, goodToken, goodTokens, readingAt}
+use Rattle.operand.specs.declared.layouts.Layout.{Layout}
+use Rattle.operand.specs.Layouts.{number, numberAt, number-read, longestLine, numbers-fit}
+use Rattle.operand.specs.Entry.{Input, tokensOf, placeOf, goodToken, goodTokens, readingAt}
 use Rattle.operand.specs.Conditions.{Valid, valid-tokens}
 pub use Operands.{RegisterIn, IndexRegisterIn, BaseIn, IndexIn, RegistersIn, DisplacementIn, ItemIn, ItemsIn, OperandIn, MaybeIn}
 use Readers.{operand-from-fits}
@@ -78,12 +80,11 @@ tokens-in m L T long good = record { tokens = λ j k x h. go j k x (leb (count T
 
 -- m: the line's length, or any number from there on
 pub offsets-in : (a : Input) → Valid a → (m : ℕ) → length (a .line) ≤ m → ReadingIn m (readingAt a)
-offsets-in a valid m long = reading-in m (a .limit) (a .mark) (placeOf a) (a .start) (tokens-in m (a .line) (a .tokens) long (valid-tokens a valid .1))
+offsets-in a valid m long = reading-in m (a .limit) (a .mark) (placeOf a) (a .start) (tokens-in m (a .line) (tokensOf a) long (valid-tokens a valid .1))
 
--- so that each is a byte
-pub offsets-bytes : (a : Input) → Valid a → ReadingIn 255 (readingAt a)
-offsets-bytes a valid = offsets-in a valid 255 (valid-tokens a valid .0)
+-- so that each is written whole
+pub offsets-written : (a : Input) → Valid a → ReadingIn (longestLine (a .layout)) (readingAt a)
+offsets-written a valid = offsets-in a valid (longestLine (a .layout)) (valid-tokens a valid .0)
 
--- and its low byte
-pub span-low : (s : Span) → SpanIn 255 s → (s .start % 256 ≡ s .start) × (s .end % 256 ≡ s .end)
-span-low s h = omega arith
+pub span-written : (w : Layout) (s : Span) → SpanIn (longestLine w) s → (numberAt w (number w (s .start)) 0 ≡ s .start) × (numberAt w (number w (s .end)) 0 ≡ s .end)
+span-written w s h = let f = numbers-fit w .0 in (number-read w (s .start) (omega arith), number-read w (s .end) (omega arith))

@@ -2,7 +2,7 @@
 -- Assumes nothing.
 use Prim.Native.Nat.{ℕ}
 
--- over 255 bytes
+-- over 255 bytes, or 4,095 in the wide layout
 abbrev pub longLine : ℕ
 longLine = 1
 
@@ -10,7 +10,7 @@ longLine = 1
 abbrev pub foreignByte : ℕ
 foreignByte = 2
 
--- no whole tokens, or over 255
+-- no whole tokens, or over 255, or 1,023 in the wide layout
 abbrev pub badList : ℕ
 badList = 3
 

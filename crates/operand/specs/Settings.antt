@@ -265,7 +265,7 @@ reading-alike P at limit limit′ m n agree expression expression-from i =
 
 -- the same input with another mark and limit
 abbrev pub withSetting : Input → ℕ → ℕ → Input
-withSetting a mark limit = call (a .line) (a .tokens) (a .start) mark limit (a .nodes) (a .diagnostics) (a .used)
+withSetting a mark limit = call (a .layout) (a .line) (a .tokens) (a .start) mark limit (a .nodes) (a .diagnostics) (a .used)
 
 -- refused alike and read alike, it has the same answer, and the same bytes in both stores
 pub outcome-alike : (a : Input) (mark limit : ℕ) → refusal a ≡ refusal (withSetting a mark limit) → readingAt a ≡ readingAt (withSetting a mark limit)
@@ -275,5 +275,5 @@ outcome-alike a mark limit e f = go (refusal a) ∙ ap (outcomeOf (withSetting a
   where
     go : (k : ℕ) → outcomeOf a k ≡ outcomeOf (withSetting a mark limit) k
     go zero =
-        ap (λ (r : Reading (Maybe Operand)). record { answer = answerOf r (r .value); nodes = nodesAfter (r .value) (a .nodes); diagnostics = diagnosticsAfter r (a .used) (a .diagnostics) }) f
+        ap (λ (r : Reading (Maybe Operand)). record { answer = answerOf (a .layout) r (r .value); nodes = nodesAfter (a .layout) (r .value) (a .nodes); diagnostics = diagnosticsAfter (a .layout) r (a .used) (a .diagnostics) }) f
     go (suc k) = refl

@@ -6,7 +6,7 @@ use mathlib.Core.List.{List, [], _∷_, _++_}
 use Prim.Native.Nat.{ℕ, zero, suc, _+_, _*_}
 use Prim.Native.String.{String}
 use lib.Dec.{eqb}
-use lib.ListN.{getD, replicate}
+use lib.ListN.{replicate}
 use Rattle.names.specs.Choice.{both}
 use Rattle.names.specs.Kinds
 use Rattle.names.specs.Places.{place}
@@ -19,7 +19,9 @@ use Rattle.expressions.specs.Examples.{shown, ownIs}
 use Rattle.operand.specs.Operands.{Displacement, displaced, undisplaced, Operand, Maybe, some, none}
 use Rattle.operand.specs.Operands as O
 use Rattle.operand.specs.Operand.{readingOf}
-use Rattle.operand.specs.Layout.{operandRecord, answerLine}
+use Rattle.operand.specs.Forms.{recordOf}
+use Rattle.operand.specs.declared.layouts.Layout.{Layout}
+use Rattle.operand.specs.Layout.{answerLine}
 use Rattle.names.specs.Tokens as Names·Tokens
 use Rattle.names.specs.Places as Names·Places
 use Rattle.names.specs.Letters as Names·Letters
@@ -36,12 +38,13 @@ use Rattle.expressions.specs.Examples as Expressions·Examples
 use Rattle.operand.specs.Operand as Operand·Operand
 use Rattle.operand.specs.Records as Operand·Records
 use Rattle.operand.specs.Forms as Operand·Forms
+use Rattle.operand.specs.Layouts as Operand·Layouts
 use Rattle.operand.specs.Layout as Operand·Layout
 
 -- what is claimed of a line
 pub data Claim : Type 0 where
-  -- the program's answer, in hexadecimal
-  answers : String → Claim
+  -- the program's answer in a layout, in hexadecimal
+  answers : Layout → String → Claim
   form : ℕ → Claim
   noOperand : Claim
   cursor : ℕ → Claim
@@ -55,7 +58,7 @@ pub data Claim : Type 0 where
   span : ℕ → ℕ → Claim
   name : ℕ → ℕ → Claim
 
--- a text with its tokens, four bytes each, and the nesting limit
+-- a text with its tokens, four numbers each, and the nesting limit
 pub record Trial : Type 0 where
   pub text : List ℕ
   pub tokens : List ℕ
@@ -114,7 +117,7 @@ treeM (some x) = treeO x
 treeM none = none
 
 unfoldable pub formIs : ℕ → Maybe Operand → Bool
-formIs n (some x) = eqb (getD (operandRecord x) 0 0) n
+formIs n (some x) = eqb (recordOf x .form) n
 formIs n none = false
 
 unfoldable pub isNone : Maybe Operand → Bool
@@ -122,7 +125,7 @@ isNone (some x) = false
 isNone none = true
 
 unfoldable pub meets : Reading (Maybe Operand) → Claim → Bool
-meets r (answers t) = same (answerLine r (r .value)) (hexadecimal (bytes t))
+meets r (answers w t) = same (answerLine w r (r .value)) (hexadecimal (bytes t))
 meets r (form n) = formIs n (r .value)
 meets r noOperand = isNone (r .value)
 meets r (cursor n) = eqb (r .cursor) n
@@ -175,14 +178,31 @@ minusTokens at (suc n) = sign Kinds.minus at (minusTokens (at + 1) n)
 unfoldable pub minuses : ℕ → ℕ → List Claim → Trial
 minuses limit n cs = record { text = replicate n 45 ++ (49 ∷ []); tokens = minusTokens 0 n; limit = limit; claims = cs }
 
+-- `d0` behind n spaces
+unfoldable pub behindSpaces : ℕ → List Claim → Trial
+behindSpaces n cs = record { text = replicate n 32 ++ bytes "d0"; tokens = register n []; limit = 64; claims = cs }
+
 unfoldable pub table : List Trial
 table =
     trial "4(a0)" (digit 0 (sign Kinds.leftParen 1 (register 2 (sign Kinds.rightParen 4 []))))
-    (answers "00040100000800050000080204ff0000000000000000ff00000100ffff00010400000000000000" ∷ [])
+    (answers Layout.Narrow "00040100000800050000080204ff0000000000000000ff00000100ffff00010400000000000000"
+    ∷ answers Layout.Wide "0004000100000008000005000000000802000400ff000000000000000000000000ffff00000100ffffffff000001000400000000000000"
+    ∷ [])
     ∷ trial "" [] (noOperand ∷ cursor 0 ∷ kinds [] ∷ [])
     ∷ trial "(d0)" (sign Kinds.leftParen 0 (register 1 (sign Kinds.rightParen 3 []))) (form 12 ∷ kinds [] ∷ [])
     ∷ trial "(pc)" (sign Kinds.leftParen 0 (register 1 (sign Kinds.rightParen 3 []))) (noOperand ∷ kinds (7 ∷ []) ∷ problem 4 ∷ [])
-    ∷ trial "a0-d0" (register 0 (sign Kinds.minus 2 (register 3 []))) (form 14 ∷ kinds (10 ∷ []) ∷ [])
+    -- registers in the places of children and of a text: their high bytes are 0
+    ∷ trial "a0-d0" (register 0 (sign Kinds.minus 2 (register 3 [])))
+    (form 14
+    ∷ kinds (10 ∷ [])
+    ∷ answers Layout.Wide "000300010001000e00000500000000ff00000000ff000000000000000000000000ffff00000800080000000000050000000200030005000a000000000500080000000000000000"
+    ∷ [])
+    ∷ trial "d1/a0" (register 0 (sign Kinds.slash 2 (register 3 [])))
+    (form 14
+    ∷ answers Layout.Wide "000300020000000e00000500000000ff00000000ff000000000000000000000000ffff0000070001000100000002000000020000000200070008000800030005000300050003000500"
+    ∷ [])
+    -- an offset that only the wide layout has
+    ∷ behindSpaces 300 (answers Layout.Wide "00010000000000022c012e01ffff00002c012e01ff000000000000000000000000ffff0000" ∷ [])
     ∷ trial "d0-d1-d2" (register 0 (sign Kinds.minus 2 (register 3 (sign Kinds.minus 5 (register 6 []))))) (form 14 ∷ cursor 3 ∷ kinds [] ∷ [])
     ∷ trial "1+2*/3" (digit 0 (sign Kinds.plus 1 (digit 2 (sign Kinds.star 3 (sign Kinds.slash 4 (digit 5 [])))))) (tree "((1+2)/3)" ∷ kinds (12 ∷ []) ∷ [])
     ∷ trial "2*3&1" (digit 0 (sign Kinds.star 1 (digit 2 (sign Kinds.ampersand 3 (digit 4 []))))) (tree "(2*(3&1))" ∷ kinds [] ∷ [])
@@ -214,5 +234,5 @@ table =
 
 -- each line is read as claimed
 pub trials : holdForAll table ≡ true
-unfolding Expressions·Examples.shown Expressions·Examples.ownIs Names·Tokens.tokenAt Names·Tokens.detailDefined Names·Places.textOf Names·Places.placed Names·Places.place Names·Letters.lower Names·Letters.lowered Names·Letters.same Names·Letters.spelled Names·Registers.pair Names·Registers.register Names·Registers.registerOf Names·Registers.programCounter Names·Registers.numbered Names·Registers.specialOf Names·Registers.suppressing Names·Registers.suppressed Names·Registers.suppressedOf Names·Registers.oneOf Names·Registers.reserved Names·Sizes.runOf Names·Sizes.letterSize Names·Sizes.sizeOf Names·Numbers.radixOf Names·Numbers.width Names·Numbers.figure Names·Numbers.scan Names·Numbers.digitsOf Names·Numbers.inBase Names·Numbers.baseOf Names·Numbers.numberOf Expressions·Trees.spanE Expressions·Trees.withSpan Expressions·Trees.size Records·Diagnostics.diagnosticRecord Expressions·Reader.met Expressions·Reader.run Expressions·Reader.reach Expressions·Expressions.known Expressions·Expressions.suffixRun Expressions·Expressions.takeSizeSuffix Expressions·Expressions.precedence Expressions·Expressions.binaryOperator Expressions·Expressions.operator Expressions·Expressions.operated Expressions·Expressions.parseExpressionFrom Expressions·Expressions.climbed Expressions·Expressions.parseExpressionOf Expressions·Expressions.isUnary Expressions·Expressions.unaryOperator Expressions·Expressions.negated Expressions·Expressions.plussed Expressions·Expressions.valued Expressions·Expressions.named Expressions·Expressions.grouped Expressions·Expressions.numberTerm Expressions·Expressions.leafTerm Expressions·Expressions.parsePrefixTerm Expressions·Expressions.tooDeep Expressions·Expressions.parsePrefix Expressions·Expressions.fuel Expressions·Expressions.parseExpression Expressions·Expressions.expressionFrom Records·Nodes.lowFirst Records·Nodes.words Expressions·Records.nodes Operand·Operand.isAddress Operand·Operand.isSuppressed Operand·Operand.isSuppressedRegister Operand·Operand.isSuppressedAddress Operand·Operand.aRegister Operand·Operand.anAddressRegister Operand·Operand.aProgramCounter Operand·Operand.unmarked Operand·Operand.anIndex Operand·Operand.aBaseOrAnIndex Operand·Operand.indexOf Operand·Operand.suppressedIndex Operand·Operand.registerFrom Operand·Operand.malformed Operand·Operand.unclosed Operand·Operand.steppedOver Operand·Operand.notAnAddressRegister Operand·Operand.immediateSize Operand·Operand.orAbsent Operand·Operand.parseImmediate Operand·Operand.expectClose Operand·Operand.over Operand·Operand.orNone Operand·Operand.predecrementClose Operand·Operand.parsePredecrement Operand·Operand.registerExpected Operand·Operand.ranged Operand·Operand.listItem Operand·Operand.listed Operand·Operand.nextItem Operand·Operand.listLoop Operand·Operand.parseRegisterList Operand·Operand.registerDirect Operand·Operand.parseRegisterOperand Operand·Operand.scaleOf Operand·Operand.scaled Operand·Operand.indexScale Operand·Operand.indexSize Operand·Operand.indexRegister Operand·Operand.parseIndexRegister Operand·Operand.baseShape Operand·Operand.indexedOperand Operand·Operand.closedBase Operand·Operand.afterBase Operand·Operand.closedCounter Operand·Operand.afterCounter Operand·Operand.parseBaseAndIndex Operand·Operand.afterBaseRegister Operand·Operand.sizeOrScale Operand·Operand.noBase Operand·Operand.parseBaseAndIndexRegisters Operand·Operand.closes Operand·Operand.startsAFullIndex Operand·Operand.parseFullIndex Operand·Operand.sized Operand·Operand.parseSizedDisplacement Operand·Operand.innerDisplaced Operand·Operand.parseInner Operand·Operand.outerIndexed Operand·Operand.outerIndex Operand·Operand.parseOuter Operand·Operand.parseMemoryIndirect Operand·Operand.absoluteSize Operand·Operand.finishExpressionOperand Operand·Operand.displacementTail Operand·Operand.parseExpressionOperand Operand·Operand.sizedBase Operand·Operand.unexpected Operand·Operand.afterExpression Operand·Operand.parenthesised Operand·Operand.startsABase Operand·Operand.parseParenthesisedOperand Operand·Operand.specialIndex Operand·Operand.nameOrExpression Operand·Operand.minusOperand Operand·Operand.operandFrom Operand·Operand.parseOperand Operand·Operand.readingOf Operand·Records.itemRecord Operand·Records.itemRecords Operand·Records.sizeD Operand·Records.nodesD Operand·Records.sizeO Operand·Records.nodesO Operand·Records.flag Operand·Records.sizeM Operand·Records.nodesM Operand·Records.diagnosticRecords Operand·Forms.sizedOf Operand·Forms.recordOf Operand·Layout.lastEight Operand·Layout.nodeFrom Operand·Layout.nodeBytes Operand·Layout.lows Operand·Layout.sizedPart Operand·Layout.basePart Operand·Layout.indexPart Operand·Layout.bytesOf Operand·Layout.answerLine hexadecimal treeD treeO kindsOf problemIs treeIs spanIs nameIs treeM formIs isNone meets meetsAll holdsFor holdForAll minusTokens minuses table
+unfolding Expressions·Examples.shown Expressions·Examples.ownIs Names·Tokens.tokenAt Names·Tokens.detailDefined Names·Places.textOf Names·Places.placed Names·Places.place Names·Letters.lower Names·Letters.lowered Names·Letters.same Names·Letters.spelled Names·Registers.pair Names·Registers.register Names·Registers.registerOf Names·Registers.programCounter Names·Registers.numbered Names·Registers.specialOf Names·Registers.suppressing Names·Registers.suppressed Names·Registers.suppressedOf Names·Registers.oneOf Names·Registers.reserved Names·Sizes.runOf Names·Sizes.letterSize Names·Sizes.sizeOf Names·Numbers.radixOf Names·Numbers.width Names·Numbers.figure Names·Numbers.scan Names·Numbers.digitsOf Names·Numbers.inBase Names·Numbers.baseOf Names·Numbers.numberOf Expressions·Trees.spanE Expressions·Trees.withSpan Expressions·Trees.size Records·Diagnostics.diagnosticRecord Expressions·Reader.met Expressions·Reader.run Expressions·Reader.reach Expressions·Expressions.known Expressions·Expressions.suffixRun Expressions·Expressions.takeSizeSuffix Expressions·Expressions.precedence Expressions·Expressions.binaryOperator Expressions·Expressions.operator Expressions·Expressions.operated Expressions·Expressions.parseExpressionFrom Expressions·Expressions.climbed Expressions·Expressions.parseExpressionOf Expressions·Expressions.isUnary Expressions·Expressions.unaryOperator Expressions·Expressions.negated Expressions·Expressions.plussed Expressions·Expressions.valued Expressions·Expressions.named Expressions·Expressions.grouped Expressions·Expressions.numberTerm Expressions·Expressions.leafTerm Expressions·Expressions.parsePrefixTerm Expressions·Expressions.tooDeep Expressions·Expressions.parsePrefix Expressions·Expressions.fuel Expressions·Expressions.parseExpression Expressions·Expressions.expressionFrom Records·Nodes.lowFirst Records·Nodes.words Expressions·Records.nodes Operand·Operand.isAddress Operand·Operand.isSuppressed Operand·Operand.isSuppressedRegister Operand·Operand.isSuppressedAddress Operand·Operand.aRegister Operand·Operand.anAddressRegister Operand·Operand.aProgramCounter Operand·Operand.unmarked Operand·Operand.anIndex Operand·Operand.aBaseOrAnIndex Operand·Operand.indexOf Operand·Operand.suppressedIndex Operand·Operand.registerFrom Operand·Operand.malformed Operand·Operand.unclosed Operand·Operand.steppedOver Operand·Operand.notAnAddressRegister Operand·Operand.immediateSize Operand·Operand.orAbsent Operand·Operand.parseImmediate Operand·Operand.expectClose Operand·Operand.over Operand·Operand.orNone Operand·Operand.predecrementClose Operand·Operand.parsePredecrement Operand·Operand.registerExpected Operand·Operand.ranged Operand·Operand.listItem Operand·Operand.listed Operand·Operand.nextItem Operand·Operand.listLoop Operand·Operand.parseRegisterList Operand·Operand.registerDirect Operand·Operand.parseRegisterOperand Operand·Operand.scaleOf Operand·Operand.scaled Operand·Operand.indexScale Operand·Operand.indexSize Operand·Operand.indexRegister Operand·Operand.parseIndexRegister Operand·Operand.baseShape Operand·Operand.indexedOperand Operand·Operand.closedBase Operand·Operand.afterBase Operand·Operand.closedCounter Operand·Operand.afterCounter Operand·Operand.parseBaseAndIndex Operand·Operand.afterBaseRegister Operand·Operand.sizeOrScale Operand·Operand.noBase Operand·Operand.parseBaseAndIndexRegisters Operand·Operand.closes Operand·Operand.startsAFullIndex Operand·Operand.parseFullIndex Operand·Operand.sized Operand·Operand.parseSizedDisplacement Operand·Operand.innerDisplaced Operand·Operand.parseInner Operand·Operand.outerIndexed Operand·Operand.outerIndex Operand·Operand.parseOuter Operand·Operand.parseMemoryIndirect Operand·Operand.absoluteSize Operand·Operand.finishExpressionOperand Operand·Operand.displacementTail Operand·Operand.parseExpressionOperand Operand·Operand.sizedBase Operand·Operand.unexpected Operand·Operand.afterExpression Operand·Operand.parenthesised Operand·Operand.startsABase Operand·Operand.parseParenthesisedOperand Operand·Operand.specialIndex Operand·Operand.nameOrExpression Operand·Operand.minusOperand Operand·Operand.operandFrom Operand·Operand.parseOperand Operand·Operand.readingOf Operand·Records.itemRecord Operand·Records.itemRecords Operand·Records.sizeD Operand·Records.nodesD Operand·Records.sizeO Operand·Records.nodesO Operand·Records.flag Operand·Records.sizeM Operand·Records.nodesM Operand·Records.diagnosticRecords Operand·Forms.sizedOf Operand·Forms.recordOf Operand·Layout.lastEight Operand·Layout.nodeFrom Operand·Layout.recordsLaid Operand·Layouts.number Operand·Layout.diagnosticLaid Operand·Layout.diagnosticsLaid Operand·Layout.headLaid Operand·Layout.sizedPart Operand·Layout.basePart Operand·Layout.indexPart Operand·Layout.bytesOf Operand·Layout.answerLine hexadecimal treeD treeO kindsOf problemIs treeIs spanIs nameIs treeM formIs isNone meets meetsAll holdsFor holdForAll minusTokens minuses behindSpaces table
 trials = refl

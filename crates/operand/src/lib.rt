@@ -1,6 +1,7 @@
 // Operands: the definition of a reading in specs/, and the types that the code and it share.
 pub mod form_numbers;
 mod forms;
+pub mod layouts;
 pub mod refusal_numbers;
 
 pub use forms::BaseRegister;
@@ -24,3 +25,4 @@ pub use forms::SizedDisplacement;
 pub use forms::SuffixRead;
 pub use forms::SuffixStep;
 pub use forms::Suffixed;
+pub use layouts::Layout;

@@ -1,12 +1,12 @@
 // The refusals by their numbers (docs/FORMAT.md has the order in which they are looked for).
 
-// over 255 bytes
+// over 255 bytes, or 4,095 in the wide layout
 pub const LONG_LINE: u8 = 1;
 
 // a byte that is not printable
 pub const FOREIGN_BYTE: u8 = 2;
 
-// no whole tokens, or over 255
+// no whole tokens, or over 255, or 1,023 in the wide layout
 pub const BAD_LIST: u8 = 3;
 
 // a token that may not stand so

@@ -22,7 +22,12 @@ fn write(out: &[u8], n: usize) -> bool
 }
 
 // Answers a part of the input, in as many calls as the room for the output asks. A write that fails ends it.
-fn answer_part(input: &[u8], held: usize, carry: &mut [u8; 2558], out: &mut [u8; 65536]) -> Passed
+fn answer_part(
+    input: &[u8],
+    held: usize,
+    carry: &mut [u8; 917507],
+    out: &mut [u8; 163840],
+) -> Passed
     ensures { λ r. ⌜ PartTold (now (input .entry)) held (now (carry .entry)) (now (out .entry)) (now (carry .exit)) (now (out .exit)) r ⌝ }
 {
     let mut at = 0;
@@ -47,7 +52,7 @@ fn answer_part(input: &[u8], held: usize, carry: &mut [u8; 2558], out: &mut [u8;
 }
 
 // Answers the last line, if it lacks its line feed.
-fn answer_last(held: usize, carry: &[u8; 2558], out: &mut [u8; 65536])
+fn answer_last(held: usize, carry: &[u8; 917507], out: &mut [u8; 163840])
     ensures { λ _. ⌜ LastTold held (now (carry .entry)) (now (out .entry)) (now (out .exit)) ⌝ }
 {
     let n = finish(held, carry, out);
@@ -59,8 +64,8 @@ fn answer_read(
     got: isize,
     input: &[u8],
     held: usize,
-    carry: &mut [u8; 2558],
-    out: &mut [u8; 65536],
+    carry: &mut [u8; 917507],
+    out: &mut [u8; 163840],
 ) -> Passed
     requires { ⌜ Moved (length (now input)) got ⌝ }
     ensures { λ r. ⌜ ReadTold got (now (input .entry)) held (now (carry .entry)) (now (out .entry)) (now (carry .exit)) (now (out .exit)) r ⌝ }
@@ -87,8 +92,8 @@ fn answer_read(
 // no run uses up.
 fn main() {
     let mut input = io::large_buffer();
-    let mut out = io::large_buffer();
-    let mut carry = [0u8; 2558];
+    let mut out = [0u8; 163840];
+    let mut carry = [0u8; 917507];
     let mut held = 0;
     let mut turns = u64::MAX;
     while turns > 0 {

@@ -1,4 +1,11 @@
 // The refusals of a call, but for those of its tokens: what is lent and given is looked at in the table's order, and nothing is written.
+use operand::Layout;
+use operand::layouts::diagnostic_count;
+use operand::layouts::free_records;
+use operand::layouts::longest_line;
+use operand::layouts::most_tokens;
+use operand::layouts::node_store;
+use operand::layouts::token_count;
 use operand::refusal_numbers::BAD_LIMIT;
 use operand::refusal_numbers::BAD_LIST;
 use operand::refusal_numbers::BAD_START;
@@ -7,19 +14,13 @@ use operand::refusal_numbers::LONG_LINE;
 use operand::refusal_numbers::SHORT_DIAGNOSTICS;
 use operand::refusal_numbers::SHORT_NODES;
 ghost use mathlib.Core.Path.{_≡_};
-ghost use Prim.Native.Nat.{_+_, _/_};
-ghost use lib.Dec.{ltb};
+ghost use mathlib.Core.Bool.{not};
+ghost use Prim.Native.Nat.{_+_, _/_, _%_};
+ghost use lib.Dec.{eqb, ltb};
 ghost use Rattle.names.specs.Choice.{either};
-ghost use Rattle.operand.specs.Entry.{freeRecords, highestLimit, foreign, lineAndList, startStoresAndLimit, firstOf};
+ghost use Rattle.operand.specs.Layouts.{tokenSize, diagnosticSize, freeRecords};
+ghost use Rattle.operand.specs.Entry.{highestLimit, foreign, lineAndList, startStoresAndLimit, firstOf};
 
-// The bytes of the longest line, and the tokens of the longest list.
-const LINE: usize = 255;
-
-const TOKENS: usize = 255;
-// The bytes of a node store.
-const NODES: usize = 3570;
-// The diagnostic records that must be free.
-const FREE: usize = 511;
 // The highest nesting limit.
 const HIGHEST_LIMIT: usize = 128;
 
@@ -46,34 +47,45 @@ fn foreign(line: &[u8]) -> bool
     found
 }
 
-// The number 1 to 3 of the refusal of the line or the list, 0 for none.
-pub fn refuse_line_and_list(line: &[u8], tokens: &[u8]) -> u8
-    ensures { λ r. ⌜ r ≡ firstOf (lineAndList (now (line .entry)) (now (tokens .entry))) ⌝ }
+// Whether so many bytes are no whole tokens.
+fn has_rest(layout: Layout, bytes: usize) -> bool
+    ensures { λ r. ⌜ r ≡ not (eqb (bytes % tokenSize layout) 0) ⌝ }
 {
-    if LINE < line.len() {
+    match layout {
+        Layout::Narrow => bytes % 4 != 0,
+        Layout::Wide => bytes % 6 != 0,
+    }
+}
+
+// The number 1 to 3 of the refusal of the line or the list, 0 for none.
+pub fn refuse_line_and_list(layout: Layout, line: &[u8], tokens: &[u8]) -> u8
+    ensures { λ r. ⌜ r ≡ firstOf (lineAndList layout (now (line .entry)) (now (tokens .entry))) ⌝ }
+{
+    if longest_line(layout) < line.len() {
         return LONG_LINE;
     }
     if foreign(line) {
         return FOREIGN_BYTE;
     }
-    if tokens.len() % 4 != 0 {
+    if has_rest(layout, tokens.len()) {
         return BAD_LIST;
     }
-    if TOKENS < tokens.len() / 4 {
+    if most_tokens(layout) < token_count(layout, tokens.len()) {
         return BAD_LIST;
     }
     0
 }
 
-// Whether too few records are free in a diagnostic list of so many bytes. `used + FREE` may not fit, so nothing is added.
-fn crowded(bytes: usize, used: usize) -> bool
-    ensures { λ r. ⌜ r ≡ ltb (bytes / 10) (used + freeRecords) ⌝ }
+// Whether too few records are free in a diagnostic list of so many bytes. `used` and the free ones may not fit together, so nothing is added.
+fn crowded(layout: Layout, bytes: usize, used: usize) -> bool
+    ensures { λ r. ⌜ r ≡ ltb (bytes / diagnosticSize layout) (used + freeRecords layout) ⌝ }
 {
-    let records = bytes / 10;
-    if records < FREE {
+    let records = diagnostic_count(layout, bytes);
+    let free = free_records(layout);
+    if records < free {
         return true;
     }
-    records - FREE < used
+    records - free < used
 }
 
 // Whether a nesting limit is outside 1 to 128.
@@ -88,6 +100,7 @@ fn out_of_range(limit: usize) -> bool
 
 // The number 5 to 7 or 18 of the refusal of the start, a store or the nesting limit, 0 for none: by the tokens' number and the stores' bytes.
 pub fn refuse_start_stores_and_limit(
+    layout: Layout,
     tokens: usize,
     start: usize,
     limit: usize,
@@ -95,15 +108,15 @@ pub fn refuse_start_stores_and_limit(
     diagnostics: usize,
     used: usize,
 ) -> u8
-    ensures { λ r. ⌜ r ≡ firstOf (startStoresAndLimit tokens start limit nodes diagnostics used) ⌝ }
+    ensures { λ r. ⌜ r ≡ firstOf (startStoresAndLimit layout tokens start limit nodes diagnostics used) ⌝ }
 {
     if tokens < start {
         return BAD_START;
     }
-    if nodes < NODES {
+    if nodes < node_store(layout) {
         return SHORT_NODES;
     }
-    if crowded(diagnostics, used) {
+    if crowded(layout, diagnostics, used) {
         return SHORT_DIAGNOSTICS;
     }
     if out_of_range(limit) {

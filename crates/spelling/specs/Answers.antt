@@ -11,8 +11,9 @@ use Rattle.expressions.specs.Reader.{Reading}
 use Rattle.expressions.specs.Costs.{true-false}
 use Rattle.records.specs.declared.diagnostics.Diagnostic.{Diagnostic}
 use Rattle.operand.specs.Operands.{Operand, Maybe, some, none}
-use Rattle.operand.specs.Records.{sizeM, diagnosticRecords}
-use Rattle.operand.specs.Layout.{lows}
+use Rattle.operand.specs.Records.{sizeM}
+use Rattle.operand.specs.Layouts.{diagnosticSize}
+use Rattle.operand.specs.Layout.{diagnosticsLaid}
 use Rattle.operand.specs.Entry.{Input, placeOf, readingAt, nodesAfter, diagnosticsAfter, outcome, outcomeOf}
 use Rattle.operand.specs.Forms.{recordOf}
 use Rattle.layout.specs.Promise.{resultOf, resultAt, EntryPromise}
@@ -27,7 +28,7 @@ use Rattle.spelling.specs.Conditions.{Answers, spelled-is-read, read-is-
 -- the operand y up to the place j, its nodes, and no diagnostic
 pub record Returns (a : Input) (N′ D′ : List ℕ) (r : Answer) (y : Operand) (j : ℕ) : Type 0 where
   pub answer : r ≡ Answer.Operand (record { operand = recordOf y; cursor = j; nodes = sizeM (some y); diagnostics = 0 })
-  pub nodes : N′ ≡ nodesAfter (some y) (a .nodes)
+  pub nodes : N′ ≡ nodesAfter (a .layout) (some y) (a .nodes)
   pub diagnostics : D′ ≡ a .diagnostics
 
 no-length : (ds : List Diagnostic) → length ds ≡ 0 → ds ≡ []
@@ -44,11 +45,11 @@ module _ (a : Input) (N′ D′ : List ℕ) (r : Answer) (p : EntryPromise a N�
 
   -- a silent reading of an operand, as it is returned and stored
   returned : {y : Operand} {j : ℕ} → Answers s y j → Returns a N′ D′ r y j
-  unfolding resultOf outcome outcomeOf diagnosticsAfter lows diagnosticRecords
+  unfolding resultOf outcome outcomeOf diagnosticsAfter diagnosticsLaid
   returned z = record {
     answer = value ∙ rw (z .value, z .cursor, z .raised) refl;
-    nodes = p .nodes ∙ ap (λ k. outcomeOf a k .nodes) valid ∙ ap (λ v. nodesAfter v (a .nodes)) (z .value);
-    diagnostics = p .diagnostics ∙ ap (λ k. outcomeOf a k .diagnostics) valid ∙ rw (z .raised, add-zero) (take-append-drop (10 * a .used) (a .diagnostics));
+    nodes = p .nodes ∙ ap (λ k. outcomeOf a k .nodes) valid ∙ ap (λ v. nodesAfter (a .layout) v (a .nodes)) (z .value);
+    diagnostics = p .diagnostics ∙ ap (λ k. outcomeOf a k .diagnostics) valid ∙ rw (z .raised, add-zero) (take-append-drop (diagnosticSize (a .layout) * a .used) (a .diagnostics));
   }
 
   -- each addressing mode of Motorola's manual, spelled and closed as document 01 says, is read as that mode without diagnostic

@@ -14,9 +14,9 @@ use Rattle.expressions.specs.Costs.{true-false}
 use Rattle.expressions.specs.Fuel.{fuel-enough}
 use Rattle.operand.specs.Operands.{Operand, Maybe, some, none}
 use Rattle.operand.specs.Operand.{settingFrom, readingOf, operandFrom}
-use Rattle.operand.specs.Entry.{Input, placeOf, readingAt}
+use Rattle.operand.specs.Entry.{Input, tokensOf, placeOf, readingAt}
 use Rattle.operand.specs.Readings.{ended, started}
-use Rattle.operand.specs.Conditions.{Valid, valid-bounds}
+use Rattle.operand.specs.Conditions.{Valid, valid-count}
 use Rattle.spelling.specs.Signs.{unreserved, ordinary}
 use Rattle.spelling.specs.Spelling.{Closed, Spelled}
 use Rattle.spelling.specs.Silence.{Unerring, silent-run}
@@ -58,22 +58,22 @@ module _ (limit mark : ℕ) (at : ℕ → Place) (count : ℕ) (ends : (j : ℕ)
 -- ---- condition 2
 
 module _ (a : Input) (valid : Valid a) where
-  abbrev inside : (j : ℕ) (k : Token) (x : List ℕ) → placeOf a j ≡ stands k x → j < count (a .tokens)
-  inside j k x h = below (a .line) (a .tokens) j k x h
+  abbrev inside : (j : ℕ) (k : Token) (x : List ℕ) → placeOf a j ≡ stands k x → j < count (tokensOf a)
+  inside j k x h = below (a .line) (tokensOf a) j k x h
 
-  few : count (a .tokens) ≤ fuel
-  few = omega (arith, valid-bounds a valid .0, fuel-enough)
+  few : count (tokensOf a) ≤ fuel
+  few = omega (arith, valid-count a valid, fuel-enough)
 
   -- Each addressing mode of Motorola's manual, spelled and closed as document 01 says, is read as that mode without diagnostic: no name in E is reserved or
   -- spells Z (`ordinary`), no number is too large and no more terms are open than the limit (`Spells`); the list's end, a comma or EndOfLine follows (`Closed`)
   pub spelled-is-read : {j : ℕ} {y : Operand} → Spelled (a .limit) (a .mark) (placeOf a) (ordinary (a .mark)) (a .start) j y → Closed (placeOf a) j
       → Answers (readingAt a) y j
-  spelled-is-read h c = closed-is-read (a .limit) (a .mark) (placeOf a) (count (a .tokens)) inside few (a .start) h c
+  spelled-is-read h c = closed-is-read (a .limit) (a .mark) (placeOf a) (count (tokensOf a)) inside few (a .start) h c
 
   -- And an operand read without diagnostic has such a spelling up to the cursor, where no Error token stands before it
   pub read-is-spelled : {y : Operand} → readingAt a .value ≡ some y → readingAt a .raised ≡ []
       → Unerring (placeOf a) (a .start) (readingAt a .cursor) → Spelled (a .limit) (a .mark) (placeOf a) unreserved (a .start) (readingAt a .cursor) y
-  read-is-spelled e q u = silent-is-spelled (a .limit) (a .mark) (placeOf a) (count (a .tokens)) inside few (a .start) e q u
+  read-is-spelled e q u = silent-is-spelled (a .limit) (a .mark) (placeOf a) (count (tokensOf a)) inside few (a .start) e q u
 
 some-same : {x y : Operand} → some x ≡ some y → x ≡ y
 some-same {x} {y} e = ap (λ m. elim m [ some z ↦ z | none ↦ x ]) e

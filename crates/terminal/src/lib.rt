@@ -2,3 +2,4 @@
 mod call;
 
 pub use call::sagdrif_parse_operand;
+pub use call::sagdrif_parse_operand_wide;

@@ -1,5 +1,6 @@
 //! How every program here takes its arguments and ends.
 
+use crate::layout::Layout;
 use crate::refusal::LIMITS;
 use std::env;
 use std::io::{self, Write};
@@ -50,16 +51,40 @@ pub fn option<T: std::str::FromStr>(
     name: &str,
     arguments: &[String],
 ) -> Result<(Option<T>, Vec<String>), Stop> {
+    let (text, rest) = option_text(name, "a number", arguments)?;
+    let value = text.map(|text| number(name, &text)).transpose()?;
+    Ok((value, rest))
+}
+
+/// The text behind an option, if the option stands among the arguments, and the other arguments.
+fn option_text(
+    name: &str,
+    wanted: &str,
+    arguments: &[String],
+) -> Result<(Option<String>, Vec<String>), Stop> {
     let mut rest = arguments.to_vec();
     let Some(at) = rest.iter().position(|text| text == name) else {
         return Ok((None, rest));
     };
-    let Some(text) = rest.get(at + 1) else {
-        return usage(format!("{name} wants a number"));
+    if at + 1 == rest.len() {
+        return usage(format!("{name} wants {wanted}"));
+    }
+    let text = rest.drain(at..at + 2).nth(1);
+    Ok((text, rest))
+}
+
+/// `--layout narrow`, `wide` or `both`, which is `None` as without the option, and the other
+/// arguments.
+pub fn layout(arguments: &[String]) -> Result<(Option<Layout>, Vec<String>), Stop> {
+    let wanted = "narrow, wide or both";
+    let (text, rest) = option_text("--layout", wanted, arguments)?;
+    let layout = match text.as_deref() {
+        None | Some("both") => None,
+        Some("narrow") => Some(Layout::Narrow),
+        Some("wide") => Some(Layout::Wide),
+        Some(other) => return usage(format!("--layout is `{other}`, but {wanted} is wanted")),
     };
-    let value = number(name, text)?;
-    rest.drain(at..at + 2);
-    Ok((Some(value), rest))
+    Ok((layout, rest))
 }
 
 /// `--limit N`, a nesting limit that a call may choose, and the other arguments.

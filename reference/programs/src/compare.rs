@@ -5,9 +5,9 @@ mod report;
 mod run;
 
 pub use batch::{Batch, Batches};
+pub use run::{run, Outcome};
 
 use report::difference;
-use run::{run, Outcome};
 use std::io;
 use std::thread;
 

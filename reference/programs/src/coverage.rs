@@ -1,17 +1,21 @@
 //! What a run of frames reaches: how often each form, kind, shape and problem, refusal, token
-//! kind and extreme occurs.
+//! kind and extreme occurs, in each layout.
 
+mod extremes;
+mod letters;
 mod parts;
 mod table;
 
 use crate::answer::Answer;
-use crate::frame::{frame_bytes, Frame, FrameFault};
+use crate::frame::{Frame, FrameBytes, FrameFault};
 use crate::hex::HexFault;
+use crate::layout::Layout;
 use crate::names;
 use crate::records::Records;
-use crate::tokens::{first_bad_token, kind, kind_name, TokenFault, KINDS};
+use crate::tokens::{first_bad_token, kind_name, TokenFault, KINDS};
+use extremes::Extremes;
+use letters::Letters;
 use parts::Parts;
-use std::ops::RangeInclusive;
 use table::{Expected, Section};
 
 /// The shapes and problems of `MalformedOperand` that occur together.
@@ -26,8 +30,6 @@ pub const REACHABLE: [(u8, &[u8]); 8] = [
     (9, &[3, 7, 8, 9, 10, 11]),
 ];
 
-/// Lengths of lines and lists that are counted by themselves.
-const LENGTHS: [usize; 4] = [0, 1, 254, 255];
 /// How a line may fail to be a frame.
 const LINE_FAULTS: [&str; 5] = [
     "another character",
@@ -39,8 +41,72 @@ const LINE_FAULTS: [&str; 5] = [
 
 /// The counts of a run.
 pub struct Coverage {
-    limit: usize,
     lines: u64,
+    layouts: Vec<LayoutCoverage>,
+    /// Only where both layouts are wanted.
+    letters: Option<Letters>,
+}
+
+impl Coverage {
+    /// Nothing counted yet of a run with this nesting limit, and of one layout or of both.
+    pub fn new(limit: usize, layout: Option<Layout>) -> Self {
+        let wanted = |one: &Layout| layout.is_none_or(|only| only == *one);
+        let layouts = Layout::BOTH.into_iter().filter(wanted);
+        Self {
+            lines: 0,
+            layouts: layouts.map(|one| LayoutCoverage::new(one, limit)).collect(),
+            letters: layout.is_none().then(Letters::new),
+        }
+    }
+
+    /// Counts one line of input and its answer. A line of another layout than the wanted one is
+    /// counted as a line only.
+    pub fn count(&mut self, line: &[u8], answer: &[u8]) {
+        self.lines += 1;
+        if let Some(letters) = &mut self.letters {
+            letters.count(line);
+        }
+        let (layout, _) = Layout::of_line(line);
+        let mut layouts = self.layouts.iter_mut();
+        if let Some(coverage) = layouts.find(|one| one.layout == layout) {
+            coverage.count(line, answer);
+        }
+    }
+
+    /// Each section with the word that stands before its title.
+    fn sections(&self) -> Vec<(String, &Section)> {
+        let mut sections = Vec::new();
+        for one in &self.layouts {
+            let named = one.sections().into_iter();
+            sections.extend(named.map(|section| (one.layout.to_string(), section)));
+        }
+        let letters = self.letters.iter().map(Letters::section);
+        sections.extend(letters.map(|section| ("both".to_string(), section)));
+        sections
+    }
+
+    /// The counts as a table.
+    pub fn table(&self) -> String {
+        let sections = self.sections().into_iter();
+        let tables: String = sections.map(|(name, one)| one.table(&name)).collect();
+        format!("{} lines\n{tables}", self.lines)
+    }
+
+    /// What should have occurred and did not, or the other way round. A run without far lines need
+    /// not have what only these can.
+    pub fn faults(&self, far_lines: bool) -> Vec<String> {
+        let mut faults = Vec::new();
+        for (name, section) in self.sections() {
+            let found = section.faults(far_lines).into_iter();
+            faults.extend(found.map(|fault| format!("{name}: {fault}")));
+        }
+        faults
+    }
+}
+
+/// The counts of the lines of one layout.
+struct LayoutCoverage {
+    layout: Layout,
     outcomes: Section,
     forms: Section,
     kinds: Section,
@@ -51,18 +117,16 @@ pub struct Coverage {
     bad_tokens: Section,
     bad_lines: Section,
     tokens: Section,
-    extremes: Section,
+    extremes: Extremes,
 }
 
-impl Coverage {
-    /// Nothing counted yet of a run with this nesting limit.
-    pub fn new(limit: usize) -> Self {
+impl LayoutCoverage {
+    fn new(layout: Layout, limit: usize) -> Self {
         let all = |title, rows: &[&str]| Section::of_words(title, rows);
         let faults: Vec<&str> = TokenFault::ALL.iter().map(|fault| fault.words()).collect();
         let tokens: Vec<&str> = (0..KINDS as u8).filter_map(kind_name).collect();
         Self {
-            limit,
-            lines: 0,
+            layout,
             outcomes: all("answers", &OUTCOMES),
             forms: Section::numbered("forms", &names::FORMS),
             kinds: Section::numbered("diagnostics", &names::DIAGNOSTICS),
@@ -70,22 +134,22 @@ impl Coverage {
             // A unary operator and its operand are two open terms.
             nodes: Section::numbered("nodes", &names::NODES).never_if(limit == 1, 4..5),
             parts: Parts::new(limit),
-            refusals: refusal_section(),
+            refusals: refusal_section(layout),
             bad_tokens: all("bad tokens, by their first fault", &faults),
-            bad_lines: all("lines that are no frames", &LINE_FAULTS),
+            bad_lines: bad_lines_section(layout),
             tokens: all("tokens of read frames, from the start on", &tokens),
-            extremes: extremes_section(limit),
+            extremes: Extremes::new(layout, limit),
         }
     }
 
-    /// Counts one line of input and its answer.
-    pub fn count(&mut self, line: &[u8], answer: &[u8]) {
-        self.lines += 1;
-        let answer = Answer::of_line(answer).expect("the reference's answer is one");
-        let bytes = frame_bytes(line);
-        let frame = bytes.as_deref().map_err(|fault| *fault).and_then(Frame::of);
-        match frame {
-            Ok(frame) => self.count_frame(&frame, &answer),
+    /// Counts one line of input of this layout and its answer.
+    fn count(&mut self, line: &[u8], answer: &[u8]) {
+        let (layout, answer) = Answer::of_line(answer).expect("the reference's answer is one");
+        assert_eq!(layout, self.layout, "an answer has its line's layout");
+        let bytes = FrameBytes::of_line(line);
+        let frame = bytes.as_ref().map_err(|fault| *fault);
+        match frame.and_then(FrameBytes::frame) {
+            Ok(frame) => self.count_frame(&frame, line.len(), &answer),
             Err(fault) => self.bad_lines.hit(line_fault(fault)),
         }
         match &answer {
@@ -103,63 +167,35 @@ impl Coverage {
         match &records.operand {
             Some(operand) => {
                 self.outcomes.hit(0);
-                self.forms.hit(operand[0] as usize - 1);
+                self.forms.hit(operand.form as usize - 1);
             }
             None if records.diagnostics.is_empty() => self.outcomes.hit(2),
             None => self.outcomes.hit(1),
         }
         for node in &records.nodes {
-            self.nodes.hit(node[0] as usize - 1);
+            self.nodes.hit(node.kind as usize - 1);
         }
         for record in &records.diagnostics {
-            self.kinds.hit(record[0] as usize - 1);
-            if record[0] == 7 {
-                let pair = pair_row(record[1], record[2]);
+            self.kinds.hit(record.kind as usize - 1);
+            if record.kind == 7 {
+                let pair = pair_row(record.shape, record.problem);
                 self.malformed.hit(pair);
             }
         }
     }
 
-    fn count_frame(&mut self, frame: &Frame, answer: &Answer) {
+    fn count_frame(&mut self, frame: &Frame, characters: usize, answer: &Answer) {
+        self.extremes.count(frame, characters, answer);
         if let Answer::Refused(4) = answer {
-            let (_, fault) = first_bad_token(frame.line, frame.tokens).expect("a bad token");
+            let (_, fault) = first_bad_token(frame.line, frame.tokens()).expect("a bad token");
             self.bad_tokens.hit(fault as usize);
         }
         if let Answer::Refused(_) = answer {
             return;
         }
-        let read = &frame.tokens[frame.start as usize..];
-        for token in read {
-            self.tokens.hit(token[0] as usize);
+        for token in frame.tokens().skip(frame.start) {
+            self.tokens.hit(token.kind as usize);
         }
-        self.count_extremes(frame);
-    }
-
-    fn count_extremes(&mut self, frame: &Frame) {
-        let count = frame.tokens.len();
-        for (row, length) in LENGTHS.iter().enumerate() {
-            self.extremes.hit_if(frame.line.len() == *length, row);
-            self.extremes.hit_if(count == *length, 4 + row);
-        }
-        let read = &frame.tokens[frame.start as usize..];
-        let opens = [kind::MINUS, kind::TILDE, kind::PLUS, kind::LEFT_PAREN];
-        let nest = read
-            .iter()
-            .take_while(|token| opens.contains(&token[0]))
-            .count();
-        for (row, wanted) in nests(self.limit).enumerate() {
-            self.extremes.hit_if(nest == wanted, 8 + row);
-        }
-        let (start, mark) = (frame.start as usize, frame.symbol_at());
-        self.extremes.hit_if(start > 0 && start < count, 11);
-        self.extremes.hit_if(count > 0 && start == count, 12);
-        self.extremes.hit_if(mark.is_some(), 13);
-        self.extremes
-            .hit_if(mark.is_none() && frame.mark != 255, 14);
-        let gap = |pair: &[[u8; 4]]| pair[0][3] < pair[1][2];
-        self.extremes.hit_if(frame.tokens.windows(2).any(gap), 15);
-        let empty = |token: &[u8; 4]| token[2] == token[3];
-        self.extremes.hit_if(frame.tokens.iter().any(empty), 16);
     }
 
     fn sections(&self) -> Vec<&Section> {
@@ -176,23 +212,9 @@ impl Coverage {
             &self.bad_tokens,
             &self.bad_lines,
             &self.tokens,
-            &self.extremes,
         ]);
+        sections.extend(self.extremes.sections());
         sections
-    }
-
-    /// The counts as a table.
-    pub fn table(&self) -> String {
-        let sections = self.sections();
-        let tables: String = sections.iter().map(|section| section.table()).collect();
-        format!("{} lines\n{tables}", self.lines)
-    }
-
-    /// What should have occurred and did not, or the other way round.
-    pub fn faults(&self) -> Vec<String> {
-        let sections = self.sections();
-        let faults = sections.iter().flat_map(|section| section.faults());
-        faults.collect()
     }
 }
 
@@ -226,17 +248,16 @@ fn malformed_section() -> Section {
     section
 }
 
-/// Runs of opened terms that are counted by themselves.
-fn nests(limit: usize) -> RangeInclusive<usize> {
-    limit - 1..=limit + 1
-}
-
-/// Refusals 1 and 3 cannot be written as a frame, whose counts are one byte; 6 and 7 speak of
-/// stores that a program lends itself; 18 of a limit that no run has.
-fn refusal_section() -> Section {
+/// Refusals 1 and 3 cannot be written as a narrow frame, whose counts are one byte; 6 and 7 speak
+/// of stores that a program lends itself; 18 of a limit that no run has.
+fn refusal_section(layout: Layout) -> Section {
     let mut section = Section::new("refusals");
     for (number, name) in names::REFUSALS {
-        let reachable = matches!(number, 2 | 4 | 5 | 8);
+        let reachable = match number {
+            2 | 4 | 5 | 8 => true,
+            1 | 3 => layout == Layout::Wide,
+            _ => false,
+        };
         let expected = if reachable {
             Expected::Always
         } else {
@@ -247,26 +268,17 @@ fn refusal_section() -> Section {
     section
 }
 
-fn extremes_section(limit: usize) -> Section {
-    let mut section = Section::new("extremes of read frames");
-    for length in LENGTHS {
-        section.add(format!("line of {length} bytes"), Expected::Always);
-    }
-    for length in LENGTHS {
-        section.add(format!("list of {length} tokens"), Expected::Always);
-    }
-    for nest in nests(limit) {
-        section.add(format!("{nest} terms opened in a row"), Expected::Always);
-    }
-    for words in [
-        "start inside the list",
-        "start at the end of a list",
-        "mark on a token",
-        "mark past the list, not ff",
-        "gap between tokens",
-        "empty token",
-    ] {
-        section.add(words.to_string(), Expected::Always);
+/// A line longer than any wide frame is longer than what is read.
+fn bad_lines_section(layout: Layout) -> Section {
+    let mut section = Section::new("lines that are no frames");
+    let too_long = match layout {
+        Layout::Narrow => Expected::Always,
+        Layout::Wide => Expected::InFarLines,
+    };
+    for (row, words) in LINE_FAULTS.iter().enumerate() {
+        let last = row + 1 == LINE_FAULTS.len();
+        let expected = if last { too_long } else { Expected::Always };
+        section.add(words.to_string(), expected);
     }
     section
 }
@@ -277,6 +289,6 @@ fn line_fault(fault: FrameFault) -> usize {
         FrameFault::Digits(HexFault::OddCount(_)) => 1,
         FrameFault::Short { .. } => 2,
         FrameFault::Length { .. } => 3,
-        FrameFault::TooLong => 4,
+        FrameFault::TooLong(_) => 4,
     }
 }

@@ -1,32 +1,27 @@
 //! A frame: what one call of the reader is lent and given, as one line of hexadecimal.
 //!
-//! In order: the line's length (1 byte), the line, the token count (1 byte), the tokens
-//! (4 bytes each), the start (1 byte), the mark (1 byte, FF for none).
+//! In order: the line's length, the line, the token count, the tokens, the start, the mark. The
+//! length, the count, the start and the mark are numbers of the frame's layout. A wide frame opens
+//! with a `w`, which is no digit.
 
 use crate::hex::{self, HexFault};
+use crate::layout::{Layout, Parts};
+use crate::tokens::{list_tokens, TokenRecord};
 use std::fmt;
-
-/// A token: kind, detail, start, end (docs/FORMAT.md).
-pub type TokenBytes = [u8; 4];
-
-/// The longest line that a frame can hold, in bytes.
-pub const LONGEST_LINE: usize = 255;
-/// The longest token list that a frame can hold.
-pub const MOST_TOKENS: usize = 255;
-/// The digits of the longest frame. A longer line of input is no frame.
-pub const LONGEST_FRAME: usize = 2 * (1 + LONGEST_LINE + 1 + 4 * MOST_TOKENS + 2);
 
 /// The parts of a frame. They need not be valid.
 #[derive(Debug, Clone, Copy, PartialEq, Eq)]
 pub struct Frame<'a> {
+    /// How its numbers are written.
+    pub layout: Layout,
     /// The line.
     pub line: &'a [u8],
-    /// The tokens.
-    pub tokens: &'a [TokenBytes],
+    /// The token list's bytes, in that layout.
+    pub list: &'a [u8],
     /// The place where the reading starts.
-    pub start: u8,
+    pub start: usize,
     /// The place that is read as a symbol; one at or past the token count means none.
-    pub mark: u8,
+    pub mark: usize,
 }
 
 /// Why an input line is no frame: refusal 8.
@@ -38,8 +33,8 @@ pub enum FrameFault {
     Short { bytes: usize },
     /// The counts give another length.
     Length { bytes: usize, wanted: usize },
-    /// The input line is longer than any frame.
-    TooLong,
+    /// The input line is longer than any frame of its layout.
+    TooLong(Layout),
 }
 
 impl fmt::Display for FrameFault {
@@ -52,106 +47,174 @@ impl fmt::Display for FrameFault {
             FrameFault::Length { bytes, wanted } => {
                 write!(out, "{bytes} bytes, but its counts give {wanted}")
             }
-            FrameFault::TooLong => write!(out, "more than {LONGEST_FRAME} digits"),
+            FrameFault::TooLong(layout) => {
+                write!(out, "more than {} characters", layout.longest_frame())
+            }
         }
     }
 }
 
 impl<'a> Frame<'a> {
     /// The frame that `bytes` spell.
-    pub fn of(bytes: &'a [u8]) -> Result<Self, FrameFault> {
+    pub fn of(layout: Layout, bytes: &'a [u8]) -> Result<Self, FrameFault> {
         let short = FrameFault::Short { bytes: bytes.len() };
-        let (&length, rest) = bytes.split_first().ok_or(short)?;
-        let (line, rest) = rest.split_at_checked(length as usize).ok_or(short)?;
-        let (&count, rest) = rest.split_first().ok_or(short)?;
-        let wanted = 1 + line.len() + 1 + 4 * count as usize + 2;
+        let mut parts = Parts::new(layout, bytes);
+        let length = parts.next_number().ok_or(short)?;
+        let line = parts.bytes(length).ok_or(short)?;
+        let count = parts.next_number().ok_or(short)?;
+        let wanted = layout.frame_bytes(length, count);
         if bytes.len() != wanted {
             let bytes = bytes.len();
             return Err(FrameFault::Length { bytes, wanted });
         }
-        let (tokens, places) = rest.as_chunks();
+        let list = parts.bytes(count * layout.token_bytes());
         Ok(Frame {
+            layout,
             line,
-            tokens,
-            start: places[0],
-            mark: places[1],
+            list: list.expect("the counts give the length"),
+            start: parts.number(),
+            mark: parts.number(),
         })
+    }
+
+    /// The tokens.
+    pub fn tokens(&self) -> impl Iterator<Item = TokenRecord> + 'a {
+        list_tokens(self.layout, self.list)
+    }
+
+    /// How many tokens there are.
+    pub fn count(&self) -> usize {
+        self.list.len() / self.layout.token_bytes()
     }
 
     /// The bytes of the frame. A line or a list longer than a frame can hold is a mistake of ours.
     pub fn to_bytes(&self) -> Vec<u8> {
-        let length = u8::try_from(self.line.len()).expect("a line of at most 255 bytes");
-        let count = u8::try_from(self.tokens.len()).expect("at most 255 tokens");
-        let mut bytes = vec![length];
+        let length = self.layout.frame_bytes(self.line.len(), self.count());
+        let mut bytes = Vec::with_capacity(length);
+        self.layout.push_number(&mut bytes, self.line.len());
         bytes.extend(self.line);
-        bytes.push(count);
-        bytes.extend(self.tokens.as_flattened());
-        bytes.extend([self.start, self.mark]);
+        self.layout.push_number(&mut bytes, self.count());
+        bytes.extend(self.list);
+        self.layout.push_pair(&mut bytes, [self.start, self.mark]);
         bytes
     }
 
-    /// The frame as a line of hexadecimal, without a line feed.
+    /// The frame as a line, without a line feed.
     pub fn to_line(&self) -> Vec<u8> {
-        hex::encode(&self.to_bytes())
+        let mut line = self.layout.opening().to_vec();
+        hex::push(&mut line, &self.to_bytes());
+        line
     }
 
     /// The mark as a place of the list.
     pub fn symbol_at(&self) -> Option<usize> {
-        let place = self.mark as usize;
-        (place < self.tokens.len()).then_some(place)
+        (self.mark < self.count()).then_some(self.mark)
     }
 }
 
-/// The bytes that a line of input spells, if it is not too long for a frame.
-pub fn frame_bytes(text: &[u8]) -> Result<Vec<u8>, FrameFault> {
-    if text.len() > LONGEST_FRAME {
-        return Err(FrameFault::TooLong);
+/// The layout of a line of input and the bytes that it spells.
+#[derive(Debug, Clone, PartialEq, Eq)]
+pub struct FrameBytes {
+    /// The layout.
+    pub layout: Layout,
+    /// The bytes.
+    pub bytes: Vec<u8>,
+}
+
+impl FrameBytes {
+    /// Of a line of input, if it is not too long for a frame.
+    pub fn of_line(text: &[u8]) -> Result<Self, FrameFault> {
+        let mut bytes = Vec::new();
+        let layout = decode_into(text, &mut bytes)?;
+        Ok(Self { layout, bytes })
     }
-    hex::decode(text).map_err(FrameFault::Digits)
+
+    /// The frame that the bytes spell.
+    pub fn frame(&self) -> Result<Frame<'_>, FrameFault> {
+        Frame::of(self.layout, &self.bytes)
+    }
+}
+
+/// The line of the frame that a line of input is, if it is one.
+pub fn frame_text(text: &[u8]) -> Option<Vec<u8>> {
+    let bytes = FrameBytes::of_line(text).ok()?;
+    let frame = bytes.frame().ok()?;
+    Some(frame.line.to_vec())
+}
+
+/// Puts the bytes of a line of input into `bytes`, which is emptied first, and gives its layout.
+pub fn decode_into(text: &[u8], bytes: &mut Vec<u8>) -> Result<Layout, FrameFault> {
+    let (layout, digits) = Layout::of_line(text);
+    if text.len() > layout.longest_frame() {
+        return Err(FrameFault::TooLong(layout));
+    }
+    hex::decode_into(digits, bytes).map_err(FrameFault::Digits)?;
+    Ok(layout)
 }
 
 #[cfg(test)]
 mod tests {
     use super::*;
+    use crate::tokens::list_bytes;
+
+    const NAME: TokenRecord = TokenRecord::new(0, 0, 0, 2);
 
     #[test]
     fn a_frame_there_and_back() {
-        let frame = Frame {
-            line: b"d0",
-            tokens: &[[0, 0, 0, 2]],
-            start: 1,
-            mark: 255,
-        };
-        let bytes = frame.to_bytes();
-        assert_eq!(Frame::of(&bytes), Ok(frame));
-        for end in 0..bytes.len() {
-            assert!(Frame::of(&bytes[..end]).is_err());
+        for layout in Layout::BOTH {
+            let frame = Frame {
+                layout,
+                line: b"d0",
+                list: &list_bytes(layout, &[NAME]),
+                start: 1,
+                mark: layout.largest(),
+            };
+            let bytes = frame.to_bytes();
+            assert_eq!(Frame::of(layout, &bytes), Ok(frame));
+            for end in 0..bytes.len() {
+                assert!(Frame::of(layout, &bytes[..end]).is_err());
+            }
+            assert!(Frame::of(layout, &[&bytes[..], &[0]].concat()).is_err());
+            let line = FrameBytes::of_line(&frame.to_line()).unwrap();
+            assert_eq!(line, FrameBytes { layout, bytes });
         }
-        assert!(Frame::of(&[&bytes[..], &[0]].concat()).is_err());
     }
 
     #[test]
     fn the_longest_frame() {
-        let (line, tokens) = ([b'1'; 255], [[0; 4]; 255]);
-        let frame = Frame {
-            line: &line,
-            tokens: &tokens,
-            start: 0,
-            mark: 0,
-        };
-        assert_eq!(frame.to_line().len(), LONGEST_FRAME);
+        for layout in Layout::BOTH {
+            let most = layout.largest();
+            let frame = Frame {
+                layout,
+                line: &vec![b'1'; most],
+                list: &vec![0; most * layout.token_bytes()],
+                start: 0,
+                mark: 0,
+            };
+            let mut line = frame.to_line();
+            assert_eq!(line.len(), layout.longest_frame());
+            assert!(FrameBytes::of_line(&line).unwrap().frame().is_ok());
+            line.extend(b"00");
+            let fault = FrameBytes::of_line(&line);
+            assert_eq!(fault, Err(FrameFault::TooLong(layout)));
+        }
     }
 
     #[test]
     fn a_mark_past_the_list_means_none() {
-        let mut frame = Frame {
-            line: b"d0",
-            tokens: &[[0, 0, 0, 2]],
-            start: 0,
-            mark: 0,
-        };
-        assert_eq!(frame.symbol_at(), Some(0));
-        frame.mark = 1;
-        assert_eq!(frame.symbol_at(), None);
+        for layout in Layout::BOTH {
+            let mut frame = Frame {
+                layout,
+                line: b"d0",
+                list: &list_bytes(layout, &[NAME]),
+                start: 0,
+                mark: 0,
+            };
+            assert_eq!(frame.symbol_at(), Some(0));
+            for mark in [1, 255, layout.largest()] {
+                frame.mark = mark;
+                assert_eq!(frame.symbol_at(), None);
+            }
+        }
     }
 }

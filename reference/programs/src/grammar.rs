@@ -725,12 +725,13 @@ fn widened(e: Expr, span: Span) -> Expr {
 #[cfg(test)]
 mod tests {
     use super::*;
+    use crate::layout::Layout;
     use crate::lexer::tokens_of;
     use crate::tokens::rust_token;
 
     /// The spellings of a text that end where it ends.
     fn whole(text: &str, suppressed_symbols: bool) -> Vec<Operand> {
-        let tokens = tokens_of(text.as_bytes(), false).unwrap();
+        let tokens = tokens_of(Layout::Narrow, text.as_bytes(), false).unwrap();
         let tokens: Vec<Token> = tokens.into_iter().map(rust_token).collect();
         let grammar = Grammar {
             line: text,

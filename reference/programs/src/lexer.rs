@@ -4,8 +4,8 @@
 //! gap between two tokens, as they do inside an operand's parentheses; on request they become
 //! tokens instead.
 
-use crate::frame::{TokenBytes, LONGEST_LINE};
-use crate::tokens::{kind, sign};
+use crate::layout::Layout;
+use crate::tokens::{kind, sign, TokenRecord};
 use s68k::assembler::token::{is_name_continuation, is_name_start};
 use std::fmt;
 
@@ -14,8 +14,10 @@ use std::fmt;
 pub enum TextFault {
     /// A byte outside 20 to 7E hexadecimal, at this offset.
     ForeignByte(usize, u8),
-    /// The text is over 255 bytes.
-    TooLong,
+    /// The text is longer than a line of this layout.
+    TooLong(Layout),
+    /// The text has more tokens than a list of this layout.
+    TooMany(Layout),
 }
 
 impl fmt::Display for TextFault {
@@ -25,38 +27,55 @@ impl fmt::Display for TextFault {
                 let column = at + 1;
                 write!(out, "column {column}: byte {byte:02x} is outside 20 to 7e")
             }
-            TextFault::TooLong => write!(
-                out,
-                "column {}: a line has at most {LONGEST_LINE} bytes",
-                LONGEST_LINE + 1
-            ),
+            TextFault::TooLong(layout) => {
+                let most = layout.longest_line();
+                let column = most + 1;
+                write!(out, "column {column}: a line has at most {most} bytes")
+            }
+            TextFault::TooMany(layout) => {
+                let most = layout.most_tokens();
+                write!(out, "a list has at most {most} tokens")
+            }
         }
     }
 }
 
-/// The tokens of a text.
-pub fn tokens_of(text: &[u8], keep_whitespace: bool) -> Result<Vec<TokenBytes>, TextFault> {
+/// The tokens of a text that a line of a layout can hold.
+pub fn tokens_of(
+    layout: Layout,
+    text: &[u8],
+    keep_whitespace: bool,
+) -> Result<Vec<TokenRecord>, TextFault> {
     let foreign = |byte: &u8| !(0x20..=0x7e).contains(byte);
     if let Some(at) = text.iter().position(foreign) {
         return Err(TextFault::ForeignByte(at, text[at]));
     }
-    if text.len() > LONGEST_LINE {
-        return Err(TextFault::TooLong);
+    if text.len() > layout.longest_line() {
+        return Err(TextFault::TooLong(layout));
     }
-    let mut tokens: Vec<TokenBytes> = Vec::new();
+    let tokens = all_tokens(text, keep_whitespace);
+    match tokens.len() > layout.most_tokens() {
+        true => Err(TextFault::TooMany(layout)),
+        false => Ok(tokens),
+    }
+}
+
+/// The tokens of a text of bytes that a line may hold.
+fn all_tokens(text: &[u8], keep_whitespace: bool) -> Vec<TokenRecord> {
+    let mut tokens: Vec<TokenRecord> = Vec::new();
     let mut at = 0;
     while at < text.len() {
         let suffix_may_follow = tokens
             .last()
-            .is_some_and(|last| last[3] as usize == at && takes_a_suffix(last[0]));
+            .is_some_and(|last| last.end == at && takes_a_suffix(last.kind));
         let (kind, detail, length) = next_token(&text[at..], suffix_may_follow);
         let end = at + length;
         if kind != kind::WHITESPACE || keep_whitespace {
-            tokens.push([kind, detail, at as u8, end as u8]);
+            tokens.push(TokenRecord::new(kind, detail, at, end));
         }
         at = end;
     }
-    Ok(tokens)
+    tokens
 }
 
 /// Whether a `.` right behind a token of this kind begins a size suffix.
@@ -127,10 +146,10 @@ mod tests {
 
     /// The tokens as `kind:text`, for comparing by eye.
     fn spelled(text: &str) -> Vec<String> {
-        let tokens = tokens_of(text.as_bytes(), false).unwrap();
-        let show = |token: &TokenBytes| {
-            let part = &text[token[2] as usize..token[3] as usize];
-            format!("{}:{part}", kind_name(token[0]).unwrap())
+        let tokens = tokens_of(Layout::Narrow, text.as_bytes(), false).unwrap();
+        let show = |token: &TokenRecord| {
+            let part = &text[token.start..token.end];
+            format!("{}:{part}", kind_name(token.kind).unwrap())
         };
         tokens.iter().map(show).collect()
     }
@@ -174,18 +193,31 @@ mod tests {
         for first in &bytes {
             for second in &bytes {
                 let text = [*first, *second, b'.', *first];
-                let tokens = tokens_of(&text, true).unwrap();
-                assert_eq!(first_bad_token(&text, &tokens), None);
-                assert_eq!(tokens.last().unwrap()[3], 4);
+                let tokens = tokens_of(Layout::Narrow, &text, true).unwrap();
+                assert_eq!(tokens.last().unwrap().end, 4);
+                assert_eq!(first_bad_token(&text, tokens), None);
             }
         }
     }
 
     #[test]
     fn faults_have_their_place() {
-        assert_eq!(tokens_of(b"a\tb", false), Err(TextFault::ForeignByte(1, 9)));
-        assert_eq!(tokens_of(&[b'1'; 256], false), Err(TextFault::TooLong));
-        assert_eq!(tokens_of(&[b'1'; 255], false).unwrap().len(), 1);
-        assert_eq!(tokens_of(&[b'-'; 255], false).unwrap().len(), 255);
+        for layout in Layout::BOTH {
+            let count = |byte, length| {
+                let text = vec![byte; length];
+                tokens_of(layout, &text, false).map(|tokens| tokens.len())
+            };
+            let foreign = TextFault::ForeignByte(1, 9);
+            assert_eq!(tokens_of(layout, b"a\tb", false), Err(foreign));
+            let (line, list) = (layout.longest_line(), layout.most_tokens());
+            assert_eq!(count(b'1', line), Ok(1));
+            assert_eq!(count(b'1', line + 1), Err(TextFault::TooLong(layout)));
+            assert_eq!(count(b'-', list), Ok(list));
+            let fault = match layout {
+                Layout::Narrow => TextFault::TooLong(layout),
+                Layout::Wide => TextFault::TooMany(layout),
+            };
+            assert_eq!(count(b'-', list + 1), Err(fault));
+        }
     }
 }

@@ -3,6 +3,7 @@
 //! | module | holds |
 //! |---|---|
 //! | `hex`, `printable`, `lines`, `command_line` | digits, any bytes, bounded lines, and how every program ends |
+//! | `layout` | the narrow layout and the wide one: how a number is written, sizes and limits |
 //! | `frame`, `tokens`, `refusal` | a frame's parts and what makes it no input |
 //! | `recover`, `records` | the Rust's tree and diagnostics as the records of docs/FORMAT.md |
 //! | `answer`, `reference` | an answer line, and the reference's own answer to a frame, at any nesting limit |
@@ -12,6 +13,7 @@
 //! | `random`, `generate`, `coverage` | frames by seed, and what they reach |
 //! | `grammar` | document 01's table of spellings as a recogniser |
 //! | `compare` | two programs on the same frames |
+//! | `pairs` | one program on the same frames in both layouts |
 
 pub mod answer;
 pub mod command_line;
@@ -21,9 +23,11 @@ pub mod frame;
 pub mod generate;
 pub mod grammar;
 pub mod hex;
+pub mod layout;
 pub mod lexer;
 pub mod lines;
 pub mod names;
+pub mod pairs;
 pub mod printable;
 pub mod random;
 pub mod records;

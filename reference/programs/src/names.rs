@@ -134,6 +134,15 @@ pub fn register(number: u8) -> String {
     }
 }
 
+/// A register in the place of a number, as a list item's first or last one.
+pub fn register_in_number(number: Option<usize>) -> String {
+    match number.map(u8::try_from) {
+        Some(Ok(number)) => register(number),
+        Some(Err(_)) => "over 255 (not defined)".to_string(),
+        None => "none".to_string(),
+    }
+}
+
 #[cfg(test)]
 mod tests {
     use super::*;
@@ -192,5 +201,8 @@ mod tests {
         assert_eq!(register(0x21), "zpc");
         assert_eq!(register(0xff), "none");
         assert_eq!(register(0x30), "48 (not defined)");
+        assert_eq!(register_in_number(Some(15)), "a7");
+        assert_eq!(register_in_number(Some(0x100)), "over 255 (not defined)");
+        assert_eq!(register_in_number(None), "none");
     }
 }

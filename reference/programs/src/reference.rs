@@ -4,8 +4,8 @@
 //! given the limit at run time.
 
 use crate::answer::{push_reading, push_refusal};
-use crate::frame::{Frame, LONGEST_FRAME};
-use crate::hex;
+use crate::frame::{decode_into, Frame};
+use crate::layout::Layout;
 use crate::records::Records;
 use crate::recover::Source;
 use crate::refusal::{limit_refusal, refusal, Refusal};
@@ -33,23 +33,22 @@ impl Reference {
         }
     }
 
-    /// Appends the answer to a line of input to `out`, without a line feed.
+    /// Appends the answer to a line of input to `out`, without a line feed. It has the line's
+    /// layout.
     pub fn answer(&mut self, text: &[u8], out: &mut Vec<u8>) {
+        let (layout, _) = Layout::of_line(text);
         match self.read(text) {
-            Ok(cursor) => push_reading(out, cursor, &self.records),
-            Err(refusal) => push_refusal(out, refusal.number()),
+            Ok(cursor) => push_reading(out, layout, cursor, &self.records),
+            Err(refusal) => push_refusal(out, layout, refusal.number()),
         }
     }
 
     /// Reads a line of input into `self.records` and gives the cursor.
-    fn read(&mut self, text: &[u8]) -> Result<u8, Refusal> {
-        if text.len() > LONGEST_FRAME {
-            return Err(Refusal::BadFrame);
-        }
-        hex::decode_into(text, &mut self.bytes).map_err(|_| Refusal::BadFrame)?;
-        let frame = Frame::of(&self.bytes).map_err(|_| Refusal::BadFrame)?;
-        let start = frame.start as usize;
-        if let Some(refusal) = refusal(frame.line, frame.tokens.as_flattened(), start) {
+    fn read(&mut self, text: &[u8]) -> Result<usize, Refusal> {
+        let layout = decode_into(text, &mut self.bytes).map_err(|_| Refusal::BadFrame)?;
+        let frame = Frame::of(layout, &self.bytes).map_err(|_| Refusal::BadFrame)?;
+        let start = frame.start;
+        if let Some(refusal) = refusal(layout, frame.line, frame.list, start) {
             return Err(refusal);
         }
         if let Some(refusal) = self.limit.and_then(limit_refusal) {
@@ -57,8 +56,7 @@ impl Reference {
         }
         let line = std::str::from_utf8(frame.line).expect("bytes 20 to 7E are UTF-8");
         self.tokens.clear();
-        self.tokens
-            .extend(frame.tokens.iter().map(|token| rust_token(*token)));
+        self.tokens.extend(frame.tokens().map(rust_token));
         let lent = std::mem::take(&mut self.tokens);
         let reading = read_operand(self.limit, line, lent, start, frame.symbol_at());
         self.tokens = reading.tokens;
@@ -69,7 +67,7 @@ impl Reference {
         };
         self.records
             .fill(reading.operand.as_ref(), &reading.diagnostics, source);
-        Ok(u8::try_from(reading.cursor).expect("a place of the list"))
+        Ok(reading.cursor)
     }
 }
 

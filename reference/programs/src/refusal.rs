@@ -1,8 +1,8 @@
 //! Refusals 1 to 5, 8 and 18. Numbers 6 and 7 speak of stores that only a caller of the function
 //! lends; a program lends its own, which are large enough.
 
-use crate::frame::{LONGEST_LINE, MOST_TOKENS};
-use crate::tokens::first_bad_token;
+use crate::layout::Layout;
+use crate::tokens::{first_bad_token, list_tokens};
 use std::ops::RangeInclusive;
 
 /// The nesting limits that a call may choose.
@@ -13,11 +13,12 @@ pub const LIMIT_PROGRAM: usize = 64;
 /// Why no reading takes place.
 #[derive(Debug, Clone, Copy, PartialEq, Eq)]
 pub enum Refusal {
-    /// The line is over 255 bytes.
+    /// The line is over 255 bytes, or 4,095 in the wide layout.
     LongLine = 1,
     /// A byte of the line is outside 20 to 7E hexadecimal.
     ForeignByte = 2,
-    /// The list's length is not a multiple of 4, or it has over 255 tokens.
+    /// The list's length is not a multiple of a token's, or it has over 255 tokens, or 1,023 in
+    /// the wide layout.
     BadList = 3,
     /// A token is bad.
     BadToken = 4,
@@ -36,23 +37,24 @@ impl Refusal {
     }
 }
 
-/// The first refusal up to 5, in the order of their numbers, that applies to what a call is lent.
-/// `list` is the token list's bytes.
-pub fn refusal(line: &[u8], list: &[u8], start: usize) -> Option<Refusal> {
-    if line.len() > LONGEST_LINE {
+/// The first refusal up to 5, in the order of their numbers, that applies to what a call is lent
+/// in a layout. `list` is the token list's bytes.
+pub fn refusal(layout: Layout, line: &[u8], list: &[u8], start: usize) -> Option<Refusal> {
+    if line.len() > layout.longest_line() {
         return Some(Refusal::LongLine);
     }
     if !line.iter().all(|byte| (0x20..=0x7e).contains(byte)) {
         return Some(Refusal::ForeignByte);
     }
-    let (tokens, rest) = list.as_chunks();
-    if !rest.is_empty() || tokens.len() > MOST_TOKENS {
+    let count = list.len() / layout.token_bytes();
+    let whole = list.len() == count * layout.token_bytes();
+    if !whole || count > layout.most_tokens() {
         return Some(Refusal::BadList);
     }
-    if first_bad_token(line, tokens).is_some() {
+    if first_bad_token(line, list_tokens(layout, list)).is_some() {
         return Some(Refusal::BadToken);
     }
-    (start > tokens.len()).then_some(Refusal::BadStart)
+    (start > count).then_some(Refusal::BadStart)
 }
 
 /// Refusal 18, which stands behind all others.
@@ -64,21 +66,40 @@ pub fn limit_refusal(limit: usize) -> Option<Refusal> {
 mod tests {
     use super::*;
 
+    /// An empty Whitespace token, so many times.
+    fn blanks(layout: Layout, count: usize) -> Vec<u8> {
+        let mut blank = vec![0; layout.token_bytes()];
+        blank[0] = 26;
+        blank.repeat(count)
+    }
+
     #[test]
     fn each_on_its_condition_alone() {
-        assert_eq!(refusal(b"", &[], 0), None);
-        assert_eq!(refusal(b"d0", &[0, 0, 0, 2], 1), None);
-        assert_eq!(refusal(&[b'a'; 256], &[], 0), Some(Refusal::LongLine));
-        assert_eq!(refusal(&[b'a'; 255], &[], 0), None);
-        assert_eq!(refusal(b"\x1f", &[], 0), Some(Refusal::ForeignByte));
-        assert_eq!(refusal(b"\x7f", &[], 0), Some(Refusal::ForeignByte));
-        assert_eq!(refusal(b" ~", &[], 0), None);
-        assert_eq!(refusal(b"", &[26, 0, 0], 0), Some(Refusal::BadList));
-        let (most, over) = ([26, 0, 0, 0].repeat(255), [26, 0, 0, 0].repeat(256));
-        assert_eq!(refusal(b"", &most, 255), None);
-        assert_eq!(refusal(b"", &over, 0), Some(Refusal::BadList));
-        assert_eq!(refusal(b"", &[30, 0, 0, 0], 0), Some(Refusal::BadToken));
-        assert_eq!(refusal(b"", &[], 1), Some(Refusal::BadStart));
+        for layout in Layout::BOTH {
+            let refusal = |line: &[u8], list: &[u8], start| refusal(layout, line, list, start);
+            assert_eq!(refusal(b"", &[], 0), None);
+            let most = vec![b'a'; layout.longest_line()];
+            assert_eq!(refusal(&most, &[], 0), None);
+            let over = [&most[..], b"a"].concat();
+            assert_eq!(refusal(&over, &[], 0), Some(Refusal::LongLine));
+            assert_eq!(refusal(b"\x1f", &[], 0), Some(Refusal::ForeignByte));
+            assert_eq!(refusal(b"\x7f", &[], 0), Some(Refusal::ForeignByte));
+            assert_eq!(refusal(b" ~", &[], 0), None);
+            let one = blanks(layout, 1);
+            for end in 1..one.len() {
+                assert_eq!(refusal(b"", &one[..end], 0), Some(Refusal::BadList));
+            }
+            let count = layout.most_tokens();
+            assert_eq!(refusal(b"", &blanks(layout, count), count), None);
+            let over = blanks(layout, count + 1);
+            assert_eq!(refusal(b"", &over, 0), Some(Refusal::BadList));
+            let bad = blanks(layout, 1)
+                .iter()
+                .map(|byte| byte + 4)
+                .collect::<Vec<u8>>();
+            assert_eq!(refusal(b"", &bad, 0), Some(Refusal::BadToken));
+            assert_eq!(refusal(b"", &[], 1), Some(Refusal::BadStart));
+        }
     }
 
     #[test]
@@ -93,10 +114,15 @@ mod tests {
 
     #[test]
     fn the_lowest_number_is_given() {
-        let long = [0u8; 256];
-        assert_eq!(refusal(&long, &[1], 9), Some(Refusal::LongLine));
-        assert_eq!(refusal(b"\0", &[1], 9), Some(Refusal::ForeignByte));
-        assert_eq!(refusal(b"", &[30, 0, 0, 0, 1], 9), Some(Refusal::BadList));
-        assert_eq!(refusal(b"", &[30, 0, 0, 0], 9), Some(Refusal::BadToken));
+        for layout in Layout::BOTH {
+            let refusal = |line: &[u8], list: &[u8]| refusal(layout, line, list, 65_535);
+            let long = vec![0u8; layout.longest_line() + 1];
+            assert_eq!(refusal(&long, &[1]), Some(Refusal::LongLine));
+            assert_eq!(refusal(b"\0", &[1]), Some(Refusal::ForeignByte));
+            let bad = vec![30; layout.token_bytes()];
+            let rest = [&bad[..], &[1]].concat();
+            assert_eq!(refusal(b"", &rest), Some(Refusal::BadList));
+            assert_eq!(refusal(b"", &bad), Some(Refusal::BadToken));
+        }
     }
 }

@@ -1,8 +1,60 @@
-//! Token kinds, and what makes a token bad (refusal 4).
+//! Tokens, their kinds, and what makes a token bad (refusal 4).
 
-use crate::frame::TokenBytes;
+use crate::layout::{Layout, Pair, Parts};
 use s68k::assembler::source::Span;
 use s68k::assembler::token::{NumberBase, QuoteKind, Token, TokenKind};
+
+/// A token (docs/FORMAT.md). It need not be a good one.
+#[derive(Debug, Clone, Copy, PartialEq, Eq)]
+pub struct TokenRecord {
+    /// Its kind.
+    pub kind: u8,
+    /// Its detail.
+    pub detail: u8,
+    /// The offset of its first byte.
+    pub start: usize,
+    /// The offset behind its last byte.
+    pub end: usize,
+}
+
+impl TokenRecord {
+    /// A token of a kind and a detail under a span.
+    pub const fn new(kind: u8, detail: u8, start: usize, end: usize) -> Self {
+        Self {
+            kind,
+            detail,
+            start,
+            end,
+        }
+    }
+
+    /// Its span.
+    pub fn span(&self) -> Pair {
+        [self.start, self.end]
+    }
+
+    /// The token that the next bytes write.
+    fn of(parts: &mut Parts) -> Self {
+        let (kind, detail, [start, end]) = (parts.byte(), parts.byte(), parts.pair());
+        Self::new(kind, detail, start, end)
+    }
+}
+
+/// The tokens of a list's bytes. What is left behind the last whole one is no token.
+pub fn list_tokens(layout: Layout, list: &[u8]) -> impl Iterator<Item = TokenRecord> + '_ {
+    let records = list.chunks_exact(layout.token_bytes());
+    records.map(move |bytes| TokenRecord::of(&mut Parts::new(layout, bytes)))
+}
+
+/// The bytes of a list.
+pub fn list_bytes(layout: Layout, tokens: &[TokenRecord]) -> Vec<u8> {
+    let mut list = Vec::with_capacity(layout.token_bytes() * tokens.len());
+    for token in tokens {
+        list.extend([token.kind, token.detail]);
+        layout.push_pair(&mut list, token.span());
+    }
+    list
+}
 
 /// How many kinds there are; the kinds are 0 to 29.
 pub const KINDS: usize = 30;
@@ -181,8 +233,13 @@ impl TokenFault {
 }
 
 /// The first fault of a token, in a list whose previous token ends at `previous_end`.
-pub fn token_fault(line: &[u8], token: TokenBytes, previous_end: u8) -> Option<TokenFault> {
-    let [kind, detail, start, end] = token;
+pub fn token_fault(line: &[u8], token: TokenRecord, previous_end: usize) -> Option<TokenFault> {
+    let TokenRecord {
+        kind,
+        detail,
+        start,
+        end,
+    } = token;
     if kind as usize >= KINDS {
         return Some(TokenFault::Kind);
     }
@@ -192,13 +249,13 @@ pub fn token_fault(line: &[u8], token: TokenBytes, previous_end: u8) -> Option<T
     if start > end {
         return Some(TokenFault::Backwards);
     }
-    if end as usize > line.len() {
+    if end > line.len() {
         return Some(TokenFault::PastLine);
     }
     if start < previous_end {
         return Some(TokenFault::Overlap);
     }
-    text_fault(kind, detail, &line[start as usize..end as usize])
+    text_fault(kind, detail, &line[start..end])
 }
 
 /// The fault of a token's text, if its kind asks something of it.
@@ -216,27 +273,30 @@ fn text_fault(kind: u8, detail: u8, text: &[u8]) -> Option<TokenFault> {
 }
 
 /// The first bad token of a list: its place and its fault.
-pub fn first_bad_token(line: &[u8], tokens: &[TokenBytes]) -> Option<(usize, TokenFault)> {
+pub fn first_bad_token(
+    line: &[u8],
+    tokens: impl IntoIterator<Item = TokenRecord>,
+) -> Option<(usize, TokenFault)> {
     let mut previous_end = 0;
-    for (place, token) in tokens.iter().enumerate() {
-        if let Some(fault) = token_fault(line, *token, previous_end) {
+    for (place, token) in tokens.into_iter().enumerate() {
+        if let Some(fault) = token_fault(line, token, previous_end) {
             return Some((place, fault));
         }
-        previous_end = token[3];
+        previous_end = token.end;
     }
     None
 }
 
 /// A good token as the Rust has it. The two flags about the line's layout are read by the
 /// functions that find a line's fields, and not by `parse_operand`.
-pub fn rust_token(token: TokenBytes) -> Token {
-    let [kind, detail, start, end] = token;
-    let kind = match RUST_KINDS[kind as usize] {
-        TokenKind::Number(_) => TokenKind::Number(BASES[detail as usize]),
-        TokenKind::StringLiteral(_) => TokenKind::StringLiteral(QUOTES[detail as usize]),
+pub fn rust_token(token: TokenRecord) -> Token {
+    let detail = token.detail as usize;
+    let kind = match RUST_KINDS[token.kind as usize] {
+        TokenKind::Number(_) => TokenKind::Number(BASES[detail]),
+        TokenKind::StringLiteral(_) => TokenKind::StringLiteral(QUOTES[detail]),
         other => other,
     };
-    Token::new(kind, Span::new(start as usize, end as usize))
+    Token::new(kind, Span::new(token.start, token.end))
 }
 
 #[cfg(test)]
@@ -275,33 +335,55 @@ mod tests {
     fn each_fault() {
         use TokenFault::*;
         let line = b"$1 <<a";
-        let fault = |token| token_fault(line, token, 1);
-        assert_eq!(fault([30, 0, 1, 2]), Some(Kind));
-        assert_eq!(fault([255, 9, 9, 1]), Some(Kind));
-        assert_eq!(fault([2, 4, 1, 2]), Some(Detail));
-        assert_eq!(fault([3, 2, 1, 2]), Some(Detail));
-        assert_eq!(fault([0, 1, 5, 6]), Some(Detail));
-        assert_eq!(fault([26, 1, 2, 3]), Some(Detail));
-        assert_eq!(fault([0, 0, 3, 2]), Some(Backwards));
-        assert_eq!(fault([0, 0, 5, 7]), Some(PastLine));
-        assert_eq!(fault([0, 0, 0, 2]), Some(Overlap));
-        assert_eq!(fault([2, 1, 1, 2]), Some(NoPrefix));
-        assert_eq!(fault([2, 1, 1, 1]), Some(NoPrefix));
-        assert_eq!(fault([2, 0, 1, 1]), Some(Empty));
-        assert_eq!(fault([4, 0, 6, 6]), Some(Empty));
-        assert_eq!(fault([5, 0, 5, 6]), Some(Spelling));
-        assert_eq!(fault([24, 0, 3, 4]), Some(Spelling));
+        let fault = |[kind, detail]: [u8; 2], start, end| {
+            token_fault(line, TokenRecord::new(kind, detail, start, end), 1)
+        };
+        assert_eq!(fault([30, 0], 1, 2), Some(Kind));
+        assert_eq!(fault([255, 9], 9, 1), Some(Kind));
+        assert_eq!(fault([2, 4], 1, 2), Some(Detail));
+        assert_eq!(fault([3, 2], 1, 2), Some(Detail));
+        assert_eq!(fault([0, 1], 5, 6), Some(Detail));
+        assert_eq!(fault([26, 1], 2, 3), Some(Detail));
+        assert_eq!(fault([0, 0], 3, 2), Some(Backwards));
+        assert_eq!(fault([0, 0], 5, 7), Some(PastLine));
+        assert_eq!(fault([0, 0], 0, 2), Some(Overlap));
+        assert_eq!(fault([2, 1], 1, 2), Some(NoPrefix));
+        assert_eq!(fault([2, 1], 1, 1), Some(NoPrefix));
+        assert_eq!(fault([2, 0], 1, 1), Some(Empty));
+        assert_eq!(fault([4, 0], 6, 6), Some(Empty));
+        assert_eq!(fault([5, 0], 5, 6), Some(Spelling));
+        assert_eq!(fault([24, 0], 3, 4), Some(Spelling));
     }
 
     #[test]
     fn good_tokens() {
         let line = b"$1 <<a";
-        assert_eq!(token_fault(line, [2, 1, 0, 1], 0), None);
-        assert_eq!(token_fault(line, [2, 0, 0, 2], 0), None);
-        assert_eq!(token_fault(line, [24, 0, 3, 5], 0), None);
+        let fault = |[kind, detail]: [u8; 2], start, end, previous_end| {
+            let token = TokenRecord::new(kind, detail, start, end);
+            token_fault(line, token, previous_end)
+        };
+        assert_eq!(fault([2, 1], 0, 1, 0), None);
+        assert_eq!(fault([2, 0], 0, 2, 0), None);
+        assert_eq!(fault([24, 0], 3, 5, 0), None);
         for kind in 26..30 {
-            assert_eq!(token_fault(line, [kind, 0, 6, 6], 6), None);
-            assert_eq!(token_fault(line, [kind, 0, 0, 6], 0), None);
+            assert_eq!(fault([kind, 0], 6, 6, 6), None);
+            assert_eq!(fault([kind, 0], 0, 6, 0), None);
+        }
+    }
+
+    #[test]
+    fn lists_there_and_back() {
+        let tokens = [
+            TokenRecord::new(2, 3, 0, 255),
+            TokenRecord::new(29, 0, 255, 255),
+        ];
+        for (layout, bytes) in [
+            (Layout::Narrow, &[2, 3, 0, 255, 29, 0, 255, 255][..]),
+            (Layout::Wide, &[2, 3, 0, 0, 255, 0, 29, 0, 255, 0, 255, 0]),
+        ] {
+            assert_eq!(list_bytes(layout, &tokens), bytes);
+            assert!(list_tokens(layout, bytes).eq(tokens));
+            assert!(list_tokens(layout, &bytes[..bytes.len() - 1]).eq([tokens[0]]));
         }
     }
 }

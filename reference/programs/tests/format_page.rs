@@ -1,10 +1,12 @@
 //! docs/FORMAT.md: its tables have the names that the programs use, its examples the reference's answers.
 
+mod common;
+
+use common::frame_of;
 use frames::coverage::REACHABLE;
-use frames::frame::Frame;
-use frames::lexer::tokens_of;
+use frames::layout::Layout;
 use frames::names;
-use frames::records::{operand_at, NOT_AN_ADDRESS_REGISTER, PROBLEMS};
+use frames::records::{OperandRecord, NOT_AN_ADDRESS_REGISTER, PROBLEMS};
 use frames::reference::answer_line;
 use frames::tokens::{kind_name, sign, KINDS};
 use s68k::assembler::diagnostics::OperandShape;
@@ -34,21 +36,10 @@ fn plain() -> String {
     PAGE.replace('`', "").replace("\\|", "|")
 }
 
-/// A line of an example: a frame or an answer.
+/// A line of an example: a frame or an answer, narrow or wide.
 fn is_hex(line: &str) -> bool {
-    line.starts_with("    ") && line.trim().bytes().all(|byte| byte.is_ascii_hexdigit())
-}
-
-/// The frame of a text, from its first token on, without a mark.
-fn frame_of(text: &str) -> Vec<u8> {
-    let tokens = tokens_of(text.as_bytes(), false).expect("a text for the lexer");
-    let frame = Frame {
-        line: text.as_bytes(),
-        tokens: &tokens,
-        start: 0,
-        mark: 255,
-    };
-    frame.to_line()
+    let (_, digits) = Layout::of_line(line.trim().as_bytes());
+    line.starts_with("    ") && digits.iter().all(u8::is_ascii_hexdigit)
 }
 
 /// Every word stands behind its number, in a cell of its own.
@@ -92,7 +83,7 @@ fn the_forms_have_their_examples() {
         let row = PAGE.lines().find(|line| line.starts_with(&head));
         let cell = row.expect("a row").split('|').nth(5).expect("a cell");
         for text in cell.split('`').skip(1).step_by(2) {
-            let answer = answer_line(&frame_of(text));
+            let answer = answer_line(&frame_of(Layout::Narrow, text));
             // an operand, its diagnostics and its form
             assert_eq!(&answer[..2], b"00", "{text}");
             assert_eq!(&answer[6..10], b"0000", "{text}");
@@ -120,34 +111,84 @@ fn the_forms_are_the_first_operands_of_the_rust() {
     }
 }
 
+/// The parts of an operand's record as the page calls them, each with a change that it shows in.
+const PARTS: [(&str, Change); 16] = [
+    ("form", |record| record.form = 1),
+    ("span", |record| record.span = NUMBERS),
+    ("node", |record| record.node = Some(NUMBERS[0])),
+    ("size", |record| record.size = 1),
+    ("base", |record| record.base = 1),
+    ("base's span", |record| record.base_span = NUMBERS),
+    ("index register", |record| record.index = 1),
+    ("index register's span", |record| {
+        record.index_register_span = NUMBERS
+    }),
+    ("index size", |record| record.index_size = 1),
+    ("index scale", |record| record.index_scale = 1),
+    ("index suppressed", |record| record.index_suppressed = 1),
+    ("index's span", |record| record.index_span = NUMBERS),
+    ("indirection", |record| record.indirection = 1),
+    ("outer node", |record| record.outer_node = Some(NUMBERS[0])),
+    ("outer size", |record| record.outer_size = 1),
+    ("special register, or long", |record| {
+        record.special_or_long = 1
+    }),
+];
+
+/// A change of one part.
+type Change = fn(&mut OperandRecord);
+
+/// Numbers of which every low byte shows.
+const NUMBERS: [usize; 2] = [0x11, 0x22];
+
+/// The places of a part in a record of a layout, as the page writes them: `3`, or `1, 2`, or
+/// `1 to 4`. A wide number's high byte is the place behind its low one.
+fn places(layout: Layout, change: Change) -> String {
+    let zeros = vec![0; layout.operand_bytes()];
+    let mut record = OperandRecord::of(layout, &zeros);
+    change(&mut record);
+    let mut bytes = Vec::new();
+    record.push(layout, &mut bytes);
+    let shown: Vec<usize> = (0..bytes.len()).filter(|at| bytes[*at] != 0).collect();
+    let is_number = bytes[shown[0]] == NUMBERS[0] as u8;
+    let high = if is_number {
+        layout.number_bytes() - 1
+    } else {
+        0
+    };
+    let (first, last) = (shown[0], shown[shown.len() - 1] + high);
+    match last - first {
+        0 => format!("{first}"),
+        1 => format!("{first}, {last}"),
+        _ => format!("{first} to {last}"),
+    }
+}
+
+/// Each part has its row: its narrow places alone, or behind them its wide ones in a column of
+/// their own, where every row has them.
 #[test]
 fn the_operand_has_its_places() {
     let page = plain();
-    for (place, row) in [
-        (operand_at::FORM, "form"),
-        (operand_at::NODE, "node"),
-        (operand_at::SIZE, "size"),
-        (operand_at::BASE, "base"),
-        (operand_at::INDEX, "index register"),
-        (operand_at::INDEX_SIZE, "index size"),
-        (operand_at::INDEX_SCALE, "index scale"),
-        (operand_at::INDEX_SUPPRESSED, "index suppressed"),
-        (operand_at::INDIRECTION, "indirection"),
-        (operand_at::OUTER_NODE, "outer node"),
-        (operand_at::OUTER_SIZE, "outer size"),
-        (operand_at::SPECIAL_OR_LONG, "special register, or long"),
-    ] {
-        assert!(page.contains(&format!("| {place} | {row} |")), "{row}");
+    let mut columns = Vec::new();
+    for (part, change) in PARTS {
+        let [narrow, wide] = Layout::BOTH.map(|layout| places(layout, change));
+        let alone = page.contains(&format!("| {narrow} | {part} |"));
+        let both = page.contains(&format!("| {narrow} | {wide} | {part} |"));
+        assert!(alone || both, "| {narrow} | {wide} | {part} |");
+        columns.push(both);
     }
-    for (place, row) in [
-        (operand_at::SPAN, "span"),
-        (operand_at::BASE_SPAN, "base's span"),
-        (operand_at::INDEX_REGISTER_SPAN, "index register's span"),
-        (operand_at::INDEX_SPAN, "index's span"),
-    ] {
-        let row = format!("| {place}, {} | {row} |", place + 1);
-        assert!(page.contains(&row), "{row}");
-    }
+    columns.dedup();
+    assert_eq!(columns.len(), 1, "every row has the same columns");
+}
+
+#[test]
+fn the_parts_have_the_papers_places() {
+    let all = |layout| PARTS.map(|(_, change)| places(layout, change)).join("; ");
+    let narrow = "0; 1, 2; 3; 4; 5; 6, 7; 8; 9, 10; 11; 12; 13; 14, 15; 16; 17; 18; 19";
+    let wide =
+        "0; 1 to 4; 5, 6; 7; 8; 9 to 12; 13; 14 to 17; 18; 19; 20; 21 to 24; 25; 26, 27; 28; 29";
+    assert_eq!(all(Layout::Narrow), narrow);
+    assert_eq!(all(Layout::Wide), wide);
 }
 
 #[test]
@@ -197,9 +238,10 @@ fn the_examples_are_the_references() {
     for four in examples {
         let (frame, answer) = (four[2].trim(), four[3].trim());
         let text = four[0].split('`').nth(1).expect("a text in backquotes");
-        assert_eq!(frame_of(text), frame.as_bytes(), "{text}");
+        let (layout, _) = Layout::of_line(frame.as_bytes());
+        assert_eq!(frame_of(layout, text), frame.as_bytes(), "{text}");
         assert_eq!(answer_line(frame.as_bytes()), answer.as_bytes(), "{text}");
-        seen += 1;
+        seen += usize::from(layout == Layout::Narrow);
     }
     assert_eq!(seen, 4);
 }
@@ -224,7 +266,7 @@ fn the_examples_are_taken_apart_whole() {
         let both = format!("{}{answer}", frame.trim());
         if !rows.is_empty() {
             assert!(bytes == both || bytes == answer, "{bytes}");
-            tables += 1;
+            tables += usize::from(!answer.starts_with('w'));
         }
     }
     assert_eq!(tables, 3);

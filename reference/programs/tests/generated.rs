@@ -1,8 +1,9 @@
 //! What holds of every reading, on generated frames.
 
 use frames::answer::Answer;
-use frames::frame::{frame_bytes, Frame};
+use frames::frame::{Frame, FrameBytes};
 use frames::generate::input_line_at;
+use frames::layout::Layout;
 use frames::records::{NodeRecord, Records};
 use frames::reference::answer_line_at;
 
@@ -10,16 +11,17 @@ use frames::reference::answer_line_at;
 const LIMITS: [usize; 6] = [1, 2, 3, 64, 127, 128];
 
 /// The readings of generated frames: the limit, the frame, the cursor and the records.
-fn for_each_reading(count: u64, check: impl Fn(usize, &Frame, u8, &Records)) {
+fn for_each_reading(count: u64, check: impl Fn(usize, &Frame, usize, &Records)) {
     for limit in LIMITS {
         for number in 0..count {
             let line = input_line_at(11, number, limit);
             let answer = answer_line_at(&line, limit);
-            let parsed = Answer::of_line(&answer).expect("an answer");
-            assert_eq!(parsed.to_line(), answer);
+            let (layout, parsed) = Answer::of_line(&answer).expect("an answer");
+            assert_eq!(layout, Layout::of_line(&line).0);
+            assert_eq!(parsed.to_line(layout), answer);
             if let Answer::Reading { cursor, records } = parsed {
-                let bytes = frame_bytes(&line).expect("a frame was read");
-                let frame = Frame::of(&bytes).expect("a frame");
+                let bytes = FrameBytes::of_line(&line).expect("a frame was read");
+                let frame = bytes.frame().expect("a frame");
                 check(limit, &frame, cursor, &records);
             }
         }
@@ -27,27 +29,24 @@ fn for_each_reading(count: u64, check: impl Fn(usize, &Frame, u8, &Records)) {
 }
 
 /// The children of a tree's node.
-fn children(node: &NodeRecord) -> &[u8] {
-    match node[0] {
-        5 => &node[2..3],
-        6 => &node[2..4],
-        _ => &[],
+fn children(node: &NodeRecord) -> Vec<usize> {
+    match node.kind {
+        5 | 6 => [node.left, node.right].into_iter().flatten().collect(),
+        _ => Vec::new(),
     }
 }
 
 #[test]
 fn bounds_of_every_reading() {
     for_each_reading(20_000, |_, frame, cursor, records| {
-        assert!(frame.start <= cursor && cursor as usize <= frame.tokens.len());
-        let consumed = (cursor - frame.start) as usize;
+        assert!(frame.start <= cursor && cursor <= frame.count());
+        let consumed = cursor - frame.start;
         let none = usize::from(records.operand.is_none());
         assert!(records.nodes.len() <= consumed);
         assert!(records.diagnostics.len() <= consumed + none);
         assert!(records.operand.is_some() || records.nodes.is_empty());
         for (number, node) in records.nodes.iter().enumerate() {
-            assert!(children(node)
-                .iter()
-                .all(|child| (*child as usize) < number));
+            assert!(children(node).iter().all(|child| *child < number));
         }
     });
 }
@@ -58,13 +57,14 @@ fn bounds_of_every_reading() {
 fn what_lies_behind_the_cursor_does_not_count() {
     for_each_reading(10_000, |limit, frame, cursor, records| {
         let further = usize::from(records.operand.is_none());
-        let kept = (cursor as usize + 1 + further).min(frame.tokens.len());
+        let kept = (cursor + 1 + further).min(frame.count());
         let cut = Frame {
-            tokens: &frame.tokens[..kept],
+            list: &frame.list[..kept * frame.layout.token_bytes()],
             ..*frame
         };
         let answer = Answer::of_line(&answer_line_at(&cut.to_line(), limit));
         let records = records.clone();
-        assert_eq!(answer, Ok(Answer::Reading { cursor, records }));
+        let reading = Answer::Reading { cursor, records };
+        assert_eq!(answer, Ok((frame.layout, reading)));
     });
 }

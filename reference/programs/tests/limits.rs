@@ -51,8 +51,8 @@ fn groups_up_to_every_limit() {
 }
 
 fn raises_nesting_too_deep(answer: &[u8]) -> bool {
-    match Answer::of_line(answer).expect("an answer") {
-        Answer::Reading { records, .. } => records.diagnostics.iter().any(|one| one[0] == 6),
+    match Answer::of_line(answer).expect("an answer").1 {
+        Answer::Reading { records, .. } => records.diagnostics.iter().any(|one| one.kind == 6),
         Answer::Refused(_) => false,
     }
 }

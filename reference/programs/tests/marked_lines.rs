@@ -3,7 +3,6 @@
 mod common;
 
 use common::{read, read_marked, NO_MARK};
-use frames::records::operand_at;
 use frames::reference::answer_line;
 
 const SAMPLE: &[u8] = b"053428613029040200000107000102000002040800040500ff";
@@ -84,8 +83,8 @@ fn empty_brackets_are_form_12() {
 #[test]
 fn a_name_keeps_its_own_span() {
     let reading = read("(name)");
-    assert_eq!(reading.operand_span(operand_at::SPAN), (0, 6));
-    assert_eq!(reading.root()[4..8], [0, 6, 1, 5]);
+    assert_eq!(reading.operand().span, [0, 6]);
+    assert_eq!(reading.spans_of_root(), ([0, 6], [1, 5]));
 }
 
 #[test]

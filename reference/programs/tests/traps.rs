@@ -3,7 +3,13 @@
 mod common;
 
 use common::{read, read_marked, read_tokens, NO_MARK};
-use frames::records::operand_at;
+use frames::layout::Layout;
+use frames::records::{DiagnosticRecord, NodeRecord};
+use frames::tokens::TokenRecord;
+
+const fn token(kind: u8, detail: u8, start: usize, end: usize) -> TokenRecord {
+    TokenRecord::new(kind, detail, start, end)
+}
 
 #[test]
 fn depth_is_tested_before_the_token() {
@@ -30,18 +36,18 @@ fn only_outer_levels_read_on_behind_a_failed_side() {
     let displaced = read("4+d0(a0)");
     assert_eq!((displaced.form(), displaced.kinds()), (8, vec![11]));
     let sized = read("1+d0.w");
-    assert_eq!((sized.form(), sized.operand(operand_at::SIZE)), (13, 2));
+    assert_eq!((sized.form(), sized.operand().size), (13, 2));
 }
 
 #[test]
 fn spans_are_not_first_to_last_token() {
     let open = read("1+");
-    assert_eq!(open.operand_span(operand_at::SPAN), (0, 1));
+    assert_eq!(open.operand().span, [0, 1]);
     assert_eq!(open.cursor, 2);
     let plus = read("+5");
-    assert_eq!(plus.operand_span(operand_at::SPAN), (0, 2));
-    assert_eq!(plus.root()[4..6], [1, 2]);
-    assert_eq!(read("(+name)").root()[4..8], [0, 7, 2, 6]);
+    assert_eq!(plus.operand().span, [0, 2]);
+    assert_eq!(plus.root().span, [1, 2]);
+    assert_eq!(read("(+name)").spans_of_root(), ([0, 7], [2, 6]));
 }
 
 #[test]
@@ -93,20 +99,20 @@ fn where_a_register_is_wanted_and_none_stands() {
 
 #[test]
 fn suppressed_names() {
-    assert_eq!(read("(zsp)").operand(operand_at::BASE), 0x1f);
-    assert_eq!(read("(zpc)").operand(operand_at::BASE), 0x21);
+    assert_eq!(read("(zsp)").operand().base, 0x1f);
+    assert_eq!(read("(zpc)").operand().base, 0x21);
     let outer = read("([a0],zpc)");
     assert_eq!(outer.form(), 12);
-    assert_eq!(outer.operand(operand_at::OUTER_NODE), 0);
-    assert_eq!(outer.records.nodes[0][0], 3);
+    assert_eq!(outer.operand().outer_node, Some(0));
+    assert_eq!(outer.records.nodes[0].kind, 3);
     assert_eq!(read("zd0").form(), 13);
     assert_eq!(read("pc").kinds(), [11]);
 }
 
 #[test]
 fn a_local_name_is_never_reserved() {
-    let reading = read_tokens("d0", &[[1, 0, 0, 2]], 0, NO_MARK);
-    assert_eq!((reading.form(), reading.root()[0]), (13, 3));
+    let reading = read_tokens("d0", &[token(1, 0, 0, 2)], 0, NO_MARK);
+    assert_eq!((reading.form(), reading.root().kind), (13, 3));
 }
 
 #[test]
@@ -119,10 +125,12 @@ fn the_mark_is_for_suppressed_names_alone() {
 
 #[test]
 fn odd_suffixes_and_literals() {
-    let suffix = read_tokens("1xw", &[[2, 0, 0, 1], [4, 0, 1, 3]], 0, NO_MARK);
-    assert_eq!(suffix.operand(operand_at::SIZE), 2);
-    let literal = read_tokens("abca", &[[3, 0, 0, 4]], 0, NO_MARK);
-    assert_eq!(literal.root()[..8], [2, 0, 255, 255, 0, 4, 0, 4]);
+    let suffix = read_tokens("1xw", &[token(2, 0, 0, 1), token(4, 0, 1, 3)], 0, NO_MARK);
+    assert_eq!(suffix.operand().size, 2);
+    let literal = read_tokens("abca", &[token(3, 0, 0, 4)], 0, NO_MARK);
+    let root = literal.root();
+    assert_eq!((root.kind, root.left, root.right), (2, None, None));
+    assert_eq!(literal.spans_of_root(), ([0, 4], [0, 4]));
 }
 
 #[test]
@@ -143,14 +151,16 @@ fn a_leading_comma_expects_an_operand() {
 #[test]
 fn kind_9_holds_the_sign_it_follows() {
     let minus = read("d0-");
+    let bytes = [9, 0, 0x2d, 3, 3, 0, 0, 0, 0, 0];
     assert_eq!(
-        minus.records.diagnostics[0],
-        [9, 0, 0x2d, 3, 3, 0, 0, 0, 0, 0]
+        minus.diagnostic(0),
+        DiagnosticRecord::of(Layout::Narrow, &bytes)
     );
     let slash = read("d0/1");
+    let bytes = [9, 0, 0x2f, 3, 4, 0, 0, 0, 0, 0];
     assert_eq!(
-        slash.records.diagnostics[0],
-        [9, 0, 0x2f, 3, 4, 0, 0, 0, 0, 0]
+        slash.diagnostic(0),
+        DiagnosticRecord::of(Layout::Narrow, &bytes)
     );
 }
 
@@ -158,11 +168,11 @@ fn kind_9_holds_the_sign_it_follows() {
 fn kind_2_quotes_behind_the_first_byte() {
     let unknown = read("(1.q,a0)");
     assert_eq!((unknown.form(), unknown.kinds()), (12, vec![2]));
-    assert_eq!(unknown.operand(operand_at::SIZE), 0);
+    assert_eq!(unknown.operand().size, 0);
     assert_eq!((unknown.span(0), unknown.text(0)), ((2, 4), (3, 4)));
     let lone = read("1.");
     assert_eq!((lone.span(0), lone.text(0)), ((1, 2), (2, 2)));
-    assert_eq!(lone.operand_span(operand_at::SPAN), (0, 2));
+    assert_eq!(lone.operand().span, [0, 2]);
 }
 
 #[test]
@@ -178,7 +188,7 @@ fn kinds_1_8_and_11_quote_their_token() {
         let reading = read(text);
         assert_eq!(reading.text(0), reading.span(0), "{text}");
     }
-    let empty = read_tokens("", &[[26, 0, 0, 0]], 0, NO_MARK);
+    let empty = read_tokens("", &[token(26, 0, 0, 0)], 0, NO_MARK);
     assert_eq!((empty.kinds(), empty.text(0)), (vec![8], (0, 0)));
 }
 
@@ -187,7 +197,7 @@ fn kind_7_quotes_the_register_that_is_none() {
     assert_eq!(read("4(name)").text(0), (2, 6));
     assert_eq!(read("-(d0)").text(0), (2, 4));
     // An empty token behind a longer one that ends at the same place.
-    let tokens = [[2, 0, 0, 1], [7, 0, 1, 2], [29, 0, 2, 2]];
+    let tokens = [token(2, 0, 0, 1), token(7, 0, 1, 2), token(29, 0, 2, 2)];
     let empty = read_tokens("1(", &tokens, 0, NO_MARK);
     assert_eq!((empty.malformed(), empty.text(0)), ((5, 2), (2, 2)));
 }
@@ -256,53 +266,52 @@ fn kind_10_holds_mask_indices() {
 #[test]
 fn a_long_immediate() {
     let reading = read("#1.l");
-    assert_eq!(reading.operand(operand_at::SIZE), 0);
-    assert_eq!(reading.operand(operand_at::SPECIAL_OR_LONG), 1);
+    assert_eq!(reading.operand().size, 0);
+    assert_eq!(reading.operand().special_or_long, 1);
 }
 
 #[test]
 fn an_index_has_two_spans() {
     let scaled = read("(a0,d1.w*4)");
     assert_eq!(scaled.form(), 9);
-    assert_eq!(scaled.operand_span(operand_at::INDEX_REGISTER_SPAN), (4, 6));
-    assert_eq!(scaled.operand_span(operand_at::INDEX_SPAN), (4, 10));
-    assert_eq!(scaled.operand(operand_at::INDEX_SCALE), 4);
+    assert_eq!(scaled.operand().index_register_span, [4, 6]);
+    assert_eq!(scaled.operand().index_span, [4, 10]);
+    assert_eq!(scaled.operand().index_scale, 4);
     let suppressed = read("(a0,za1)");
     assert_eq!(suppressed.form(), 12);
-    assert_eq!(suppressed.operand(operand_at::INDEX), 9);
-    assert_eq!(suppressed.operand(operand_at::INDEX_SUPPRESSED), 1);
-    assert_eq!(
-        suppressed.operand_span(operand_at::INDEX_REGISTER_SPAN),
-        (4, 7)
-    );
+    assert_eq!(suppressed.operand().index, 9);
+    assert_eq!(suppressed.operand().index_suppressed, 1);
+    assert_eq!(suppressed.operand().index_register_span, [4, 7]);
 }
 
 #[test]
 fn bases_that_are_absent_or_have_no_span() {
     for text in ["#1", "sr", "1", "d0/d1", "(d0)"] {
-        assert_eq!(read(text).operand(operand_at::BASE), 255, "{text}");
+        assert_eq!(read(text).operand().base, 255, "{text}");
     }
     let pc = read("1(pc)");
-    assert_eq!((pc.form(), pc.operand(operand_at::BASE)), (10, 0x20));
-    assert_eq!(pc.operand_span(operand_at::BASE_SPAN), (0, 0));
+    assert_eq!((pc.form(), pc.operand().base), (10, 0x20));
+    assert_eq!(pc.operand().base_span, [0, 0]);
 }
 
 #[test]
 fn nodes_of_lists_and_trees() {
     let list = read("d0-d1/a0");
-    assert_eq!(list.operand(operand_at::NODE), 0);
+    assert_eq!(list.operand().node, Some(0));
+    let node = |bytes: [u8; 14]| NodeRecord::of(Layout::Narrow, &bytes);
     assert_eq!(
-        list.records.nodes[0],
-        [8, 0, 0, 1, 0, 5, 0, 2, 3, 5, 0, 0, 0, 0]
-    );
-    assert_eq!(
-        list.records.nodes[1],
-        [7, 0, 8, 8, 6, 8, 6, 8, 6, 8, 0, 0, 0, 0]
+        list.records.nodes,
+        [
+            node([8, 0, 0, 1, 0, 5, 0, 2, 3, 5, 0, 0, 0, 0]),
+            node([7, 0, 8, 8, 6, 8, 6, 8, 6, 8, 0, 0, 0, 0]),
+        ]
     );
     let both = read("([1,a0],-2)");
-    assert_eq!(both.operand(operand_at::NODE), 0);
-    assert_eq!(both.operand(operand_at::OUTER_NODE), 2);
-    assert_eq!(both.records.nodes[2][..4], [5, 0, 1, 255]);
+    assert_eq!(both.operand().node, Some(0));
+    assert_eq!(both.operand().outer_node, Some(2));
+    let minus = both.records.nodes[2];
+    assert_eq!((minus.kind, minus.detail), (5, 0));
+    assert_eq!((minus.left, minus.right), (Some(1), None));
 }
 
 #[test]
@@ -315,5 +324,5 @@ fn the_cursor_is_a_place_of_the_list() {
 fn the_first_parenthesis_widens_nothing_before_another() {
     let reading = read("(name)(a0)");
     assert_eq!(reading.form(), 8);
-    assert_eq!(reading.root()[4..8], [1, 5, 1, 5]);
+    assert_eq!(reading.spans_of_root(), ([1, 5], [1, 5]));
 }

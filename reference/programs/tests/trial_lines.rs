@@ -1,7 +1,9 @@
 //! The committed table `trial-lines.txt`: each frame has its answer, each text its frame.
 
-use frames::frame::Frame;
-use frames::lexer::tokens_of;
+mod common;
+
+use common::frame_of;
+use frames::layout::Layout;
 use frames::reference::{answer_line, answer_line_at};
 use frames::refusal::LIMIT_PROGRAM;
 use frames::trial_lines::rows;
@@ -25,6 +27,11 @@ fn the_table_is_read_whole() {
         rows().into_iter().partition(|row| row.limit.is_some());
     assert!(others.len() >= 90, "{}", others.len());
     assert!(limited.len() >= 50, "{}", limited.len());
+    let wide = rows()
+        .iter()
+        .filter(|row| row.frame.starts_with('w'))
+        .count();
+    assert!(wide >= 20, "{wide}");
 }
 
 #[test]
@@ -34,13 +41,8 @@ fn every_text_has_its_frame() {
             continue;
         };
         let (text, _) = quoted.split_once("`: ").expect("a text in backquotes");
-        let tokens = tokens_of(text.as_bytes(), false).expect("a text for the lexer");
-        let of_text = Frame {
-            line: text.as_bytes(),
-            tokens: &tokens,
-            start: 0,
-            mark: 255,
-        };
-        assert_eq!(of_text.to_line(), row.frame.as_bytes(), "{text}");
+        let frame = row.frame.as_bytes();
+        let (layout, _) = Layout::of_line(frame);
+        assert_eq!(frame_of(layout, text), frame, "{text}");
     }
 }

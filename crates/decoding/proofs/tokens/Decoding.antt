@@ -3,7 +3,7 @@
 use mathlib.Core.Path.{_≡_, refl, sym, _∙_, ap, ap₂}
 use mathlib.Core.Bool.{Bool, true, false}
 use mathlib.Core.List.{List, [], _∷_, _++_}
-use Prim.Native.Nat.{ℕ, _+_, _*_, _≤_, _<_}
+use Prim.Native.Nat.{ℕ, zero, suc, _+_, _*_, _/_, _≤_, _<_}
 use native.Mathlib.Nat.{add-zero}
 use native.Mathlib.Omega.{arith}
 use borrow.Author.Tests.{le-leb, lt-leb}
@@ -15,6 +15,8 @@ use Rattle.names.specs.Tokens.{count, tokenFrom}
 use Rattle.names.specs.declared.tokens.Token.{Token}
 use Rattle.records.specs.Stores.{written}
 use Rattle.records.specs.Written.{written-fits, written-more, written-not, length-written, paste-on, paste-all}
+use Rattle.operand.specs.declared.layouts.Layout.{Layout}
+use Rattle.operand.specs.Layouts.{joined, joinedTokens, tokenNumbers}
 use Rattle.operand.specs.Entry.{goodToken, goodTokens}
 use Rattle.operand.specs.Listed.{four, tokens-end, tokens-from}
 use Rattle.decoding.specs.Tokens.{decodes, decoded, Decoded}
@@ -69,13 +71,45 @@ module _ (L T M : List ℕ) where
   pub all-good : (g : Bool) (p i : ℕ) → count T ≤ i → both g (goodTokens L p (drop (4 * i) T)) ≡ goodTokens L 0 T → g ≡ goodTokens L 0 T
   all-good g p i h e = sym (both-true g) ∙ ap (both g) (sym (tokens-end L p T i h)) ∙ e
 
-  pub all-decoded : (M′ : List ℕ) (g : Bool) (i : ℕ) → i ≡ count T → 4 * count T ≤ length M → g ≡ goodTokens L 0 T → M′ ≡ written M 0 (take (4 * i) T) → Decoded L T M M′ g
+  pub all-decoded : (w : Layout) (B M′ : List ℕ) (g : Bool) (i : ℕ) → T ≡ tokenNumbers w B → i ≡ count T → 4 * count T ≤ length M → g ≡ goodTokens L 0 T
+      → M′ ≡ written M 0 (take (4 * i) T) → Decoded w L B M M′ g
   unfolding decodes decoded
-  all-decoded M′ g i same h e f = record {
-    good = e ∙ sym (rw (le-leb (4 * count T) (length M) h));
-    numbers = f ∙ ap (λ j. written M 0 (take (4 * j) T)) same;
+  all-decoded w B M′ g i is same h e f = record {
+    good = e ∙ sym (rw (← is, le-leb (4 * count T) (length M) h));
+    numbers = f ∙ ap (λ j. written M 0 (take (4 * j) T)) same ∙ rw is refl;
   }
 
-  pub unfit : length M < 4 * count T → Decoded L T M M false
+  pub unfit : (w : Layout) (B : List ℕ) → T ≡ tokenNumbers w B → length M < 4 * count T → Decoded w L B M M false
   unfolding decodes decoded
-  unfit h = record { good = sym (rw (lt-leb (4 * count T) (length M) h)); numbers = sym (written-not M 0 _ (omega (arith, length-take-le (4 * count T) T (omega arith)))) }
+  unfit w B is h = record {
+    good = sym (rw (← is, lt-leb (4 * count T) (length M) h));
+    numbers = rw (← is) (sym (written-not M 0 _ (omega (arith, length-take-le (4 * count T) T (omega arith)))));
+  }
+
+-- ---- a wide token's bytes
+
+joined-at : (T : List ℕ) (i : ℕ) → i < length T / 6
+    → (getD (joinedTokens T) (4 * i) 0 ≡ getD T (6 * i) 0)
+    × (getD (joinedTokens T) (4 * i + 1) 0 ≡ getD T (6 * i + 1) 0)
+    × (getD (joinedTokens T) (4 * i + 2) 0 ≡ joined (getD T (6 * i + 2) 0) (getD T (6 * i + 3) 0))
+    × (getD (joinedTokens T) (4 * i + 3) 0 ≡ joined (getD T (6 * i + 4) 0) (getD T (6 * i + 5) 0))
+unfolding joinedTokens
+joined-at [] i h = absurd (omega arith)
+joined-at (k ∷ []) i h = absurd (omega arith)
+joined-at (k ∷ d ∷ []) i h = absurd (omega arith)
+joined-at (k ∷ d ∷ s ∷ []) i h = absurd (omega arith)
+joined-at (k ∷ d ∷ s ∷ s₂ ∷ []) i h = absurd (omega arith)
+joined-at (k ∷ d ∷ s ∷ s₂ ∷ e ∷ []) i h = absurd (omega arith)
+joined-at (k ∷ d ∷ s ∷ s₂ ∷ e ∷ e₂ ∷ ts) zero h = (refl, refl, refl, refl)
+joined-at (k ∷ d ∷ s ∷ s₂ ∷ e ∷ e₂ ∷ ts) (suc i) h =
+    let four : (j : ℕ) → 4 * suc i + j ≡ suc (suc (suc (suc (4 * i + j)))) = λ j. omega arith in
+    let six : (j : ℕ) → 6 * suc i + j ≡ suc (suc (suc (suc (suc (suc (6 * i + j)))))) = λ j. omega arith in
+    let four₀ : 4 * suc i ≡ suc (suc (suc (suc (4 * i)))) = omega arith in
+    let six₀ : 6 * suc i ≡ suc (suc (suc (suc (suc (suc (6 * i)))))) = omega arith in
+    let e = joined-at ts i (omega arith) in
+    (rw (four₀, six₀) (e .0), rw (four 1, six 1) (e .1), rw (four 2, six 2, six 3) (e .2), rw (four 3, six 4, six 5) (e .3))
+
+pub wide-token : (T : List ℕ) (i : ℕ) → i < length T / 6
+    → record { kind = getD T (6 * i) 0; detail = getD T (6 * i + 1) 0; start = joined (getD T (6 * i + 2) 0) (getD T (6 * i + 3) 0); end = joined (getD T (6 * i + 4) 0) (getD T (6 * i + 5) 0) }
+    ≡ tokenFrom (joinedTokens T) i
+wide-token T i h = let e = joined-at T i h in rw (e .0, e .1, e .2, e .3) refl

@@ -2,22 +2,22 @@
 -- Assumes nothing.
 use mathlib.Core.Path.{_≡_, refl, sym}
 use mathlib.Core.List.{[], _∷_}
-use Prim.Native.Nat.{ℕ}
-use Rattle.operand.specs.Records.{flag}
+use Prim.Native.Nat.{_/_}
+use Rattle.records.specs.Nodes.{lowFirst}
+use Rattle.operand.specs.declared.layouts.Layout.{Layout}
+use Rattle.operand.specs.Layouts.{number}
 use Rattle.operand.specs.Layout.{low, sizedPart, basePart, indexPart, bytesOf}
-use Rattle.operand.specs.declared.forms.BaseRegister.{BaseRegister}
-use Rattle.operand.specs.declared.forms.Index.{Index}
-use Rattle.operand.specs.declared.forms.SizedDisplacement.{SizedDisplacement}
 use Rattle.operand.specs.declared.forms.OperandRecord.{OperandRecord}
-use Rattle.operand.specs.declared.forms.Register.{Register}
-use Rattle.operand.specs.declared.forms.IndexRegister.{IndexRegister}
-use Rattle.operand.specs.declared.forms.Sized.{Sized}
+use Rattle.layout.specs.declared.record.Filled.{Filled}
+use Rattle.layout.specs.Record.{FilledFrom}
 
-pub twenty : (x : OperandRecord) (d : Sized) (b : Register) (i : IndexRegister) (o : Sized) (f : ℕ)
-    → sizedPart (SizedDisplacement.Is d) ≡ sizedPart (x .displacement) → basePart (BaseRegister.Address b) ≡ basePart (x .base) → indexPart (Index.Indexed i) ≡ indexPart (x .index)
-    → sizedPart (SizedDisplacement.Is o) ≡ sizedPart (x .outer) → f ≡ flag (i .suppressed)
-    → x .form ∷ low (x .span .start) ∷ low (x .span .end) ∷ low (d .node) ∷ d .size ∷ b .index ∷ low (b .span .start) ∷ low (b .span .end)
-    ∷ i .register .index ∷ low (i .register .span .start) ∷ low (i .register .span .end) ∷ i .size ∷ i .scale ∷ f ∷ low (i .span .start) ∷ low (i .span .end)
-    ∷ x .indirection ∷ low (o .node) ∷ o .size ∷ x .special ∷ [] ≡ bytesOf x
-unfolding bytesOf sizedPart basePart indexPart
-twenty x d b i o f e₁ e₂ e₃ e₄ e₅ = rw (sym e₁, sym e₂, sym e₃, sym e₄, e₅) refl
+module _ (x : OperandRecord) (p : Filled) (h : FilledFrom x p) where
+  pub narrow-record : x .form ∷ low (x .span .start) ∷ low (x .span .end) ∷ low (p .displacement .node) ∷ p .displacement .size ∷ p .base .index ∷ low (p .base .span .start) ∷ low (p .base .span .end) ∷ p .index .register .index ∷ low (p .index .register .span .start) ∷ low (p .index .register .span .end) ∷ p .index .size ∷ p .index .scale ∷ p .suppressed ∷ low (p .index .span .start) ∷ low (p .index .span .end) ∷ x .indirection ∷ low (p .outer .node) ∷ p .outer .size ∷ x .special ∷ []
+      ≡ bytesOf Layout.Narrow x
+  unfolding bytesOf sizedPart basePart indexPart number lowFirst
+  narrow-record = rw (sym (h .displacement Layout.Narrow), sym (h .base Layout.Narrow), sym (h .index Layout.Narrow), sym (h .outer Layout.Narrow), h .suppressed) refl
+
+  pub wide-record : x .form ∷ low (x .span .start) ∷ low (x .span .start / 256) ∷ low (x .span .end) ∷ low (x .span .end / 256) ∷ low (p .displacement .node) ∷ low (p .displacement .node / 256) ∷ p .displacement .size ∷ p .base .index ∷ low (p .base .span .start) ∷ low (p .base .span .start / 256) ∷ low (p .base .span .end) ∷ low (p .base .span .end / 256) ∷ p .index .register .index ∷ low (p .index .register .span .start) ∷ low (p .index .register .span .start / 256) ∷ low (p .index .register .span .end) ∷ low (p .index .register .span .end / 256) ∷ p .index .size ∷ p .index .scale ∷ p .suppressed ∷ low (p .index .span .start) ∷ low (p .index .span .start / 256) ∷ low (p .index .span .end) ∷ low (p .index .span .end / 256) ∷ x .indirection ∷ low (p .outer .node) ∷ low (p .outer .node / 256) ∷ p .outer .size ∷ x .special ∷ []
+      ≡ bytesOf Layout.Wide x
+  unfolding bytesOf sizedPart basePart indexPart number lowFirst
+  wide-record = rw (sym (h .displacement Layout.Wide), sym (h .base Layout.Wide), sym (h .index Layout.Wide), sym (h .outer Layout.Wide), h .suppressed) refl

@@ -18,9 +18,6 @@ abbrev μ-loop : tie.MeasureT-loop
 large-buffer-requires : tie.Need-large-buffer-requires Inv-loop μ-loop
 large-buffer-requires c κs = search needs
 
-large-buffer-requires-2 : tie.Need-large-buffer-requires-2 Inv-loop μ-loop
-large-buffer-requires-2 c κs = search needs
-
 loop-holds : tie.Need-loop-holds Inv-loop μ-loop
 loop-holds c = search needs
 
@@ -60,7 +57,6 @@ main-spec =
     Inv-loop
     μ-loop
     large-buffer-requires
-    large-buffer-requires-2
     loop-holds
     slice-aggregate-read
     read-requires

@@ -1,12 +1,13 @@
 //! Feeds two programs the same frames and prints the first that they answer differently.
 
-use frames::command_line::{self, nesting_limit, number, option, usage, Stop, FAULT};
+use frames::command_line::{self, layout, nesting_limit, number, option, usage, Stop, FAULT};
 use frames::compare::{Batches, Programs};
+use frames::generate::Generator;
 use frames::refusal::LIMIT_PROGRAM;
 use std::io::{self, Write};
 use std::process::ExitCode;
 
-const HELP: &str = "usage: compare [--timeout SECONDS] A B [--limit N] SEED COUNT
+const HELP: &str = "usage: compare [--timeout SECONDS] A B [--layout L] [--limit N] SEED COUNT
        compare [--timeout SECONDS] A B --file FILE
 
 A and B are programs that answer frames: paths, or paths and arguments with
@@ -15,6 +16,7 @@ in batches. Prints how many were compared and `no difference` (exit status 0),
 or the first frame with different answers, field by field, or how a program
 failed (exit status 1).
   --timeout SECONDS   how long a program may take for a batch (60)
+  --layout L          generated frames are narrow, wide or both (both)
   --limit N           generated frames have nests around this nesting limit, 1 to
                       128 (64). A and B are told theirs on their own:
     compare 'A --limit 3' 'B --limit 3' --limit 3 SEED COUNT
@@ -46,17 +48,21 @@ fn program(arguments: &[String]) -> Result<ExitCode, Stop> {
 fn job(arguments: &[String]) -> Result<(Programs, Batches), Stop> {
     let (seconds, rest) = option("--timeout", arguments)?;
     let (limit, rest) = nesting_limit(&rest)?;
+    let (layout, rest) = layout(&rest)?;
     let [a, b, third, fourth] = &rest[..] else {
         return usage("A, B, and SEED COUNT or --file FILE are wanted");
     };
     let batches = match third.as_str() {
         "--file" => Batches::file(fourth)
             .map_err(|error| io::Error::new(error.kind(), format!("{fourth}: {error}")))?,
-        seed => Batches::generated(
-            number("SEED", seed)?,
-            number("COUNT", fourth)?,
-            limit.unwrap_or(LIMIT_PROGRAM),
-        ),
+        seed => {
+            let generator = Generator {
+                seed: number("SEED", seed)?,
+                limit: limit.unwrap_or(LIMIT_PROGRAM),
+                layout,
+            };
+            Batches::generated(generator, number("COUNT", fourth)?)
+        }
     };
     let (a, b, seconds) = (a.clone(), b.clone(), seconds.unwrap_or(60));
     Ok((Programs { a, b, seconds }, batches))

@@ -1,17 +1,18 @@
 //! Answer lines to words.
 
-use frames::answer::{Answer, LONGEST_ANSWER};
+use frames::answer::Answer;
 use frames::command_line::{self, complain, usage, Stop, FAULT};
-use frames::frame::{frame_bytes, Frame, LONGEST_FRAME};
+use frames::frame::frame_text;
+use frames::layout::Layout;
 use frames::lines::{Line, Lines};
-use frames::words::{answer_fields, input_words};
+use frames::words::{answer_fields, field_lines, input_words};
 use std::io::{self, BufReader, BufWriter, Write};
 use std::process::ExitCode;
 
 const HELP: &str = "usage: decode < answers > words
 
-Says each answer line of standard input in words: mode, registers, tree and
-diagnostics. A line may also be a frame, a blank and its answer; then the frame
+Says each answer line of standard input, narrow or wide, in words: mode,
+registers, tree and diagnostics. A line may also be a frame, a blank and its answer; then the frame
 is shown too, and texts are quoted from its line:
     frame < texts > frames; reference < frames | paste -d ' ' frames - | decode
 A line that is no answer gives a message with its place on standard error, and
@@ -26,7 +27,7 @@ fn program(arguments: &[String]) -> Result<ExitCode, Stop> {
     if let Some(extra) = arguments.first() {
         return usage(format!("`{extra}`: no argument is wanted"));
     }
-    let limit = LONGEST_FRAME + 1 + LONGEST_ANSWER;
+    let limit = Layout::Wide.longest_frame() + 1 + Layout::Wide.longest_answer();
     let mut lines = Lines::new(BufReader::new(io::stdin().lock()), limit);
     let mut output = BufWriter::new(io::stdout().lock());
     let mut status = ExitCode::SUCCESS;
@@ -57,18 +58,14 @@ fn line_words(text: &[u8]) -> Result<String, String> {
     };
     let (frame, answer) = (&text[..blank], &text[blank + 1..]);
     // The line is known only if the frame is one.
-    let bytes = frame_bytes(frame).unwrap_or_default();
-    let line = Frame::of(&bytes).ok().map(|frame| frame.line);
-    let words = answer_words(answer, line)
+    let line = frame_text(frame);
+    let words = answer_words(answer, line.as_deref())
         .map_err(|fault| format!("in the answer behind column {}: {fault}", blank + 1))?;
     Ok(input_words(frame) + &words)
 }
 
 /// The fields of an answer that say something.
 fn answer_words(text: &[u8], line: Option<&[u8]>) -> Result<String, String> {
-    let answer = Answer::of_line(text).map_err(|fault| fault.to_string())?;
-    let fields = answer_fields(&answer, line);
-    let said = fields.iter().filter(|field| !field.absent);
-    let rows = said.map(|field| format!("{:20} {}\n", field.name, field.words));
-    Ok(rows.collect())
+    let (layout, answer) = Answer::of_line(text).map_err(|fault| fault.to_string())?;
+    Ok(field_lines(&answer_fields(layout, &answer, line), ""))
 }

@@ -1,25 +1,31 @@
 //! Operands as people write them, a line each, to frames.
 
 use frames::command_line::{self, complain, number, usage, Stop, FAULT};
-use frames::frame::{Frame, LONGEST_LINE};
+use frames::frame::Frame;
+use frames::layout::Layout;
 use frames::lexer::{tokens_of, TextFault};
 use frames::lines::{Line, Lines};
+use frames::tokens::list_bytes;
 use std::io::{self, BufReader, BufWriter, Write};
 use std::process::ExitCode;
 
-const HELP: &str = "usage: frame [--start N] [--mark N] [--keep-whitespace] < texts > frames
+const HELP: &str =
+    "usage: frame [--wide] [--start N] [--mark N] [--keep-whitespace] < texts > frames
 
 Writes the frame of each line of standard input, by a small lexer.
+  --wide              wide frames, for lines of up to 4095 bytes and 1023 tokens
   --start N           the place where the reading starts (0)
-  --mark N            the place that is read as a symbol (255, none)
+  --mark N            the place that is read as a symbol (the largest number, none)
   --keep-whitespace   blanks become Whitespace tokens; without it they leave gaps
-A line with a byte outside 20 to 7e hexadecimal, or of over 255 bytes, has no
-frame: standard error says where, and the exit status is 1.
+A line with a byte outside 20 to 7e hexadecimal, or of over 255 bytes where the
+frames are narrow, has no frame: standard error says where, and the exit status
+is 1.
 ";
 
 struct Options {
-    start: u8,
-    mark: u8,
+    layout: Layout,
+    start: usize,
+    mark: usize,
     keep_whitespace: bool,
 }
 
@@ -29,7 +35,10 @@ fn main() -> ExitCode {
 
 fn program(arguments: &[String]) -> Result<ExitCode, Stop> {
     let options = options(arguments)?;
-    let mut lines = Lines::new(BufReader::new(io::stdin().lock()), LONGEST_LINE);
+    let mut lines = Lines::new(
+        BufReader::new(io::stdin().lock()),
+        options.layout.longest_line(),
+    );
     let mut output = BufWriter::new(io::stdout().lock());
     let mut status = ExitCode::SUCCESS;
     let mut line_number = 0u64;
@@ -56,13 +65,15 @@ fn frame_line(line: Line, options: &Options) -> Result<Vec<u8>, TextFault> {
         Line::Whole(text) => (text, true),
         Line::Long(beginning) => (beginning, false),
     };
-    let tokens = tokens_of(text, options.keep_whitespace)?;
-    if !whole {
-        return Err(TextFault::TooLong);
+    let layout = options.layout;
+    let tokens = tokens_of(layout, text, options.keep_whitespace);
+    if !whole && !matches!(tokens, Err(TextFault::ForeignByte(..))) {
+        return Err(TextFault::TooLong(layout));
     }
     let frame = Frame {
+        layout,
         line: text,
-        tokens: &tokens,
+        list: &list_bytes(layout, &tokens?),
         start: options.start,
         mark: options.mark,
     };
@@ -70,17 +81,23 @@ fn frame_line(line: Line, options: &Options) -> Result<Vec<u8>, TextFault> {
 }
 
 fn options(arguments: &[String]) -> Result<Options, Stop> {
+    let layout = match arguments.iter().any(|argument| argument == "--wide") {
+        true => Layout::Wide,
+        false => Layout::Narrow,
+    };
     let mut options = Options {
+        layout,
         start: 0,
-        mark: 255,
+        mark: layout.largest(),
         keep_whitespace: false,
     };
     let mut rest = arguments.iter();
     while let Some(argument) = rest.next() {
         match argument.as_str() {
+            "--wide" => {}
             "--keep-whitespace" => options.keep_whitespace = true,
-            "--start" => options.start = place("--start", rest.next())?,
-            "--mark" => options.mark = place("--mark", rest.next())?,
+            "--start" => options.start = place(layout, "--start", rest.next())?,
+            "--mark" => options.mark = place(layout, "--mark", rest.next())?,
             other => return usage(format!("`{other}` is no argument of this program")),
         }
     }
@@ -88,9 +105,13 @@ fn options(arguments: &[String]) -> Result<Options, Stop> {
 }
 
 /// The place that follows an option.
-fn place(option: &str, text: Option<&String>) -> Result<u8, Stop> {
-    match text {
-        Some(text) => number(&format!("{option} (0 to 255)"), text),
-        None => usage(format!("{option} wants a place, 0 to 255")),
+fn place(layout: Layout, option: &str, text: Option<&String>) -> Result<usize, Stop> {
+    let wanted = format!("a place, 0 to {}", layout.largest());
+    let Some(text) = text else {
+        return usage(format!("{option} wants {wanted}"));
+    };
+    match number(option, text)? {
+        place if place <= layout.largest() => Ok(place),
+        place => usage(format!("{option} is {place}, but {wanted}, is wanted")),
     }
 }

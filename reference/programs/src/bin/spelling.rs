@@ -3,25 +3,25 @@
 //! A closed spelling is read as its operand, up to its end, with no diagnostic; an operand that is
 //! read with no diagnostic and no Error token before the cursor is spelled so, up to the cursor.
 
-use frames::command_line::{self, nesting_limit, number, usage, Stop};
-use frames::frame::{Frame, TokenBytes};
-use frames::generate::input_line_at;
+use frames::command_line::{self, layout, nesting_limit, number, usage, Stop};
+use frames::frame::FrameBytes;
+use frames::generate::Generator;
 use frames::grammar::Grammar;
-use frames::hex;
 use frames::random::Random;
 use frames::reference::read_operand;
 use frames::refusal::{refusal, LIMIT_PROGRAM};
-use frames::tokens::rust_token;
+use frames::tokens::{rust_token, TokenRecord};
 use s68k::assembler::parser::driver::NESTING_LIMIT;
 use s68k::assembler::token::{Token, TokenKind};
 use std::process::ExitCode;
 
 const HELP: &str = "usage: spelling [--limit N] all LENGTH WORDS
        spelling [--limit N] lists SEED COUNT LENGTH
-       spelling [--limit N] frames SEED COUNT
+       spelling [--limit N] [--layout L] frames SEED COUNT
 
 all: every list of up to LENGTH words out of WORDS (separated by spaces), with and without a mark.
 lists: COUNT random lists of up to LENGTH words. frames: COUNT generated frames.
+--layout L: generated frames are narrow, wide or both (both).
 --limit N: with another nesting limit, 1 to 128, by the copy of the Rust that is told at run time.
 ";
 
@@ -42,6 +42,7 @@ fn main() -> ExitCode {
 
 fn program(arguments: &[String]) -> Result<ExitCode, Stop> {
     let (limit, arguments) = nesting_limit(arguments)?;
+    let (layout, arguments) = layout(&arguments)?;
     let texts: Vec<&str> = arguments.iter().map(String::as_str).collect();
     let mut counts = Counts {
         limit,
@@ -54,7 +55,12 @@ fn program(arguments: &[String]) -> Result<ExitCode, Stop> {
             lists(&mut counts, seed, count, number("LENGTH", length)?);
         }
         ["frames", seed, count] => {
-            frames(&mut counts, number("SEED", seed)?, number("COUNT", count)?)
+            let generator = Generator {
+                seed: number("SEED", seed)?,
+                limit: limit.unwrap_or(LIMIT_PROGRAM),
+                layout,
+            };
+            frames(&mut counts, generator, number("COUNT", count)?)
         }
         _ => return usage("all, lists or frames is wanted"),
     }
@@ -96,9 +102,9 @@ fn laid_out(words: &[&str]) -> (String, Vec<Token>) {
     let mut tokens = Vec::new();
     for word in words {
         let [kind, detail] = piece(word);
-        let start = line.len() as u8;
+        let start = line.len();
         line.push_str(word);
-        let token: TokenBytes = [kind, detail, start, line.len() as u8];
+        let token = TokenRecord::new(kind, detail, start, line.len());
         tokens.push(rust_token(token));
     }
     (line, tokens)
@@ -199,27 +205,20 @@ fn lists(counts: &mut Counts, seed: u64, count: u64, length: usize) {
     }
 }
 
-fn frames(counts: &mut Counts, seed: u64, count: u64) {
-    let mut bytes = Vec::new();
+fn frames(counts: &mut Counts, generator: Generator, count: u64) {
     for number in 0..count {
-        let text = input_line_at(seed, number, counts.limit.unwrap_or(LIMIT_PROGRAM));
-        if hex::decode_into(&text, &mut bytes).is_err() {
-            continue;
-        }
-        let Ok(frame) = Frame::of(&bytes) else {
+        let Ok(bytes) = FrameBytes::of_line(&generator.line(number)) else {
             continue;
         };
-        let start = frame.start as usize;
-        if refusal(frame.line, frame.tokens.as_flattened(), start).is_some() {
+        let Ok(frame) = bytes.frame() else {
+            continue;
+        };
+        if refusal(frame.layout, frame.line, frame.list, frame.start).is_some() {
             continue;
         }
         let line = std::str::from_utf8(frame.line).expect("bytes 20 to 7E are UTF-8");
-        let tokens: Vec<Token> = frame
-            .tokens
-            .iter()
-            .map(|token| rust_token(*token))
-            .collect();
-        compare(counts, line, &tokens, start, frame.symbol_at());
+        let tokens: Vec<Token> = frame.tokens().map(rust_token).collect();
+        compare(counts, line, &tokens, frame.start, frame.symbol_at());
     }
 }
 

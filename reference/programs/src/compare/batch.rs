@@ -1,7 +1,7 @@
 //! Frames in batches, by seed or from a file.
 
 use super::BATCH;
-use crate::generate::input_line_at;
+use crate::generate::Generator;
 use std::fs::File;
 use std::io::{self, BufRead, BufReader};
 
@@ -38,11 +38,10 @@ impl Batch {
 
 /// Where batches come from.
 pub enum Batches {
-    /// Generated lines: the seed, how many there are, their nesting limit, and how many were given.
+    /// Generated lines, how many there are, and how many were given.
     Generated {
-        seed: u64,
+        generator: Generator,
         count: u64,
-        limit: usize,
         given: u64,
     },
     /// The lines of a file, and how many were given.
@@ -50,12 +49,11 @@ pub enum Batches {
 }
 
 impl Batches {
-    /// `count` lines of `seed`, with nests around `limit`.
-    pub fn generated(seed: u64, count: u64, limit: usize) -> Self {
+    /// `count` generated lines.
+    pub fn generated(generator: Generator, count: u64) -> Self {
         Batches::Generated {
-            seed,
+            generator,
             count,
-            limit,
             given: 0,
         }
     }
@@ -70,14 +68,13 @@ impl Batches {
     pub fn next_batch(&mut self) -> io::Result<Batch> {
         match self {
             Batches::Generated {
-                seed,
+                generator,
                 count,
-                limit,
                 given,
             } => {
                 let first = *given;
                 *given = (first + BATCH as u64).min(*count);
-                let lines = (first..*given).map(|number| input_line_at(*seed, number, *limit));
+                let lines = (first..*given).map(|number| generator.line(number));
                 Ok(batch(first + 1, lines.collect()))
             }
             Batches::File { file, given } => {
@@ -123,7 +120,7 @@ mod tests {
 
     #[test]
     fn batches_hold_every_line() {
-        let mut batches = Batches::generated(1, 2 * BATCH as u64 + 5, 64);
+        let mut batches = Batches::generated(Generator::new(1), 2 * BATCH as u64 + 5);
         let mut lengths = Vec::new();
         loop {
             let batch = batches.next_batch().unwrap();

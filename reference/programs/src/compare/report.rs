@@ -2,10 +2,11 @@
 
 use super::{Batch, Outcome};
 use crate::answer::Answer;
-use crate::frame::{frame_bytes, Frame};
+use crate::frame::frame_text;
 use crate::hex;
+use crate::layout::Layout;
 use crate::printable::printable;
-use crate::words::{answer_fields, input_words, Field};
+use crate::words::{answer_fields, field_lines, input_words, Field};
 use std::fmt::Write;
 
 /// What two runs on one batch differ in; `None` if they agree and ended well.
@@ -44,14 +45,14 @@ fn lines_words(batch: &Batch) -> String {
 fn frame_report(number: u64, input: &[u8], a: Option<&Vec<u8>>, b: Option<&Vec<u8>>) -> String {
     let mut out = format!("line {number} of the input\n{}\n", shortened(input));
     out += &input_words(input);
-    let bytes = frame_bytes(input).unwrap_or_default();
-    let line = Frame::of(&bytes).ok().map(|frame| frame.line);
+    let text = frame_text(input);
+    let line = text.as_deref();
     for (name, answer) in [("A", a), ("B", b)] {
         let shown = answer.map_or("no answer".to_string(), |answer| shortened(answer));
         let _ = writeln!(out, "{name} answers {shown}");
     }
     match (answer_of(a), answer_of(b)) {
-        (Ok(a), Ok(b)) => out += &side_by_side(&answer_fields(&a, line), &answer_fields(&b, line)),
+        (Ok(a), Ok(b)) => out += &side_by_side(&fields(&a, line), &fields(&b, line)),
         (a, b) => {
             for (name, answer) in [("A", a), ("B", b)] {
                 out += &one_answer(name, answer, line);
@@ -61,29 +62,34 @@ fn frame_report(number: u64, input: &[u8], a: Option<&Vec<u8>>, b: Option<&Vec<u
     out
 }
 
+/// How much is shown of a line: twice the longest narrow frame.
+const SHOWN: usize = 2 * Layout::Narrow.longest_frame();
+
 /// The beginning of a line of any bytes.
 fn shortened(text: &[u8]) -> String {
-    let most = 2 * crate::frame::LONGEST_FRAME;
+    let most = SHOWN;
     let shown = printable(&text[..text.len().min(most)]);
     let dots = if text.len() > most { "..." } else { "" };
     format!("{shown}{dots}")
 }
 
-fn answer_of(line: Option<&Vec<u8>>) -> Result<Answer, String> {
+/// An answer and its layout.
+type Laid = (Layout, Answer);
+
+fn fields((layout, answer): &Laid, line: Option<&[u8]>) -> Vec<Field> {
+    answer_fields(*layout, answer, line)
+}
+
+fn answer_of(line: Option<&Vec<u8>>) -> Result<Laid, String> {
     let line = line.ok_or("there is none")?;
     Answer::of_line(line).map_err(|fault| fault.to_string())
 }
 
 /// An answer by itself, where the other one is none.
-fn one_answer(name: &str, answer: Result<Answer, String>, line: Option<&[u8]>) -> String {
+fn one_answer(name: &str, answer: Result<Laid, String>, line: Option<&[u8]>) -> String {
     match answer {
         Err(fault) => format!("{name}: no answer line: {fault}\n"),
-        Ok(answer) => {
-            let fields = answer_fields(&answer, line);
-            let said = fields.iter().filter(|field| !field.absent);
-            let rows = said.map(|field| format!("  {:20} {}\n", field.name, field.words));
-            format!("{name}:\n{}", rows.collect::<String>())
-        }
+        Ok(answer) => format!("{name}:\n{}", field_lines(&fields(&answer, line), "  ")),
     }
 }
 
@@ -124,8 +130,12 @@ fn words(field: &Option<Field>) -> String {
 }
 
 fn bytes(field: &Option<Field>) -> String {
-    let bytes = field.as_ref().map(|field| hex::encode(&field.bytes));
-    bytes.map_or(String::new(), |digits| format!("[{}]", printable(&digits)))
+    match field {
+        Some(field) if !field.bytes.is_empty() => {
+            format!("[{}]", printable(&hex::encode(&field.bytes)))
+        }
+        _ => String::new(),
+    }
 }
 
 #[cfg(test)]
@@ -134,6 +144,8 @@ mod tests {
     use crate::reference::answer_line;
 
     const SAMPLE: &[u8] = b"053428613029040200000107000102000002040800040500ff";
+    const WIDE_SAMPLE: &[u8] =
+        b"w0500342861302904000200000001000700010002000000020004000800040005000000ffff";
 
     fn outcome(answer: &[u8]) -> Outcome {
         Outcome {
@@ -144,9 +156,13 @@ mod tests {
     }
 
     fn batch() -> Batch {
+        batch_of(SAMPLE)
+    }
+
+    fn batch_of(line: &[u8]) -> Batch {
         Batch {
             first: 1,
-            lines: vec![SAMPLE.to_vec()],
+            lines: vec![line.to_vec()],
             unterminated: false,
         }
     }
@@ -176,9 +192,31 @@ mod tests {
     }
 
     #[test]
+    fn a_wide_difference_has_wide_bytes() {
+        let right = answer_line(WIDE_SAMPLE);
+        let mut wrong = right.clone();
+        wrong[4] = b'3';
+        let batch = batch_of(WIDE_SAMPLE);
+        let report = difference(&batch, &outcome(&right), &outcome(&wrong)).unwrap();
+        assert!(report.contains("layout  wide"), "{report}");
+        assert!(report.contains("A: 4 [0400]"), "{report}");
+        assert!(report.contains("B: 3 [0300]"), "{report}");
+    }
+
+    #[test]
+    fn another_layout_is_a_difference() {
+        let (right, wrong) = (outcome(b"w0208"), outcome(b"0208"));
+        let report = difference(&batch_of(b"w"), &right, &wrong).unwrap();
+        assert!(
+            report.contains("* layout               A: wide"),
+            "{report}"
+        );
+    }
+
+    #[test]
     fn no_answer_is_a_difference() {
         let right = outcome(&answer_line(SAMPLE));
-        for wrong in [&b"00"[..], b"", b"0x", b"\xff"] {
+        for wrong in [&b"00"[..], b"", b"0x", b"\xff", b"w"] {
             let report = difference(&batch(), &right, &outcome(wrong)).unwrap();
             assert!(report.contains("B: no answer line"), "{report}");
         }

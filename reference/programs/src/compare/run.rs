@@ -1,7 +1,7 @@
 //! One program on one batch: its answers, or how it failed.
 
 use super::Batch;
-use crate::answer::LONGEST_ANSWER;
+use crate::layout::Layout;
 use std::io::{self, Read, Write};
 use std::path::Path;
 use std::process::{Child, ChildStdin, ChildStdout, Command, ExitStatus, Stdio};
@@ -26,7 +26,7 @@ pub struct Outcome {
 pub fn run(command: &str, batch: &Batch, seconds: u64) -> io::Result<Outcome> {
     let mut child = spawn(command)?;
     let writer = write_all(child.stdin.take().expect("a pipe"), batch.input());
-    let most = (batch.lines.len() as u64 + 1) * (LONGEST_ANSWER as u64 + 1);
+    let most = most_output(batch);
     let reader = read_some(child.stdout.take().expect("a pipe"), most);
     let status = wait(&mut child, Duration::from_secs(seconds))?;
     // A child of the program may hold the pipe open, so this does not wait forever.
@@ -40,6 +40,13 @@ pub fn run(command: &str, batch: &Batch, seconds: u64) -> io::Result<Outcome> {
         fault,
         crashed: status.is_some_and(|status| !status.success()),
     })
+}
+
+/// How many bytes the longest answers to a batch have, and one narrow answer more.
+fn most_output(batch: &Batch) -> u64 {
+    let longest = |layout: Layout| layout.longest_answer() as u64 + 1;
+    let layouts = batch.lines.iter().map(|line| Layout::of_line(line).0);
+    layouts.map(longest).sum::<u64>() + longest(Layout::Narrow)
 }
 
 /// Starts a program. The command is a path, or a path and arguments with blanks between.

@@ -2,7 +2,7 @@
 
 use super::table::Section;
 use crate::names;
-use crate::records::{operand_at, NodeRecord, OperandRecord, Records, PC, SUPPRESSED_PC};
+use crate::records::{NodeRecord, OperandRecord, Records, PC, SUPPRESSED_PC};
 
 /// Bases of forms 5 to 12.
 const BASES: [&str; 5] = [
@@ -69,43 +69,43 @@ impl Parts {
             self.count_node(node);
         }
         for record in &records.diagnostics {
-            self.others.hit_if(record[0] == 9 && record[2] == b'-', 3);
-            self.others.hit_if(record[0] == 9 && record[2] == b'/', 4);
-            self.others.hit_if(record[0] == 13 && record[6] == 0, 5);
-            self.others.hit_if(record[9] == 1, 6);
+            let (kind, sign) = (record.kind, record.problem);
+            self.others.hit_if(kind == 9 && sign == b'-', 3);
+            self.others.hit_if(kind == 9 && sign == b'/', 4);
+            self.others.hit_if(kind == 13 && record.text[1] == 0, 5);
+            self.others.hit_if(record.has_related == 1, 6);
         }
     }
 
     fn count_operand(&mut self, operand: &OperandRecord) {
-        let part = |at: usize| operand[at] as usize;
-        let form = part(operand_at::FORM);
+        let form = operand.form;
         for (section, size) in [
-            (&mut self.sizes, part(operand_at::SIZE)),
-            (&mut self.outer_sizes, part(operand_at::OUTER_SIZE)),
-            (&mut self.index_sizes, part(operand_at::INDEX_SIZE)),
+            (&mut self.sizes, operand.size),
+            (&mut self.outer_sizes, operand.outer_size),
+            (&mut self.index_sizes, operand.index_size),
         ] {
-            section.hit_if(size > 0, size.saturating_sub(1));
+            section.hit_if(size > 0, size.saturating_sub(1) as usize);
         }
-        let scale = part(operand_at::INDEX_SCALE);
+        let scale = operand.index_scale;
         self.scales.hit_if(scale > 0, scale.max(1).ilog2() as usize);
         if (5..=12).contains(&form) {
-            self.bases.hit(base_row(operand[operand_at::BASE]));
+            self.bases.hit(base_row(operand.base));
         }
         if form == 12 {
-            self.indirections.hit(part(operand_at::INDIRECTION));
+            self.indirections.hit(operand.indirection as usize);
         }
-        let last = part(operand_at::SPECIAL_OR_LONG);
-        self.special.hit_if(form == 4, last.saturating_sub(1));
+        let last = operand.special_or_long;
+        let special = last.saturating_sub(1) as usize;
+        self.special.hit_if(form == 4, special);
         self.others.hit_if(form == 1 && last == 1, 0);
-        self.others
-            .hit_if(part(operand_at::INDEX_SUPPRESSED) == 1, 1);
-        let both = part(operand_at::NODE) != 255 && part(operand_at::OUTER_NODE) != 255;
+        self.others.hit_if(operand.index_suppressed == 1, 1);
+        let both = operand.node.is_some() && operand.outer_node.is_some();
         self.others.hit_if(both, 2);
     }
 
     fn count_node(&mut self, node: &NodeRecord) {
-        let detail = node[1] as usize;
-        match node[0] {
+        let detail = node.detail as usize;
+        match node.kind {
             1 => self.number_bases.hit(detail),
             2 => self.quotes.hit(detail),
             5 => self.unary.hit(detail),

@@ -8,6 +8,8 @@ use std::ops::Range;
 pub enum Expected {
     /// It can, so a long enough run has it.
     Always,
+    /// It can, but only in a line that is longer than the frames that are read.
+    InFarLines,
     /// It cannot.
     Never,
 }
@@ -78,13 +80,17 @@ impl Section {
         self.rows[row].count += u64::from(took_place);
     }
 
-    /// The section for a reader. A row that cannot occur, and did not, is left out.
-    pub fn table(&self) -> String {
-        let mut out = format!("\n{}\n", self.title);
-        let shown = |row: &&Row| row.expected == Expected::Always || row.count > 0;
+    /// The section for a reader, if it has rows, with a word before its title. A row that cannot
+    /// occur, and did not, is left out.
+    pub fn table(&self, word: &str) -> String {
+        if self.rows.is_empty() {
+            return String::new();
+        }
+        let mut out = format!("\n{word}: {}\n", self.title);
+        let shown = |row: &&Row| row.expected != Expected::Never || row.count > 0;
         for row in self.rows.iter().filter(shown) {
             let note = match (row.expected, row.count) {
-                (Expected::Always, 0) => "  MISSING",
+                (Expected::Always | Expected::InFarLines, 0) => "  MISSING",
                 (Expected::Never, _) => "  UNEXPECTED",
                 _ => "",
             };
@@ -93,18 +99,20 @@ impl Section {
         out
     }
 
-    /// The rows that are not as expected.
-    pub fn faults(&self) -> Vec<String> {
+    /// The rows that are not as expected of lines that are all short or not.
+    pub fn faults(&self, far_lines: bool) -> Vec<String> {
         let mut faults = Vec::new();
         for row in &self.rows {
-            match (row.expected, row.count) {
-                (Expected::Always, 0) => {
-                    faults.push(format!("{}: {} does not occur", self.title, row.words))
-                }
-                (Expected::Never, 1..) => {
-                    faults.push(format!("{}: {} occurs", self.title, row.words))
-                }
-                _ => {}
+            let wanted = match row.expected {
+                Expected::Always => true,
+                Expected::InFarLines => far_lines,
+                Expected::Never => false,
+            };
+            if wanted && row.count == 0 {
+                faults.push(format!("{}: {} does not occur", self.title, row.words));
+            }
+            if row.expected == Expected::Never && row.count > 0 {
+                faults.push(format!("{}: {} occurs", self.title, row.words));
             }
         }
         faults

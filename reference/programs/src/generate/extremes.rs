@@ -1,21 +1,31 @@
 //! Frames at the limits: nests around the nesting limit, lists of 0, 1, 254 and 255 tokens,
-//! lines of 0, 1, 254 and 255 bytes.
+//! lines of 0, 1, 254 and 255 bytes. Wide ones of many tokens or bytes are made by `long`.
 
-use super::layout::Draft;
+use super::draft::Draft;
 use super::vocabulary::{self, any_piece, Piece};
+use crate::layout::Layout;
 use crate::random::Random;
 use crate::tokens::kind;
 
-/// Lengths at the limits of a line or a list.
-const LENGTHS: [usize; 6] = [0, 1, 254, 255, 254, 255];
+/// Lengths of a line or a list: at the limits, and in the wide layout short ones only.
+fn some_length(random: &mut Random, layout: Layout) -> usize {
+    random.pick(&match layout {
+        Layout::Narrow => [0, 1, 254, 255, 254, 255],
+        Layout::Wide => [0, 1, 0, 1, 8, 40],
+    })
+}
 
 /// A frame at some limit, `limit` being that of nesting.
-pub fn draft(random: &mut Random, limit: usize) -> Draft {
-    match random.below(6) {
-        0..=2 => nest(random, limit),
-        3 => chain(random),
-        4 => tokens_of_one_byte(random),
-        _ => one_long_token(random),
+pub fn draft(random: &mut Random, layout: Layout, limit: usize) -> Draft {
+    let kind = random.below(6);
+    if kind < 3 {
+        return nest(random, layout, limit);
+    }
+    let length = some_length(random, layout);
+    match kind {
+        3 => chain(random, layout, length),
+        4 => tokens_of_one_byte(random, layout, length),
+        _ => one_long_token(random, layout, length),
     }
 }
 
@@ -29,9 +39,18 @@ fn nesting(random: &mut Random, limit: usize) -> usize {
     }
 }
 
-/// Minus signs, tildes, pluses and groups around a term, in some operand. What 255 tokens do not
+/// Minus signs, tildes, pluses and groups around a term, in some operand. What the list does not
 /// hold is cut off.
-fn nest(random: &mut Random, limit: usize) -> Draft {
+fn nest(random: &mut Random, layout: Layout, limit: usize) -> Draft {
+    let (before, behind, nested) = nested(random, limit);
+    let mut pieces: Vec<Piece> = before.iter().map(|text| word(text)).collect();
+    pieces.extend(nested);
+    pieces.extend(behind.iter().map(|text| word(text)));
+    Draft::tight(layout, &pieces, 0)
+}
+
+/// What stands before and behind a nest, and the nest.
+fn nested(random: &mut Random, limit: usize) -> (Words, Words, Vec<Piece>) {
     let openers = random.pick(&[
         &["-"][..],
         &["("],
@@ -50,18 +69,31 @@ fn nest(random: &mut Random, limit: usize) -> Draft {
         _ => groups,
     };
     let (before, behind) = surroundings(random);
-    let mut pieces: Vec<Piece> = before.iter().map(|text| word(text)).collect();
-    pieces.extend(opened.iter().map(|opener| Piece::sign(opener)));
+    let mut pieces: Vec<Piece> = opened.iter().map(|opener| Piece::sign(opener)).collect();
     if !random.one_in(6) {
         pieces.push(vocabulary::number(random));
     }
     pieces.extend((0..closed).map(|_| Piece::sign(")")));
-    pieces.extend(behind.iter().map(|text| word(text)));
-    Draft::tight(&pieces, 0)
+    (before, behind, pieces)
 }
 
+/// Nests joined by operators, in a list of up to `length` tokens.
+pub fn nests(random: &mut Random, layout: Layout, limit: usize, length: usize) -> Draft {
+    let mut pieces = Vec::new();
+    while pieces.len() < length {
+        let (_, _, nested) = nested(random, limit);
+        pieces.extend(nested);
+        pieces.push(vocabulary::binary_operator(random));
+    }
+    pieces.truncate(length);
+    Draft::tight(layout, &pieces, 0)
+}
+
+/// Signs, names and numbers.
+type Words = &'static [&'static str];
+
 /// What stands before and behind a nest: nothing, or the rest of an operand of some form.
-fn surroundings(random: &mut Random) -> (&'static [&'static str], &'static [&'static str]) {
+fn surroundings(random: &mut Random) -> (Words, Words) {
     random.pick(&[
         (&[][..], &[][..]),
         (&[], &[]),
@@ -85,8 +117,7 @@ fn word(text: &str) -> Piece {
 }
 
 /// Terms or registers joined by operators, as many as the line or the list holds.
-fn chain(random: &mut Random) -> Draft {
-    let length = random.pick(&LENGTHS);
+pub fn chain(random: &mut Random, layout: Layout, length: usize) -> Draft {
     let of_registers = random.one_in(3);
     let one_operator = random.one_in(2);
     let operator = vocabulary::binary_operator(random);
@@ -111,12 +142,11 @@ fn chain(random: &mut Random) -> Draft {
         }
     }
     pieces.truncate(length);
-    Draft::tight(&pieces, 0)
+    Draft::tight(layout, &pieces, 0)
 }
 
 /// A list of tokens of at most one byte each, one sort or any, read from some place.
-fn tokens_of_one_byte(random: &mut Random) -> Draft {
-    let length = random.pick(&LENGTHS);
+pub fn tokens_of_one_byte(random: &mut Random, layout: Layout, length: usize) -> Draft {
     let single = any_piece(random);
     let of_one_sort = random.one_in(2);
     let mut pieces = Vec::new();
@@ -135,12 +165,11 @@ fn tokens_of_one_byte(random: &mut Random) -> Draft {
     }
     let last = pieces.len();
     let start = random.pick(&[0, 0, 0, 1, last / 2, last.saturating_sub(1), last]);
-    Draft::tight(&pieces, start.min(last))
+    Draft::tight(layout, &pieces, start.min(last))
 }
 
 /// A line of one token, which has every byte or none.
-fn one_long_token(random: &mut Random) -> Draft {
-    let length = random.pick(&LENGTHS);
+pub fn one_long_token(random: &mut Random, layout: Layout, length: usize) -> Draft {
     let kinds = [
         kind::IDENTIFIER,
         kind::LOCAL_IDENTIFIER,
@@ -158,5 +187,5 @@ fn one_long_token(random: &mut Random) -> Draft {
     };
     let byte = random.pick(b"019ax.' ");
     let text = String::from_utf8(vec![byte; length]).expect("ASCII");
-    Draft::tight(&[Piece::new(kind, &text)], 0)
+    Draft::tight(layout, &[Piece::new(kind, &text)], 0)
 }

@@ -1,6 +1,7 @@
 //! Diagnostics as their records.
 
-use super::{byte, span_bytes, DiagnosticRecord};
+use super::{pair, DiagnosticRecord};
+use crate::layout::Pair;
 use crate::recover::Source;
 use s68k::assembler::ast::Register;
 use s68k::assembler::diagnostics::{Diagnostic, DiagnosticKind, OperandShape};
@@ -28,7 +29,7 @@ pub const NOT_AN_ADDRESS_REGISTER: u8 = 2;
 /// A problem's number and the text that it quotes.
 fn problem_number(problem: &str) -> (u8, Option<&str>) {
     if let Some(place) = PROBLEMS.iter().position(|text| *text == problem) {
-        return (byte(place + 1), None);
+        return (place as u8 + 1, None);
     }
     let quoted = problem
         .strip_prefix('`')
@@ -71,8 +72,8 @@ fn location_span(location: &Location) -> Span {
 }
 
 /// The first three bytes of a diagnostic's record and its text span, or kind 10's registers.
-fn diagnostic_head(kind: &DiagnosticKind, span: Span, source: &Source) -> ([u8; 3], [u8; 2]) {
-    let quote = |text: &str| span_bytes(source.ending_at(span.end, text));
+fn diagnostic_head(kind: &DiagnosticKind, span: Span, source: &Source) -> ([u8; 3], Pair) {
+    let quote = |text: &str| pair(source.ending_at(span.end, text));
     match kind {
         DiagnosticKind::NumberTooLarge { text } => ([1, 0, 0], quote(text)),
         DiagnosticKind::UnknownSizeSuffix { suffix } => ([2, 0, 0], quote(suffix)),
@@ -91,13 +92,14 @@ fn diagnostic_head(kind: &DiagnosticKind, span: Span, source: &Source) -> ([u8; 
             ([9, 0, after], [0; 2])
         }
         DiagnosticKind::RegisterRangeOutOfOrder { from, to } => {
-            ([10, 0, 0], [named_register(from), named_register(to)])
+            let registers = [named_register(from), named_register(to)];
+            ([10, 0, 0], registers.map(usize::from))
         }
         DiagnosticKind::RegisterInExpression { register } => ([11, 0, 0], quote(register)),
         DiagnosticKind::ExpressionExpected { after } => ([12, 0, 0], quote(after)),
         DiagnosticKind::PlusIsNotAUnaryOperator { term } => {
             let term = source.term_behind_plus(span, term);
-            ([13, 0, 0], term.map_or([0; 2], span_bytes))
+            ([13, 0, 0], term.map_or([0; 2], pair))
         }
         other => panic!("`parse_operand` does not raise {}", other.code()),
     }
@@ -108,21 +110,23 @@ pub fn diagnostic_record(diagnostic: &Diagnostic, source: &Source) -> Diagnostic
     let span = location_span(&diagnostic.location);
     let (head, text) = diagnostic_head(&diagnostic.kind, span, source);
     check_text(head, span, text, source);
-    let mut record = [0; 10];
-    record[0..3].copy_from_slice(&head);
-    record[3..5].copy_from_slice(&span_bytes(span));
-    record[5..7].copy_from_slice(&text);
-    if let Some((location, _)) = diagnostic.related.first() {
-        record[7..9].copy_from_slice(&span_bytes(location_span(location)));
-        record[9] = 1;
-    }
     assert!(diagnostic.related.len() < 2, "at most one related place");
-    record
+    let related = diagnostic.related.first();
+    let [kind, shape, problem] = head;
+    DiagnosticRecord {
+        kind,
+        shape,
+        problem,
+        span: pair(span),
+        text,
+        related: related.map_or([0; 2], |(location, _)| pair(location_span(location))),
+        has_related: u8::from(related.is_some()),
+    }
 }
 
 /// What the choices of the records say of a text beyond that it stands there.
-fn check_text(head: [u8; 3], span: Span, text: [u8; 2], source: &Source) {
-    let text_span = Span::new(text[0] as usize, text[1] as usize);
+fn check_text(head: [u8; 3], span: Span, text: Pair, source: &Source) {
+    let text_span = Span::new(text[0], text[1]);
     match head {
         [1 | 8 | 11, ..] => assert_eq!(text_span, span, "the token itself is quoted"),
         [12, ..] | [7, _, NOT_AN_ADDRESS_REGISTER] => {

@@ -1,6 +1,6 @@
 //! A reading's trees and list items as node records.
 
-use super::{byte, span_bytes, NodeRecord, ABSENT};
+use super::{pair, Content, NodeRecord};
 use crate::recover::Source;
 use s68k::assembler::ast::{BinaryOperator, Expr, RegisterListItem, UnaryOperator};
 use s68k::assembler::source::Span;
@@ -21,39 +21,63 @@ impl<'a> Nodes<'a> {
     }
 
     /// Adds a record and gives its number.
-    fn add(&mut self, head: [u8; 4], span: Span, value: [u8; 8]) -> u8 {
-        let number = byte(self.records.len());
-        let mut record = [0; 14];
-        record[0..4].copy_from_slice(&head);
-        record[4..6].copy_from_slice(&span_bytes(span));
-        record[6..14].copy_from_slice(&value);
+    fn add(&mut self, record: NodeRecord) -> usize {
         self.records.push(record);
-        number
+        self.records.len() - 1
+    }
+
+    /// Adds a node without children.
+    fn add_leaf(&mut self, kind: u8, detail: u8, span: Span, content: Content) -> usize {
+        self.add(NodeRecord {
+            kind,
+            detail,
+            left: None,
+            right: None,
+            span: pair(span),
+            content,
+        })
+    }
+
+    /// Adds a node behind its children.
+    fn add_parent(
+        &mut self,
+        kind: u8,
+        detail: u8,
+        span: Span,
+        left: usize,
+        right: Option<usize>,
+    ) -> usize {
+        self.add(NodeRecord {
+            kind,
+            detail,
+            left: Some(left),
+            right,
+            span: pair(span),
+            content: Content::Nothing,
+        })
     }
 
     /// Adds a tree, children first, and gives its root's number.
-    pub fn add_tree(&mut self, tree: &Expr) -> u8 {
+    pub fn add_tree(&mut self, tree: &Expr) -> usize {
         let span = tree.span();
         match tree {
             Expr::Number { value, base, .. } => {
-                let head = [1, base_number(*base), ABSENT, ABSENT];
-                self.add(head, span, value.to_le_bytes())
+                self.add_leaf(1, base_number(*base), span, Content::Value(*value))
             }
             Expr::CharacterLiteral { bytes, quote, .. } => {
-                let head = [2, quote_number(*quote), ABSENT, ABSENT];
                 let own = self.literal_span(span, bytes, *quote);
-                self.add(head, span, spans_value(&[own]))
+                self.add_leaf(2, quote_number(*quote), span, Content::Own(pair(own)))
             }
             Expr::Symbol { name, .. } => {
                 let own = self.symbol_span(span, name);
-                self.add([3, 0, ABSENT, ABSENT], span, spans_value(&[own]))
+                self.add_leaf(3, 0, span, Content::Own(pair(own)))
             }
-            Expr::CurrentAddress { .. } => self.add([4, 0, ABSENT, ABSENT], span, [0; 8]),
+            Expr::CurrentAddress { .. } => self.add_leaf(4, 0, span, Content::Nothing),
             Expr::Unary {
                 operator, operand, ..
             } => {
                 let operand = self.add_tree(operand);
-                self.add([5, unary_number(*operator), operand, ABSENT], span, [0; 8])
+                self.add_parent(5, unary_number(*operator), span, operand, None)
             }
             Expr::Binary {
                 operator,
@@ -63,24 +87,30 @@ impl<'a> Nodes<'a> {
             } => {
                 let left = self.add_tree(left);
                 let right = self.add_tree(right);
-                self.add([6, binary_number(*operator), left, right], span, [0; 8])
+                self.add_parent(6, binary_number(*operator), span, left, Some(right))
             }
         }
     }
 
     /// Adds a tree that may be absent.
-    pub fn add_optional_tree(&mut self, tree: Option<&Expr>) -> u8 {
-        tree.map_or(ABSENT, |tree| self.add_tree(tree))
+    pub fn add_optional_tree(&mut self, tree: Option<&Expr>) -> Option<usize> {
+        tree.map(|tree| self.add_tree(tree))
     }
 
     /// Adds an item of a register list.
-    pub fn add_item(&mut self, item: &RegisterListItem) -> u8 {
+    pub fn add_item(&mut self, item: &RegisterListItem) -> usize {
         let (kind, from, to) = match item {
             RegisterListItem::Single { register, .. } => (7, register, register),
             RegisterListItem::Range { from, to, .. } => (8, from, to),
         };
-        let head = [kind, 0, from.mask_index(), to.mask_index()];
-        self.add(head, item.span(), spans_value(&[from.span, to.span]))
+        self.add(NodeRecord {
+            kind,
+            detail: 0,
+            left: Some(from.mask_index().into()),
+            right: Some(to.mask_index().into()),
+            span: pair(item.span()),
+            content: Content::Ends(pair(from.span), pair(to.span)),
+        })
     }
 
     /// The literal's own span, checked against its bytes.
@@ -101,15 +131,6 @@ impl<'a> Nodes<'a> {
         assert_eq!(token.text(self.source.line), name);
         token.span
     }
-}
-
-/// The eight bytes of a node that hold spans.
-fn spans_value(spans: &[Span]) -> [u8; 8] {
-    let mut value = [0; 8];
-    for (place, span) in spans.iter().enumerate() {
-        value[2 * place..2 * place + 2].copy_from_slice(&span_bytes(*span));
-    }
-    value
 }
 
 /// A base's number in the order of `NumberBase`.

@@ -1,7 +1,7 @@
 //! An operand as its record.
 
 use super::nodes::Nodes;
-use super::{operand_at, span_bytes, OperandRecord, ABSENT, PC, SUPPRESSED_BASE, SUPPRESSED_PC};
+use super::{pair, OperandRecord, ABSENT, PC, SUPPRESSED_BASE, SUPPRESSED_PC};
 use s68k::assembler::ast::{
     BaseRegister, IndexRegister, Indirection, Operand, Register, RegisterListItem, SizeSuffix,
     SizedDisplacement, SpecialRegister,
@@ -35,122 +35,133 @@ fn special_number(register: SpecialRegister) -> u8 {
     }
 }
 
-/// An operand's record while it is filled in.
-struct Draft(OperandRecord);
-
-impl Draft {
+impl OperandRecord {
     /// A record with a form and a span; nodes and registers absent, all else 0.
     fn new(form: u8, span: Span) -> Self {
-        let mut record = [0; 20];
-        record[operand_at::FORM] = form;
-        record[operand_at::SPAN..][..2].copy_from_slice(&span_bytes(span));
-        record[operand_at::NODE] = ABSENT;
-        record[operand_at::BASE] = ABSENT;
-        record[operand_at::INDEX] = ABSENT;
-        record[operand_at::OUTER_NODE] = ABSENT;
-        Draft(record)
+        OperandRecord {
+            form,
+            span: pair(span),
+            node: None,
+            size: 0,
+            base: ABSENT,
+            base_span: [0; 2],
+            index: ABSENT,
+            index_register_span: [0; 2],
+            index_size: 0,
+            index_scale: 0,
+            index_suppressed: 0,
+            index_span: [0; 2],
+            indirection: 0,
+            outer_node: None,
+            outer_size: 0,
+            special_or_long: 0,
+        }
     }
 
-    fn with(mut self, place: usize, value: u8) -> Self {
-        self.0[place] = value;
-        self
+    fn with_node(self, node: usize) -> Self {
+        let node = Some(node);
+        OperandRecord { node, ..self }
     }
 
-    fn with_register(mut self, register: &Register) -> Self {
-        self.0[operand_at::BASE_SPAN..][..2].copy_from_slice(&span_bytes(register.span));
-        self.with(operand_at::BASE, register.mask_index())
+    fn with_special_or_long(self, special_or_long: u8) -> Self {
+        OperandRecord {
+            special_or_long,
+            ..self
+        }
+    }
+
+    fn with_register(self, register: &Register) -> Self {
+        OperandRecord {
+            base: register.mask_index(),
+            base_span: pair(register.span),
+            ..self
+        }
+    }
+
+    fn with_bare_base(self, base: u8) -> Self {
+        OperandRecord { base, ..self }
     }
 
     /// The base of a full index. Only a written address register has a span.
     fn with_base(self, base: &BaseRegister) -> Self {
         match base {
             BaseRegister::Address { register } => self.with_register(register),
-            BaseRegister::ProgramCounter => self.with(operand_at::BASE, PC),
+            BaseRegister::ProgramCounter => self.with_bare_base(PC),
             BaseRegister::SuppressedAddress { number } => {
-                self.with(operand_at::BASE, SUPPRESSED_BASE + number)
+                self.with_bare_base(SUPPRESSED_BASE + number)
             }
-            BaseRegister::SuppressedProgramCounter => self.with(operand_at::BASE, SUPPRESSED_PC),
+            BaseRegister::SuppressedProgramCounter => self.with_bare_base(SUPPRESSED_PC),
             BaseRegister::Omitted => self,
         }
     }
 
-    fn with_index(mut self, index: &IndexRegister) -> Self {
-        let register_span = span_bytes(index.register.span);
-        self.0[operand_at::INDEX_REGISTER_SPAN..][..2].copy_from_slice(&register_span);
-        self.0[operand_at::INDEX_SPAN..][..2].copy_from_slice(&span_bytes(index.span));
-        self.with(operand_at::INDEX, index.register.mask_index())
-            .with(operand_at::INDEX_SIZE, size_number(index.size))
-            .with(operand_at::INDEX_SCALE, index.scale.unwrap_or(0))
-            .with(operand_at::INDEX_SUPPRESSED, u8::from(index.suppressed))
+    fn with_index(self, index: &IndexRegister) -> Self {
+        OperandRecord {
+            index: index.register.mask_index(),
+            index_register_span: pair(index.register.span),
+            index_size: size_number(index.size),
+            index_scale: index.scale.unwrap_or(0),
+            index_suppressed: u8::from(index.suppressed),
+            index_span: pair(index.span),
+            ..self
+        }
     }
 }
 
 /// The record of an operand, whose trees are added to `nodes`.
 pub fn operand_record(operand: &Operand, nodes: &mut Nodes) -> OperandRecord {
-    let span = operand.span();
-    let draft = match operand {
-        Operand::Immediate { value, long, .. } => Draft::new(1, span)
-            .with(operand_at::NODE, nodes.add_tree(value))
-            .with(operand_at::SPECIAL_OR_LONG, u8::from(*long)),
-        Operand::DataRegisterDirect { register, .. } => Draft::new(2, span).with_register(register),
-        Operand::AddressRegisterDirect { register, .. } => {
-            Draft::new(3, span).with_register(register)
-        }
+    let new = |form| OperandRecord::new(form, operand.span());
+    match operand {
+        Operand::Immediate { value, long, .. } => new(1)
+            .with_node(nodes.add_tree(value))
+            .with_special_or_long(u8::from(*long)),
+        Operand::DataRegisterDirect { register, .. } => new(2).with_register(register),
+        Operand::AddressRegisterDirect { register, .. } => new(3).with_register(register),
         Operand::SpecialRegister { register, .. } => {
-            Draft::new(4, span).with(operand_at::SPECIAL_OR_LONG, special_number(*register))
+            new(4).with_special_or_long(special_number(*register))
         }
-        Operand::Indirect { register, .. } => Draft::new(5, span).with_register(register),
-        Operand::Postincrement { register, .. } => Draft::new(6, span).with_register(register),
-        Operand::Predecrement { register, .. } => Draft::new(7, span).with_register(register),
-        Operand::Absolute { value, size, .. } => Draft::new(13, span)
-            .with(operand_at::NODE, nodes.add_tree(value))
-            .with(operand_at::SIZE, size_number(*size)),
-        Operand::RegisterList { items, .. } => {
-            Draft::new(14, span).with(operand_at::NODE, add_items(items, nodes))
-        }
-        displaced => return displaced_record(displaced, nodes),
-    };
-    draft.0
+        Operand::Indirect { register, .. } => new(5).with_register(register),
+        Operand::Postincrement { register, .. } => new(6).with_register(register),
+        Operand::Predecrement { register, .. } => new(7).with_register(register),
+        Operand::Absolute { value, size, .. } => OperandRecord {
+            size: size_number(*size),
+            ..new(13).with_node(nodes.add_tree(value))
+        },
+        Operand::RegisterList { items, .. } => new(14).with_node(add_items(items, nodes)),
+        displaced => displaced_record(displaced, nodes),
+    }
 }
 
 /// The record of a form with a base and a displacement, 8 to 12.
 fn displaced_record(operand: &Operand, nodes: &mut Nodes) -> OperandRecord {
-    let span = operand.span();
-    let draft = match operand {
+    let new = |form, node| OperandRecord {
+        node,
+        ..OperandRecord::new(form, operand.span())
+    };
+    match operand {
         Operand::Displacement {
             displacement, base, ..
-        } => Draft::new(8, span)
-            .with(operand_at::NODE, nodes.add_tree(displacement))
-            .with_register(base),
+        } => new(8, Some(nodes.add_tree(displacement))).with_register(base),
         Operand::Index {
             displacement,
             base,
             index,
             ..
-        } => Draft::new(9, span)
-            .with(
-                operand_at::NODE,
-                nodes.add_optional_tree(displacement.as_ref()),
-            )
+        } => new(9, nodes.add_optional_tree(displacement.as_ref()))
             .with_register(base)
             .with_index(index),
-        Operand::PcDisplacement { displacement, .. } => Draft::new(10, span)
-            .with(operand_at::NODE, nodes.add_tree(displacement))
-            .with(operand_at::BASE, PC),
+        Operand::PcDisplacement { displacement, .. } => {
+            new(10, Some(nodes.add_tree(displacement))).with_bare_base(PC)
+        }
         Operand::PcIndex {
             displacement,
             index,
             ..
-        } => Draft::new(11, span)
-            .with(
-                operand_at::NODE,
-                nodes.add_optional_tree(displacement.as_ref()),
-            )
-            .with(operand_at::BASE, PC)
+        } => new(11, nodes.add_optional_tree(displacement.as_ref()))
+            .with_bare_base(PC)
             .with_index(index),
-        full => return full_index_record(full, nodes),
-    };
-    draft.0
+        full => full_index_record(full, nodes),
+    }
 }
 
 /// The record of form 12. Its base displacement's tree is finished before the outer one's.
@@ -168,30 +179,37 @@ fn full_index_record(operand: &Operand, nodes: &mut Nodes) -> OperandRecord {
     };
     let (node, size) = add_displacement(base_displacement.as_ref(), nodes);
     let (outer_node, outer_size) = add_displacement(outer_displacement.as_ref(), nodes);
-    let draft = Draft::new(12, *span)
-        .with(operand_at::NODE, node)
-        .with(operand_at::SIZE, size)
-        .with_base(base)
-        .with(operand_at::INDIRECTION, indirection_number(*indirection))
-        .with(operand_at::OUTER_NODE, outer_node)
-        .with(operand_at::OUTER_SIZE, outer_size);
+    let record = OperandRecord {
+        node,
+        size,
+        indirection: indirection_number(*indirection),
+        outer_node,
+        outer_size,
+        ..OperandRecord::new(12, *span).with_base(base)
+    };
     match index {
-        Some(index) => draft.with_index(index).0,
-        None => draft.0,
+        Some(index) => record.with_index(index),
+        None => record,
     }
 }
 
 /// The node and the size of a displacement that may be absent.
-fn add_displacement(displacement: Option<&SizedDisplacement>, nodes: &mut Nodes) -> (u8, u8) {
+fn add_displacement(
+    displacement: Option<&SizedDisplacement>,
+    nodes: &mut Nodes,
+) -> (Option<usize>, u8) {
     match displacement {
-        Some(written) => (nodes.add_tree(&written.value), size_number(written.size)),
-        None => (ABSENT, 0),
+        Some(written) => (
+            Some(nodes.add_tree(&written.value)),
+            size_number(written.size),
+        ),
+        None => (None, 0),
     }
 }
 
 /// Adds a list's items in order and gives the first one's number.
-fn add_items(items: &[RegisterListItem], nodes: &mut Nodes) -> u8 {
-    let numbers: Vec<u8> = items.iter().map(|item| nodes.add_item(item)).collect();
+fn add_items(items: &[RegisterListItem], nodes: &mut Nodes) -> usize {
+    let numbers: Vec<usize> = items.iter().map(|item| nodes.add_item(item)).collect();
     *numbers.first().expect("a register list has an item")
 }
 

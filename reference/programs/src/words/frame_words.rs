@@ -1,10 +1,11 @@
 //! A frame for a reader: text, start, mark and tokens.
 
 use super::span_words;
-use crate::frame::{frame_bytes, Frame, TokenBytes};
+use crate::frame::{Frame, FrameBytes};
+use crate::layout::Layout;
 use crate::printable::printable;
 use crate::refusal::{refusal, Refusal};
-use crate::tokens::{first_bad_token, kind, kind_name};
+use crate::tokens::{first_bad_token, kind, kind_name, TokenRecord};
 use crate::{names, tokens};
 use std::fmt::Write;
 
@@ -13,8 +14,9 @@ const SHOWN: usize = 120;
 
 /// An input line in words: the frame's parts, or why it is no frame.
 pub fn input_words(text: &[u8]) -> String {
-    let bytes = frame_bytes(text);
-    match bytes.as_deref().map_err(|fault| *fault).and_then(Frame::of) {
+    let bytes = FrameBytes::of_line(text);
+    let frame = bytes.as_ref().map_err(|fault| *fault);
+    match frame.and_then(FrameBytes::frame) {
         Ok(frame) => frame_words(&frame),
         Err(fault) => {
             let shown = &text[..text.len().min(SHOWN)];
@@ -24,29 +26,32 @@ pub fn input_words(text: &[u8]) -> String {
     }
 }
 
-/// The parts of a frame, a line each.
+/// The parts of a frame, a line each. Of one that is refused for its length the end is left out.
 fn frame_words(frame: &Frame) -> String {
     let mut out = String::new();
-    let text = printable(frame.line);
-    let _ = writeln!(out, "text    `{text}` ({} bytes)", frame.line.len());
+    let _ = writeln!(out, "layout  {}", frame.layout);
+    let length = frame.line.len();
+    let text = printable(&frame.line[..length.min(Layout::Wide.longest_line())]);
+    let _ = writeln!(out, "text    `{text}` ({length} bytes)");
     let _ = writeln!(out, "start   {}", frame.start);
     let _ = match frame.symbol_at() {
         Some(place) => writeln!(out, "mark    {place}"),
-        None => writeln!(out, "mark    none ({:02x})", frame.mark),
+        None => writeln!(out, "mark    none ({})", frame.mark),
     };
     if let Some(words) = refusal_words(frame) {
         let _ = writeln!(out, "refused {words}");
     }
-    let _ = writeln!(out, "tokens  {}", frame.tokens.len());
-    for (place, token) in frame.tokens.iter().enumerate() {
-        let _ = writeln!(out, "{}", token_words(place, *token, frame.line));
+    let _ = writeln!(out, "tokens  {}", frame.count());
+    let shown = Layout::Wide.most_tokens();
+    for (place, token) in frame.tokens().take(shown).enumerate() {
+        let _ = writeln!(out, "{}", token_words(place, token, frame.line));
     }
     out
 }
 
 /// A token: place, kind, detail, span and text.
-fn token_words(place: usize, token: TokenBytes, line: &[u8]) -> String {
-    let [kind, detail, ..] = token;
+fn token_words(place: usize, token: TokenRecord, line: &[u8]) -> String {
+    let TokenRecord { kind, detail, .. } = token;
     let name = match kind_name(kind) {
         Some(name) => name.to_string(),
         None => format!("kind {kind}"),
@@ -60,17 +65,13 @@ fn token_words(place: usize, token: TokenBytes, line: &[u8]) -> String {
     let named = format!("{name} {detail}");
     format!(
         "{place:7} {named:24} {}",
-        span_words(&token[2..4], Some(line))
+        span_words(token.span(), Some(line))
     )
 }
 
 /// Why a frame is refused, with the place.
 fn refusal_words(frame: &Frame) -> Option<String> {
-    let refusal = refusal(
-        frame.line,
-        frame.tokens.as_flattened(),
-        frame.start as usize,
-    )?;
+    let refusal = refusal(frame.layout, frame.line, frame.list, frame.start)?;
     let reason = names::refusal(refusal.number());
     let place = match refusal {
         Refusal::ForeignByte => {
@@ -79,7 +80,7 @@ fn refusal_words(frame: &Frame) -> Option<String> {
             format!("at {at} of the line")
         }
         Refusal::BadToken => {
-            let (place, fault) = first_bad_token(frame.line, frame.tokens)?;
+            let (place, fault) = first_bad_token(frame.line, frame.tokens())?;
             format!("token {place}, {}", tokens::TokenFault::words(fault))
         }
         _ => return Some(reason),

@@ -1,77 +1,44 @@
 -- `decoding::tokens::token_from` meets its contract.
 -- Assumes nothing.
 -- Written by tools/proof.py from the answers of the same path: change those, not this file.
-use Prim.Native.Nat.{_+_, _*_}
-use native.Mathlib.Omega.{arith}
+use Rattle.operand.specs.Layouts.{tokenNumbers}
 use borrow.Author.Needs.{needs}
 use Rattle.decoding.proofs.tokens.token_from.Statement.{statement}
 use Rattle.decoding.proofs.tokens.token_from.Tie as tie
 
-mul-at : tie.Need-mul-at
-mul-at c = search needs
+enum-told : tie.Need-enum-told
+enum-told c = search needs
 
-shared-slice-read-kind : tie.Need-shared-slice-read-kind
-shared-slice-read-kind c = search needs
+narrow-token-requires : tie.Need-narrow-token-requires
+narrow-token-requires c κs =
+    let c-enum-told = c .enum-told in
+    let c-pre = c .before .before .before .pre in
+    rw (c-enum-told .given .1) at c-pre
 
-cast-kind : tie.Need-cast-kind
-cast-kind c =
-    let c-shared-slice-known = c .shared-slice-known in
-    let c-args = c .before .args in
-    omega (arith, c-shared-slice-known .given (4 * c-args .i))
+enum-told-2 : tie.Need-enum-told-2
+enum-told-2 c = search needs
 
-add-detail : tie.Need-add-detail
-add-detail c = search needs
-
-shared-slice-read-detail : tie.Need-shared-slice-read-detail
-shared-slice-read-detail c = search needs
-
-cast-detail : tie.Need-cast-detail
-cast-detail c =
-    let c-shared-slice-known2 = c .shared-slice-known2 in
-    let c-args = c .before .before .args in
-    omega (arith, c-shared-slice-known2 .given (4 * c-args .i + 1))
-
-add-start : tie.Need-add-start
-add-start c = search needs
-
-shared-slice-read-start : tie.Need-shared-slice-read-start
-shared-slice-read-start c = search needs
-
-cast-start : tie.Need-cast-start
-cast-start c =
-    let c-shared-slice-known3 = c .shared-slice-known3 in
-    let c-args = c .before .before .before .args in
-    omega (arith, c-shared-slice-known3 .given (4 * c-args .i + 2))
-
-add-end : tie.Need-add-end
-add-end c = search needs
-
-shared-slice-read-end : tie.Need-shared-slice-read-end
-shared-slice-read-end c = search needs
-
-cast-end : tie.Need-cast-end
-cast-end c =
-    let c-shared-slice-known4 = c .shared-slice-known4 in
-    let c-args = c .before .before .before .before .args in
-    omega (arith, c-shared-slice-known4 .given (4 * c-args .i + 3))
+wide-token-requires : tie.Need-wide-token-requires
+wide-token-requires c κs =
+    let c-enum-told2 = c .enum-told2 in
+    let c-pre = c .before .before .before .pre in
+    rw (c-enum-told2 .given .1) at c-pre
 
 returns : tie.Need-returns
-returns c = search needs
+unfolding tokenNumbers
+returns c =
+    let c-enum-told = c .before .enum-told in
+    let c-narrow-token = c .narrow-token in
+    rw (c-enum-told .given .1) (c-narrow-token .ensures)
+
+returns-2 : tie.Need-returns-2
+unfolding tokenNumbers
+returns-2 c =
+    let c-enum-told2 = c .before .enum-told2 in
+    let c-wide-token = c .wide-token in
+    rw (c-enum-told2 .given .1) (c-wide-token .ensures)
 
 pub token-from-spec : {M : Type 1} → statement M
 token-from-spec =
     tie.close
-    (tie.spec
-    mul-at
-    shared-slice-read-kind
-    cast-kind
-    add-detail
-    shared-slice-read-detail
-    cast-detail
-    add-start
-    shared-slice-read-start
-    cast-start
-    add-end
-    shared-slice-read-end
-    cast-end
-    returns)
+    (tie.spec enum-told narrow-token-requires enum-told-2 wide-token-requires returns returns-2)

@@ -27,7 +27,7 @@ put-answer-requires c κs =
     let c-args = c .before .before .before .before .before .before .before .before .before .before .before .before .before .before .before .before .before .before .args in
     let c-read-frame = c .before .before .before .before .before .before .before .read-frame in
     let c-pre = c .before .before .before .before .before .before .before .before .before .before .before .before .before .before .before .before .before .before .pre in
-    answer-asks (c-args .bytes .now) (c-args .nodes .now) (c-args .diagnostics .now) _ _ _ (c-read-frame .ensures) _ _ (c-pre .room) (omega (arith, c-pre, c-read-frame .kept)) (omega (arith, c-pre, c-read-frame .kept))
+    answer-asks (c-args .layout) (c-args .bytes .now) (c-args .nodes .now) (c-args .diagnostics .now) _ _ _ (c-read-frame .ensures) _ _ (c-pre .room) (omega (arith, c-pre, c-read-frame .kept)) (omega (arith, c-pre, c-read-frame .kept))
 
 enum-told : tie.Need-enum-told
 enum-told c = search needs
@@ -55,7 +55,7 @@ returns c =
     let c-frame-line = c .before .before .before .before .before .before .before .before .before .before .before .before .before .before .before .before .frame-line in
     let c-pre = c .before .before .before .before .before .before .before .before .before .before .before .before .before .before .before .before .before .before .before .before .before .pre in
     let c-put-answer = c .before .before .put-answer in
-    line-of _ _ (answer-bytes (c-args .bytes .now) (c-args .nodes .now) (c-args .diagnostics .now) _ _ _ (c-read-frame .ensures) ((rw (c-f .given .1) at (c-frame-line .ensures)) .whole) (c-pre .nodes-long) (c-pre .diagnostics-long)) (c-put-answer .ensures)
+    line-of (c-args .layout) _ _ (answer-bytes (c-args .layout) (c-args .bytes .now) (c-args .nodes .now) (c-args .diagnostics .now) _ _ _ (c-read-frame .ensures) ((rw (c-f .given .1) at (c-frame-line .ensures)) .whole) (c-pre .nodes-long) (c-pre .diagnostics-long)) (c-put-answer .ensures)
 
 same-length-4 : tie.Need-same-length-4
 same-length-4 c = search needs
@@ -67,7 +67,7 @@ returns-2 c =
     let c-enum-told = c .before .before .before .before .enum-told in
     let c-frame-line = c .before .before .before .before .before .before .frame-line in
     let c-refuse = c .before .before .refuse in
-    line-of _ _ (sym (not-frame (c-args .bytes .now) (rw (c-enum-told .given .1) at (c-frame-line .ensures)))) (c-refuse .ensures)
+    line-of (c-args .layout) _ _ (sym (not-frame (c-args .layout) (c-args .bytes .now) (rw (c-enum-told .given .1) at (c-frame-line .ensures)))) (c-refuse .ensures)
 
 pub answer-frame-spec : {M : Type 1} → statement M
 answer-frame-spec =

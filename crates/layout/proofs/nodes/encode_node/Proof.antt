@@ -1,8 +1,13 @@
 -- `layout::nodes::encode_node` meets its contract.
 -- Assumes nothing.
 -- Written by tools/proof.py from the answers of the same path: change those, not this file.
+use mathlib.Core.Path.{ap, _∙_}
 use native.Mathlib.Omega.{arith}
-use Rattle.layout.proofs.store.Encoding.{node-written}
+use lib.ListN.{length}
+use Rattle.records.specs.Nodes.{lowFirst}
+use Rattle.operand.specs.Layouts.{number}
+use Rattle.operand.specs.Layout.{nodeFrom}
+use Rattle.operand.specs.Lengths.{length-last}
 use borrow.Author.Needs.{needs}
 use Rattle.layout.proofs.nodes.encode_node.Statement.{statement}
 use Rattle.layout.proofs.nodes.encode_node.Tie as tie
@@ -12,6 +17,51 @@ mul-kind c = search needs
 
 shared-slice-read-kind : tie.Need-shared-slice-read-kind
 shared-slice-read-kind c = search needs
+
+add-detail : tie.Need-add-detail
+add-detail c = search needs
+
+mul-detail : tie.Need-mul-detail
+mul-detail c = search needs
+
+shared-slice-read-detail : tie.Need-shared-slice-read-detail
+shared-slice-read-detail c = search needs
+
+add-left : tie.Need-add-left
+add-left c = search needs
+
+mul-left : tie.Need-mul-left
+mul-left c = search needs
+
+shared-slice-read-left : tie.Need-shared-slice-read-left
+shared-slice-read-left c = search needs
+
+add-right : tie.Need-add-right
+add-right c = search needs
+
+mul-right : tie.Need-mul-right
+mul-right c = search needs
+
+shared-slice-read-right : tie.Need-shared-slice-read-right
+shared-slice-read-right c = search needs
+
+add-start : tie.Need-add-start
+add-start c = search needs
+
+mul-start : tie.Need-mul-start
+mul-start c = search needs
+
+shared-slice-read-start : tie.Need-shared-slice-read-start
+shared-slice-read-start c = search needs
+
+add-end : tie.Need-add-end
+add-end c = search needs
+
+mul-end : tie.Need-mul-end
+mul-end c = search needs
+
+shared-slice-read-end : tie.Need-shared-slice-read-end
+shared-slice-read-end c = search needs
 
 add-a : tie.Need-add-a
 add-a c = search needs
@@ -49,97 +99,110 @@ mul-d c = search needs
 shared-slice-read-d : tie.Need-shared-slice-read-d
 shared-slice-read-d c = search needs
 
-cast-t20 : tie.Need-cast-t20
-cast-t20 c = search needs
+last-eight-requires : tie.Need-last-eight-requires
+last-eight-requires c κs = search needs
 
-add-t12 : tie.Need-add-t12
-add-t12 c = search needs
+enum-told : tie.Need-enum-told
+enum-told c = search needs
 
-mul-t15 : tie.Need-mul-t15
-mul-t15 c = search needs
-
-shared-slice-read-t22 : tie.Need-shared-slice-read-t22
-shared-slice-read-t22 c = search needs
-
-cast-t24 : tie.Need-cast-t24
-cast-t24 c = search needs
-
-add-t25 : tie.Need-add-t25
-add-t25 c = search needs
-
-mul-t26 : tie.Need-mul-t26
-mul-t26 c = search needs
-
-shared-slice-read-t28 : tie.Need-shared-slice-read-t28
-shared-slice-read-t28 c = search needs
-
-cast-t30 : tie.Need-cast-t30
-cast-t30 c = search needs
-
-add-t31 : tie.Need-add-t31
-add-t31 c = search needs
-
-mul-t32 : tie.Need-mul-t32
-mul-t32 c = search needs
-
-shared-slice-read-t34 : tie.Need-shared-slice-read-t34
-shared-slice-read-t34 c = search needs
+cast-t34 : tie.Need-cast-t34
+cast-t34 c = search needs
 
 cast-t36 : tie.Need-cast-t36
 cast-t36 c = search needs
 
-add-t37 : tie.Need-add-t37
-add-t37 c = search needs
+cast-t38 : tie.Need-cast-t38
+cast-t38 c = search needs
 
-mul-t38 : tie.Need-mul-t38
-mul-t38 c = search needs
-
-shared-slice-read-t40 : tie.Need-shared-slice-read-t40
-shared-slice-read-t40 c = search needs
+cast-t40 : tie.Need-cast-t40
+cast-t40 c = search needs
 
 cast-t42 : tie.Need-cast-t42
 cast-t42 c = search needs
 
-add-t43 : tie.Need-add-t43
-add-t43 c = search needs
+cast-t44 : tie.Need-cast-t44
+cast-t44 c = search needs
 
-mul-t44 : tie.Need-mul-t44
-mul-t44 c = search needs
+slice-aggregate-write-parts : tie.Need-slice-aggregate-write-parts
+slice-aggregate-write-parts c = search needs
 
-shared-slice-read-t46 : tie.Need-shared-slice-read-t46
-shared-slice-read-t46 c = search needs
+slice-aggregate-write-parts-2 : tie.Need-slice-aggregate-write-parts-2
+slice-aggregate-write-parts-2 c = search needs
 
-cast-t48 : tie.Need-cast-t48
-cast-t48 c = search needs
+write-parts-requires : tie.Need-write-parts-requires
+write-parts-requires c κs =
+    let c-enum-told = c .before .before .before .enum-told in
+    let c-pre = c .before .before .before .before .before .before .before .before .before .before .before .before .before .before .before .before .before .before .pre in
+    let c-last-eight = c .before .before .before .before .before .last-eight in
+    omega (arith, rw (c-enum-told .given .1) at (c-pre .1), ap length (c-last-eight .ensures) ∙ length-last _ _ _ _ _ _)
 
-last-eight-requires : tie.Need-last-eight-requires
-last-eight-requires c κs = search needs
+enum-told-2 : tie.Need-enum-told-2
+enum-told-2 c = search needs
 
-slice-aggregate-write : tie.Need-slice-aggregate-write
-slice-aggregate-write c = search needs
+cast-t53 : tie.Need-cast-t53
+cast-t53 c = search needs
 
-write-requires : tie.Need-write-requires
-write-requires c κs = search needs
+cast-t55 : tie.Need-cast-t55
+cast-t55 c = search needs
 
-add-write : tie.Need-add-write
-add-write c = search needs
+cast-t57 : tie.Need-cast-t57
+cast-t57 c = search needs
 
-slice-aggregate-write-2 : tie.Need-slice-aggregate-write-2
-slice-aggregate-write-2 c = search needs
+cast-t60 : tie.Need-cast-t60
+cast-t60 c = search needs
 
-write-requires-2 : tie.Need-write-requires-2
-write-requires-2 c κs = search needs
+cast-t62 : tie.Need-cast-t62
+cast-t62 c = search needs
+
+cast-t65 : tie.Need-cast-t65
+cast-t65 c = search needs
+
+cast-t67 : tie.Need-cast-t67
+cast-t67 c = search needs
+
+cast-t70 : tie.Need-cast-t70
+cast-t70 c = search needs
+
+cast-t72 : tie.Need-cast-t72
+cast-t72 c = search needs
+
+cast-t75 : tie.Need-cast-t75
+cast-t75 c = search needs
+
+slice-aggregate-write-parts-3 : tie.Need-slice-aggregate-write-parts-3
+slice-aggregate-write-parts-3 c = search needs
+
+slice-aggregate-write-parts-4 : tie.Need-slice-aggregate-write-parts-4
+slice-aggregate-write-parts-4 c = search needs
+
+write-parts-requires-2 : tie.Need-write-parts-requires-2
+write-parts-requires-2 c κs =
+    let c-enum-told2 = c .before .before .before .enum-told2 in
+    let c-pre = c .before .before .before .before .before .before .before .before .before .before .before .before .before .before .before .before .before .before .pre in
+    let c-last-eight = c .before .before .before .before .before .last-eight in
+    omega (arith, rw (c-enum-told2 .given .1) at (c-pre .1), ap length (c-last-eight .ensures) ∙ length-last _ _ _ _ _ _)
 
 same-length : tie.Need-same-length
 same-length c = search needs
 
 returns : tie.Need-returns
+unfolding nodeFrom number lowFirst
 returns c =
-    let c-args = c .before .before .before .before .before .before .before .before .before .before .before .before .before .before .before .before .before .before .before .before .before .before .before .args in
-    let c-write = c .before .before .before .before .before .before .before .write in
-    let c-last-eight = c .before .before .before .before .before .before .before .before .before .before .last-eight in
-    let c-write2 = c .before .before .write2 in
-    node-written _ _ _ (c-args .numbers .now) _ _ (c-args .from) (omega arith) (c-write .ensures) (c-last-eight .ensures) (c-write2 .ensures)
+    let c-last-eight = c .before .before .before .before .before .before .before .before .last-eight in
+    let c-enum-told = c .before .before .before .before .before .before .enum-told in
+    let c-write-parts = c .before .before .write-parts in
+    rw (← c-last-eight .ensures, c-enum-told .given .1) (c-write-parts .ensures)
+
+same-length-2 : tie.Need-same-length-2
+same-length-2 c = search needs
+
+returns-2 : tie.Need-returns-2
+unfolding nodeFrom number lowFirst
+returns-2 c =
+    let c-last-eight = c .before .before .before .before .before .before .before .before .last-eight in
+    let c-enum-told2 = c .before .before .before .before .before .before .enum-told2 in
+    let c-write-parts2 = c .before .before .write-parts2 in
+    rw (← c-last-eight .ensures, c-enum-told2 .given .1) (c-write-parts2 .ensures)
 
 pub encode-node-spec : {M : Type 1} → statement M
 encode-node-spec =
@@ -147,6 +210,21 @@ encode-node-spec =
     (tie.spec
     mul-kind
     shared-slice-read-kind
+    add-detail
+    mul-detail
+    shared-slice-read-detail
+    add-left
+    mul-left
+    shared-slice-read-left
+    add-right
+    mul-right
+    shared-slice-read-right
+    add-start
+    mul-start
+    shared-slice-read-start
+    add-end
+    mul-end
+    shared-slice-read-end
     add-a
     mul-a
     shared-slice-read-a
@@ -159,32 +237,32 @@ encode-node-spec =
     add-d
     mul-d
     shared-slice-read-d
-    cast-t20
-    add-t12
-    mul-t15
-    shared-slice-read-t22
-    cast-t24
-    add-t25
-    mul-t26
-    shared-slice-read-t28
-    cast-t30
-    add-t31
-    mul-t32
-    shared-slice-read-t34
-    cast-t36
-    add-t37
-    mul-t38
-    shared-slice-read-t40
-    cast-t42
-    add-t43
-    mul-t44
-    shared-slice-read-t46
-    cast-t48
     last-eight-requires
-    slice-aggregate-write
-    write-requires
-    add-write
-    slice-aggregate-write-2
-    write-requires-2
+    enum-told
+    cast-t34
+    cast-t36
+    cast-t38
+    cast-t40
+    cast-t42
+    cast-t44
+    slice-aggregate-write-parts
+    slice-aggregate-write-parts-2
+    write-parts-requires
+    enum-told-2
+    cast-t53
+    cast-t55
+    cast-t57
+    cast-t60
+    cast-t62
+    cast-t65
+    cast-t67
+    cast-t70
+    cast-t72
+    cast-t75
+    slice-aggregate-write-parts-3
+    slice-aggregate-write-parts-4
+    write-parts-requires-2
     same-length
-    returns)
+    returns
+    same-length-2
+    returns-2)

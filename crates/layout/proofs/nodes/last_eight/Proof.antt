@@ -2,77 +2,71 @@
 -- Assumes nothing.
 -- Written by tools/proof.py from the answers of the same path: change those, not this file.
 use borrow.Author.Tests.{eq-eqb, ne-eqb}
-use Rattle.records.specs.Nodes.{lowFirst}
 use Rattle.operand.specs.Layout.{lastEight}
 use borrow.Author.Needs.{needs}
 use Rattle.layout.proofs.nodes.last_eight.Statement.{statement}
 use Rattle.layout.proofs.nodes.last_eight.Tie as tie
 
-cast-t8 : tie.Need-cast-t8
-cast-t8 c = search needs
+enum-told : tie.Need-enum-told
+enum-told c = search needs
 
-cast-t11 : tie.Need-cast-t11
-cast-t11 c = search needs
+four-words-requires : tie.Need-four-words-requires
+four-words-requires c κs = search needs
 
-cast-t13 : tie.Need-cast-t13
-cast-t13 c = search needs
+returns : tie.Need-returns
+unfolding lastEight
+returns c =
+    let c-enum-told = c .before .before .enum-told in
+    let c-args = c .before .before .before .before .args in
+    let c-if1 = c .before .if1 in
+    let c-four-words = c .four-words in
+    rw (c-enum-told .given .1, eq-eqb (c-args .kind) 1 (c-if1 .taken)) (c-four-words .ensures)
+
+cast-t10 : tie.Need-cast-t10
+cast-t10 c = search needs
+
+cast-t12 : tie.Need-cast-t12
+cast-t12 c = search needs
+
+cast-t14 : tie.Need-cast-t14
+cast-t14 c = search needs
 
 cast-t16 : tie.Need-cast-t16
 cast-t16 c = search needs
 
-cast-t18 : tie.Need-cast-t18
-cast-t18 c = search needs
+enum-told-2 : tie.Need-enum-told-2
+enum-told-2 c = search needs
 
-cast-t21 : tie.Need-cast-t21
-cast-t21 c = search needs
-
-cast-t23 : tie.Need-cast-t23
-cast-t23 c = search needs
-
-cast-t26 : tie.Need-cast-t26
-cast-t26 c = search needs
-
-returns : tie.Need-returns
-unfolding lastEight lowFirst
-returns c =
-    let c-args = c .before .args in
-    let c-if1 = c .if1 in
-    rw (eq-eqb (c-args .kind) 1 (c-if1 .taken))
-
-cast-t28 : tie.Need-cast-t28
-cast-t28 c = search needs
-
-cast-t30 : tie.Need-cast-t30
-cast-t30 c = search needs
-
-cast-t32 : tie.Need-cast-t32
-cast-t32 c = search needs
-
-cast-t34 : tie.Need-cast-t34
-cast-t34 c = search needs
+four-words-requires-2 : tie.Need-four-words-requires-2
+four-words-requires-2 c κs = search needs
 
 returns-2 : tie.Need-returns-2
-unfolding lastEight lowFirst
+unfolding lastEight
 returns-2 c =
-    let c-args = c .before .args in
+    let c-enum-told = c .before .enum-told in
+    let c-args = c .before .before .before .args in
     let c-if1 = c .if1 in
-    rw (ne-eqb (c-args .kind) 1 (c-if1 .left))
+    rw (c-enum-told .given .1, ne-eqb (c-args .kind) 1 (c-if1 .left))
+
+returns-3 : tie.Need-returns-3
+unfolding lastEight
+returns-3 c =
+    let c-enum-told2 = c .before .enum-told2 in
+    let c-four-words2 = c .four-words2 in
+    rw (c-enum-told2 .given .1) (c-four-words2 .ensures)
 
 pub last-eight-spec : {M : Type 1} → statement M
 last-eight-spec =
     tie.close
     (tie.spec
-    cast-t8
-    cast-t11
-    cast-t13
-    cast-t16
-    cast-t18
-    cast-t21
-    cast-t23
-    cast-t26
+    enum-told
+    four-words-requires
     returns
-    cast-t28
-    cast-t30
-    cast-t32
-    cast-t34
-    returns-2)
+    cast-t10
+    cast-t12
+    cast-t14
+    cast-t16
+    enum-told-2
+    four-words-requires-2
+    returns-2
+    returns-3)

@@ -40,35 +40,35 @@ returns : tie.Need-returns
 unfolding basePart
 returns c =
     let c-base = c .before .base in
-    rw (c-base .given .1)
+    λ w. rw (c-base .given .1)
 
 returns-2 : tie.Need-returns-2
 unfolding basePart
 returns-2 c =
     let c-spanless = c .spanless in
     let c-enum-told = c .before .enum-told in
-    rw (c-spanless .ensures, c-enum-told .given .1)
+    λ w. rw (c-spanless .ensures, c-enum-told .given .1)
 
 returns-3 : tie.Need-returns-3
 unfolding basePart
 returns-3 c =
     let c-spanless2 = c .spanless2 in
     let c-base2 = c .before .before .base2 in
-    rw (c-spanless2 .ensures, c-base2 .given .1)
+    λ w. rw (c-spanless2 .ensures, c-base2 .given .1)
 
 returns-4 : tie.Need-returns-4
 unfolding basePart
 returns-4 c =
     let c-spanless3 = c .spanless3 in
     let c-enum-told2 = c .before .enum-told2 in
-    rw (c-spanless3 .ensures, c-enum-told2 .given .1)
+    λ w. rw (c-spanless3 .ensures, c-enum-told2 .given .1)
 
 returns-5 : tie.Need-returns-5
 unfolding basePart
 returns-5 c =
     let c-spanless4 = c .spanless4 in
     let c-enum-told3 = c .before .enum-told3 in
-    rw (c-spanless4 .ensures, c-enum-told3 .given .1)
+    λ w. rw (c-spanless4 .ensures, c-enum-told3 .given .1)
 
 pub base-part-spec : {M : Type 1} → statement M
 base-part-spec =

@@ -20,14 +20,14 @@ returns : tie.Need-returns
 unfolding flag indexPart
 returns c =
     let c-index = c .before .index in
-    rw (c-index .given .1)
+    λ w. rw (c-index .given .1)
 
 returns-2 : tie.Need-returns-2
 unfolding flag indexPart
 returns-2 c =
     let c-spanless = c .spanless in
     let c-enum-told = c .before .enum-told in
-    rw (c-spanless .ensures, c-enum-told .given .1)
+    λ w. rw (c-spanless .ensures, c-enum-told .given .1)
 
 pub index-part-spec : {M : Type 1} → statement M
 index-part-spec =

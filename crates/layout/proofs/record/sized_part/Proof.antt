@@ -16,13 +16,13 @@ returns : tie.Need-returns
 unfolding sizedPart
 returns c =
     let c-d = c .before .d in
-    rw (c-d .given .1)
+    λ w. rw (c-d .given .1)
 
 returns-2 : tie.Need-returns-2
 unfolding sizedPart
 returns-2 c =
     let c-enum-told = c .enum-told in
-    rw (c-enum-told .given .1)
+    λ w. rw (c-enum-told .given .1)
 
 pub sized-part-spec : {M : Type 1} → statement M
 sized-part-spec = tie.close (tie.spec enum-known-d enum-told returns returns-2)

@@ -1,7 +1,8 @@
 -- `terminal::call::put_found` meets its contract.
 -- Assumes nothing.
 -- Written by tools/proof.py from the answers of the same path: change those, not this file.
-use Rattle.terminal.proofs.call.Puts.{found-put}
+use native.Mathlib.Omega.{arith}
+use Rattle.terminal.proofs.call.Puts.{sizes, found-put}
 use borrow.Author.Needs.{needs}
 use Rattle.terminal.proofs.call.put_found.Statement.{statement}
 use Rattle.terminal.proofs.call.put_found.Tie as tie
@@ -9,23 +10,28 @@ use Rattle.terminal.proofs.call.put_found.Tie as tie
 cast-t9 : tie.Need-cast-t9
 cast-t9 c = search needs
 
-cast-t10 : tie.Need-cast-t10
-cast-t10 c = search needs
-
 cast-t12 : tie.Need-cast-t12
 cast-t12 c = search needs
 
-cast-t15 : tie.Need-cast-t15
-cast-t15 c = search needs
+head-size-requires : tie.Need-head-size-requires
+head-size-requires c κs = search needs
 
-operand-bytes-requires : tie.Need-operand-bytes-requires
-operand-bytes-requires c κs = search needs
+write-head-requires : tie.Need-write-head-requires
+write-head-requires c κs = search needs
 
-cast-t9-2 : tie.Need-cast-t9-2
-cast-t9-2 c = search needs
+write-operand-requires : tie.Need-write-operand-requires
+write-operand-requires c κs = search needs
 
-cast-t10-2 : tie.Need-cast-t10-2
-cast-t10-2 c = search needs
+operand-size-requires : tie.Need-operand-size-requires
+operand-size-requires c κs = search needs
+
+add-write : tie.Need-add-write
+add-write c =
+    let c-head-size = c .before .before .before .before .before .before .before .before .before .before .head-size in
+    let c-operand-size = c .operand-size in
+    let c-args = c .before .before .before .before .before .before .before .before .before .before .before .before .before .args in
+    let c-pre = c .before .before .before .before .before .before .before .before .before .before .before .before .before .pre in
+    omega (arith, c-head-size .ensures, c-operand-size .ensures, sizes (c-args .layout), c-pre)
 
 slice-aggregate-write : tie.Need-slice-aggregate-write
 slice-aggregate-write c = search needs
@@ -33,46 +39,31 @@ slice-aggregate-write c = search needs
 write-requires : tie.Need-write-requires
 write-requires c κs = search needs
 
-slice-aggregate-write-2 : tie.Need-slice-aggregate-write-2
-slice-aggregate-write-2 c = search needs
-
-write-requires-2 : tie.Need-write-requires-2
-write-requires-2 c κs = search needs
-
-slice-aggregate-write-3 : tie.Need-slice-aggregate-write-3
-slice-aggregate-write-3 c = search needs
-
-write-requires-3 : tie.Need-write-requires-3
-write-requires-3 c κs = search needs
-
 same-length : tie.Need-same-length
 same-length c = search needs
 
 returns : tie.Need-returns
 returns c =
-    let c-pre = c .before .before .before .before .before .before .before .before .before .before .before .before .before .before .before .before .before .before .before .before .pre in
-    let c-operand-bytes = c .before .before .before .before .before .before .before .before .before .before .before .before .before .before .before .operand-bytes in
-    let c-write = c .before .before .before .before .before .before .before .before .before .before .before .before .write in
-    let c-write2 = c .before .before .before .before .before .before .before .write2 in
-    let c-write3 = c .before .before .write3 in
-    found-put _ _ _ _ _ _ (c-pre .room) (c-operand-bytes .ensures) (c-write .ensures) (c-write2 .ensures) (c-write3 .ensures)
+    let c-pre = c .before .before .before .before .before .before .before .before .before .before .before .before .before .before .before .before .before .pre in
+    let c-head-size = c .before .before .before .before .before .before .before .before .before .before .before .before .before .before .head-size in
+    let c-operand-size = c .before .before .before .before .operand-size in
+    let c-write-head = c .before .before .before .before .before .before .before .before .before .before .before .before .write-head in
+    let c-write-operand = c .before .before .before .before .before .before .before .before .write-operand in
+    let c-write = c .before .before .write in
+    found-put _ _ _ _ _ _ _ _ c-pre (c-head-size .ensures) (c-operand-size .ensures) (c-write-head .ensures) (c-write-operand .ensures) (c-write .ensures)
 
 pub put-found-spec : {M : Type 1} → statement M
 put-found-spec =
     tie.close
     (tie.spec
     cast-t9
-    cast-t10
     cast-t12
-    cast-t15
-    operand-bytes-requires
-    cast-t9-2
-    cast-t10-2
+    head-size-requires
+    write-head-requires
+    write-operand-requires
+    operand-size-requires
+    add-write
     slice-aggregate-write
     write-requires
-    slice-aggregate-write-2
-    write-requires-2
-    slice-aggregate-write-3
-    write-requires-3
     same-length
     returns)
