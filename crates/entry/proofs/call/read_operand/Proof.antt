@@ -26,7 +26,7 @@ returns c =
     let c-pre = c .before .before .before .before .before .before .before .before .before .before .before .before .pre in
     let c-decode-tokens = c .before .before .before .decode-tokens in
     let c-if1 = c .if1 in
-    let a : Input = call (c-args .layout) (c-args .line .now) (c-args .tokens .now) (c-args .start) (c-args .mark) (c-args .limit) (c-args .nodes .now) (c-args .diagnostics .now) (c-args .used) in token-refused a (c-pre .passed) (decoded-good _ _ _ _ _ _ _ (c-decode-tokens .ensures) (c-pre .tokens) (not-true _ (c-if1 .taken)))
+    let a : Input = call (c-args .given .layout) (c-args .line .now) (c-args .tokens .now) (c-args .given .start) (c-args .given .mark) (c-args .given .limit) (c-args .nodes .now) (c-args .diagnostics .now) (c-args .given .used) in token-refused a (c-pre .passed) (decoded-good _ _ _ _ _ _ _ (c-decode-tokens .ensures) (c-pre .tokens) (not-true _ (c-if1 .taken)))
 
 token-count-requires : tie.Need-token-count-requires
 token-count-requires c κs = search needs
@@ -46,14 +46,14 @@ returns-2 c =
     let c-token-count = c .before .before .token-count in
     let c-refuse-start-stores-and-limit = c .before .refuse-start-stores-and-limit in
     let c-if2 = c .if2 in
-    let a : Input = call (c-args .layout) (c-args .line .now) (c-args .tokens .now) (c-args .start) (c-args .mark) (c-args .limit) (c-args .nodes .now) (c-args .diagnostics .now) (c-args .used) in store-refused a (c-pre .passed) (decoded-good _ _ _ _ _ _ _ (c-decode-tokens .ensures) (c-pre .tokens) (not-false _ (c-if1 .left))) (rw (c-token-count .ensures ∙ sym (numbers-count (c-args .layout) (c-args .tokens .now))) at (c-refuse-start-stores-and-limit .ensures)) (λ e. omega (arith, c-if2 .taken))
+    let a : Input = call (c-args .given .layout) (c-args .line .now) (c-args .tokens .now) (c-args .given .start) (c-args .given .mark) (c-args .given .limit) (c-args .nodes .now) (c-args .diagnostics .now) (c-args .given .used) in store-refused a (c-pre .passed) (decoded-good _ _ _ _ _ _ _ (c-decode-tokens .ensures) (c-pre .tokens) (not-false _ (c-if1 .left))) (rw (c-token-count .ensures ∙ sym (numbers-count (c-args .given .layout) (c-args .tokens .now))) at (c-refuse-start-stores-and-limit .ensures)) (λ e. omega (arith, c-if2 .taken))
 
 mul-end : tie.Need-mul-end
 mul-end c =
     let c-pre = c .before .before .before .before .before .before .before .before .before .before .before .before .before .before .before .pre in
     let c-token-count = c .before .before .token-count in
     let c-args = c .before .before .before .before .before .before .before .before .before .before .before .before .before .before .before .args in
-    omega (arith, whole-list _ _ _ (c-pre .passed) .1, c-token-count .ensures, numbers-count (c-args .layout) (c-args .tokens .now))
+    omega (arith, whole-list _ _ _ (c-pre .passed) .1, c-token-count .ensures, numbers-count (c-args .given .layout) (c-args .tokens .now))
 
 sub-numbers : tie.Need-sub-numbers
 sub-numbers c = search needs
@@ -67,18 +67,18 @@ part-numbers-end c =
     let c-args = c .before .before .before .before .before .before .before .before .before .before .before .before .before .before .before .before .args in
     let c-pre = c .before .before .before .before .before .before .before .before .before .before .before .before .before .before .before .before .pre in
     let c-decode-tokens = c .before .before .before .before .before .before .before .decode-tokens in
-    omega (arith, c-token-count .ensures, numbers-count (c-args .layout) (c-args .tokens .now), c-pre .tokens, c-decode-tokens .kept)
+    omega (arith, c-token-count .ensures, numbers-count (c-args .given .layout) (c-args .tokens .now), c-pre .tokens, c-decode-tokens .kept)
 
 cast-depth : tie.Need-cast-depth
 cast-depth c =
-    let c-args = c .before .before .before .before .before .before .before .before .before .before .before .before .before .before .before .before .before .args in
-    let c-pre = c .before .before .before .before .before .before .before .before .before .before .before .before .before .before .before .before .before .pre in
-    let c-decode-tokens = c .before .before .before .before .before .before .before .before .decode-tokens in
-    let c-if1 = c .before .before .before .before .before .if1 in
-    let c-token-count = c .before .before .before .before .token-count in
-    let c-refuse-start-stores-and-limit = c .before .before .before .refuse-start-stores-and-limit in
-    let c-if2 = c .before .before .if2 in
-    let a : Input = call (c-args .layout) (c-args .line .now) (c-args .tokens .now) (c-args .start) (c-args .mark) (c-args .limit) (c-args .nodes .now) (c-args .diagnostics .now) (c-args .used) in let v = valid a (c-pre .passed) (decoded-good _ _ _ _ _ _ _ (c-decode-tokens .ensures) (c-pre .tokens) (not-false _ (c-if1 .left))) (rw (c-token-count .ensures ∙ sym (numbers-count (c-args .layout) (c-args .tokens .now))) at (c-refuse-start-stores-and-limit .ensures)) (omega (arith, c-if2 .left)) in omega (arith, valid-limit a v)
+    let c-args = c .before .before .before .before .before .before .before .before .before .before .before .before .before .before .before .before .before .before .args in
+    let c-pre = c .before .before .before .before .before .before .before .before .before .before .before .before .before .before .before .before .before .before .pre in
+    let c-decode-tokens = c .before .before .before .before .before .before .before .before .before .decode-tokens in
+    let c-if1 = c .before .before .before .before .before .before .if1 in
+    let c-token-count = c .before .before .before .before .before .token-count in
+    let c-refuse-start-stores-and-limit = c .before .before .before .before .refuse-start-stores-and-limit in
+    let c-if2 = c .before .before .before .if2 in
+    let a : Input = call (c-args .given .layout) (c-args .line .now) (c-args .tokens .now) (c-args .given .start) (c-args .given .mark) (c-args .given .limit) (c-args .nodes .now) (c-args .diagnostics .now) (c-args .given .used) in let v = valid a (c-pre .passed) (decoded-good _ _ _ _ _ _ _ (c-decode-tokens .ensures) (c-pre .tokens) (not-false _ (c-if1 .left))) (rw (c-token-count .ensures ∙ sym (numbers-count (c-args .given .layout) (c-args .tokens .now))) at (c-refuse-start-stores-and-limit .ensures)) (omega (arith, c-if2 .left)) in omega (arith, valid-limit a v)
 
 operand-at-requires : tie.Need-operand-at-requires
 operand-at-requires c κs = search needs
@@ -100,7 +100,7 @@ same-length-4 c = search needs
 
 same-length-5 : tie.Need-same-length-5
 same-length-5 c =
-    let c-decode-tokens = c .before .before .before .before .before .before .before .before .before .before .before .before .before .before .before .before .before .before .before .before .before .before .before .before .before .before .before .decode-tokens in
+    let c-decode-tokens = c .before .before .before .before .before .before .before .before .before .before .before .before .before .before .before .before .before .before .before .before .before .before .before .before .before .before .before .before .decode-tokens in
     c-decode-tokens .kept .1 .1 .1 .0
 
 same-length-6 : tie.Need-same-length-6
@@ -111,17 +111,17 @@ same-length-7 c = search needs
 
 returns-3 : tie.Need-returns-3
 returns-3 c =
-    let c-args = c .before .before .before .before .before .before .before .before .before .before .before .before .before .before .before .before .before .before .before .before .before .before .before .before .before .before .before .before .before .before .before .before .before .before .before .before .args in
-    let c-pre = c .before .before .before .before .before .before .before .before .before .before .before .before .before .before .before .before .before .before .before .before .before .before .before .before .before .before .before .before .before .before .before .before .before .before .before .before .pre in
-    let c-decode-tokens = c .before .before .before .before .before .before .before .before .before .before .before .before .before .before .before .before .before .before .before .before .before .before .before .before .before .before .before .decode-tokens in
-    let c-if1 = c .before .before .before .before .before .before .before .before .before .before .before .before .before .before .before .before .before .before .before .before .before .before .before .before .if1 in
-    let c-token-count = c .before .before .before .before .before .before .before .before .before .before .before .before .before .before .before .before .before .before .before .before .before .before .before .token-count in
-    let c-refuse-start-stores-and-limit = c .before .before .before .before .before .before .before .before .before .before .before .before .before .before .before .before .before .before .before .before .before .before .refuse-start-stores-and-limit in
-    let c-if2 = c .before .before .before .before .before .before .before .before .before .before .before .before .before .before .before .before .before .before .before .before .before .if2 in
+    let c-args = c .before .before .before .before .before .before .before .before .before .before .before .before .before .before .before .before .before .before .before .before .before .before .before .before .before .before .before .before .before .before .before .before .before .before .before .before .before .args in
+    let c-pre = c .before .before .before .before .before .before .before .before .before .before .before .before .before .before .before .before .before .before .before .before .before .before .before .before .before .before .before .before .before .before .before .before .before .before .before .before .before .pre in
+    let c-decode-tokens = c .before .before .before .before .before .before .before .before .before .before .before .before .before .before .before .before .before .before .before .before .before .before .before .before .before .before .before .before .decode-tokens in
+    let c-if1 = c .before .before .before .before .before .before .before .before .before .before .before .before .before .before .before .before .before .before .before .before .before .before .before .before .before .if1 in
+    let c-token-count = c .before .before .before .before .before .before .before .before .before .before .before .before .before .before .before .before .before .before .before .before .before .before .before .before .token-count in
+    let c-refuse-start-stores-and-limit = c .before .before .before .before .before .before .before .before .before .before .before .before .before .before .before .before .before .before .before .before .before .before .before .refuse-start-stores-and-limit in
+    let c-if2 = c .before .before .before .before .before .before .before .before .before .before .before .before .before .before .before .before .before .before .before .before .before .before .if2 in
     let c-operand-at = c .before .before .before .before .before .before .before .before .before .before .before .before .before .before .before .before .operand-at in
     let c-read = c .before .before .before .before .before .before .before .before .before .before .read in
     let c-answered = c .before .before .before .before .answered in
-    let a : Input = call (c-args .layout) (c-args .line .now) (c-args .tokens .now) (c-args .start) (c-args .mark) (c-args .limit) (c-args .nodes .now) (c-args .diagnostics .now) (c-args .used) in let v = valid a (c-pre .passed) (decoded-good _ _ _ _ _ _ _ (c-decode-tokens .ensures) (c-pre .tokens) (not-false _ (c-if1 .left))) (rw (c-token-count .ensures ∙ sym (numbers-count (c-args .layout) (c-args .tokens .now))) at (c-refuse-start-stores-and-limit .ensures)) (omega (arith, c-if2 .left)) in is-read a _ _ _ _ _ _ v (c-pre) (c-decode-tokens .ensures .numbers) (4 * c-token-count .result) (omega (arith, c-token-count .ensures, numbers-count (c-args .layout) (c-args .tokens .now))) _ (c-operand-at .ensures) _ (c-read .given .1) _ _ _ (c-answered .ensures)
+    let a : Input = call (c-args .given .layout) (c-args .line .now) (c-args .tokens .now) (c-args .given .start) (c-args .given .mark) (c-args .given .limit) (c-args .nodes .now) (c-args .diagnostics .now) (c-args .given .used) in let v = valid a (c-pre .passed) (decoded-good _ _ _ _ _ _ _ (c-decode-tokens .ensures) (c-pre .tokens) (not-false _ (c-if1 .left))) (rw (c-token-count .ensures ∙ sym (numbers-count (c-args .given .layout) (c-args .tokens .now))) at (c-refuse-start-stores-and-limit .ensures)) (omega (arith, c-if2 .left)) in is-read a _ _ _ _ _ _ v (c-pre) (c-decode-tokens .ensures .numbers) (4 * c-token-count .result) (omega (arith, c-token-count .ensures, numbers-count (c-args .given .layout) (c-args .tokens .now))) _ (c-operand-at .ensures) _ (c-read .given .1) _ _ _ (c-answered .ensures)
 
 same-length-8 : tie.Need-same-length-8
 same-length-8 c = search needs
@@ -134,16 +134,16 @@ same-length-10 c = search needs
 
 returns-4 : tie.Need-returns-4
 returns-4 c =
-    let c-args = c .before .before .before .before .before .before .before .before .before .before .before .before .before .before .before .before .before .before .before .before .before .before .before .before .before .before .args in
-    let c-pre = c .before .before .before .before .before .before .before .before .before .before .before .before .before .before .before .before .before .before .before .before .before .before .before .before .before .before .pre in
-    let c-decode-tokens = c .before .before .before .before .before .before .before .before .before .before .before .before .before .before .before .before .before .decode-tokens in
-    let c-if1 = c .before .before .before .before .before .before .before .before .before .before .before .before .before .before .if1 in
-    let c-token-count = c .before .before .before .before .before .before .before .before .before .before .before .before .before .token-count in
-    let c-refuse-start-stores-and-limit = c .before .before .before .before .before .before .before .before .before .before .before .before .refuse-start-stores-and-limit in
-    let c-if2 = c .before .before .before .before .before .before .before .before .before .before .before .if2 in
+    let c-args = c .before .before .before .before .before .before .before .before .before .before .before .before .before .before .before .before .before .before .before .before .before .before .before .before .before .before .before .args in
+    let c-pre = c .before .before .before .before .before .before .before .before .before .before .before .before .before .before .before .before .before .before .before .before .before .before .before .before .before .before .before .pre in
+    let c-decode-tokens = c .before .before .before .before .before .before .before .before .before .before .before .before .before .before .before .before .before .before .decode-tokens in
+    let c-if1 = c .before .before .before .before .before .before .before .before .before .before .before .before .before .before .before .if1 in
+    let c-token-count = c .before .before .before .before .before .before .before .before .before .before .before .before .before .before .token-count in
+    let c-refuse-start-stores-and-limit = c .before .before .before .before .before .before .before .before .before .before .before .before .before .refuse-start-stores-and-limit in
+    let c-if2 = c .before .before .before .before .before .before .before .before .before .before .before .before .if2 in
     let c-operand-at = c .before .before .before .before .before .before .operand-at in
     let c-enum-told = c .enum-told in
-    let a : Input = call (c-args .layout) (c-args .line .now) (c-args .tokens .now) (c-args .start) (c-args .mark) (c-args .limit) (c-args .nodes .now) (c-args .diagnostics .now) (c-args .used) in let v = valid a (c-pre .passed) (decoded-good _ _ _ _ _ _ _ (c-decode-tokens .ensures) (c-pre .tokens) (not-false _ (c-if1 .left))) (rw (c-token-count .ensures ∙ sym (numbers-count (c-args .layout) (c-args .tokens .now))) at (c-refuse-start-stores-and-limit .ensures)) (omega (arith, c-if2 .left)) in absurd (never-unfit a _ _ _ _ _ _ v (c-pre) (c-decode-tokens .ensures .numbers) (4 * c-token-count .result) (omega (arith, c-token-count .ensures, numbers-count (c-args .layout) (c-args .tokens .now))) _ (c-operand-at .ensures) (c-enum-told .given .1))
+    let a : Input = call (c-args .given .layout) (c-args .line .now) (c-args .tokens .now) (c-args .given .start) (c-args .given .mark) (c-args .given .limit) (c-args .nodes .now) (c-args .diagnostics .now) (c-args .given .used) in let v = valid a (c-pre .passed) (decoded-good _ _ _ _ _ _ _ (c-decode-tokens .ensures) (c-pre .tokens) (not-false _ (c-if1 .left))) (rw (c-token-count .ensures ∙ sym (numbers-count (c-args .given .layout) (c-args .tokens .now))) at (c-refuse-start-stores-and-limit .ensures)) (omega (arith, c-if2 .left)) in absurd (never-unfit a _ _ _ _ _ _ v (c-pre) (c-decode-tokens .ensures .numbers) (4 * c-token-count .result) (omega (arith, c-token-count .ensures, numbers-count (c-args .given .layout) (c-args .tokens .now))) _ (c-operand-at .ensures) (c-enum-told .given .1))
 
 pub read-operand-spec : {M : Type 1} → statement M
 read-operand-spec =
