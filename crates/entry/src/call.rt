@@ -260,6 +260,9 @@ fn read_operand(
     ensures { λ r. ⌜ EntryPromise (call (given .layout) (now (line .entry)) (now (tokens .entry)) (given .start) (given .mark) (given .limit) (now (nodes .entry)) (now (diagnostics .entry)) (given .used)) (now (nodes .exit)) (now (diagnostics .exit)) r ⌝ }
 {
     let layout = given.layout;
+    let start = given.start;
+    let mark = given.mark;
+    let used = given.used;
     if !decode_tokens(layout, line, tokens, list) {
         return Answer::Refused(BAD_TOKEN);
     }
@@ -267,11 +270,11 @@ fn read_operand(
     let k = refuse_start_stores_and_limit(
         layout,
         count,
-        given.start,
+        start,
         given.limit,
         nodes.len(),
         diagnostics.len(),
-        given.used,
+        used,
     );
     if k != 0 {
         return Answer::Refused(k);
@@ -279,25 +282,9 @@ fn read_operand(
     let end = 4 * count;
     let numbers = &list[0..end];
     let depth = given.limit as u16;
-    let read = operand_at(
-        line,
-        numbers,
-        records,
-        reports,
-        given.start,
-        given.mark,
-        depth,
-    );
+    let read = operand_at(line, numbers, records, reports, start, mark, depth);
     match read {
-        OperandAnswer::Is(r) => answered(
-            layout,
-            r,
-            records,
-            reports,
-            nodes,
-            diagnostics,
-            given.used,
-        ),
+        OperandAnswer::Is(r) => answered(layout, r, records, reports, nodes, diagnostics, used),
         // There is room, so that this never comes.
         OperandAnswer::Unfit => Answer::Refused(BAD_START),
     }
