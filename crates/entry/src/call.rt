@@ -28,7 +28,8 @@ struct Given {
     used: usize,
 }
 
-// Reads the operand that begins at the token `start`; at most `limit` terms may be open in each other. A refusal writes nothing.
+// Reads the operand that begins at the token `start`; at most `limit` terms may be open in each other. A refusal writes nothing. The
+// numbers of the reading stand in stores of the call's own, in six sizes, since to clear them takes longer than to read a short list.
 pub fn parse_operand(
     layout: Layout,
     line: &[u8],
@@ -53,22 +54,6 @@ pub fn parse_operand(
         limit: limit,
         used: used,
     };
-    read_list(line, tokens, given, nodes, diagnostics)
-}
-
-// The operand of a list of any lawful length. The numbers of the reading stand in stores of the call's own, in six sizes, since to clear
-// them takes longer than to read a short list.
-fn read_list(
-    line: &[u8],
-    tokens: &[u8],
-    given: Given,
-    nodes: &mut [u8],
-    diagnostics: &mut [u8],
-) -> Answer
-    requires { ⌜ ListAsks (given .layout) (now line) (now tokens) 1023 ⌝ }
-    ensures { λ r. ⌜ EntryPromise (call (given .layout) (now (line .entry)) (now (tokens .entry)) (given .start) (given .mark) (given .limit) (now (nodes .entry)) (now (diagnostics .entry)) (given .used)) (now (nodes .exit)) (now (diagnostics .exit)) r ⌝ }
-{
-    let layout = given.layout;
     let count = token_count(layout, tokens.len());
     if count <= 8 {
         return read_8(line, tokens, given, nodes, diagnostics);
