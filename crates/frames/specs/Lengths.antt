@@ -42,7 +42,7 @@ digits-append (x ∷ a) b = rw (digits-append a b)
 -- ---- an answer
 
 -- the parts of an answer, in either layout
-parts-short : (w : L.Layout) (n d : ℕ) → n ≤ mostTokens w → d ≤ freeRecords w → headSize w + (operandSize w + (nodeSize w * n + diagnosticSize w * d)) ≤ 51203
+pub parts-short : (w : L.Layout) (n d : ℕ) → n ≤ mostTokens w → d ≤ freeRecords w → headSize w + (operandSize w + (nodeSize w * n + diagnosticSize w * d)) ≤ 51203
 unfolding mostTokens freeRecords
 parts-short L.Layout.Narrow n d h g = omega arith
 parts-short L.Layout.Wide n d h g = omega arith

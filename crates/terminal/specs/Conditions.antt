@@ -35,7 +35,7 @@ use Rattle.operand.specs.Limits.{limited, Higher, NoneTooDeep}
 use Rattle.operand.specs.Conditions as Conditions
 use Rattle.operand.specs.Conditions.{Valid, Refuses, refuses-bounds, valid-bounds, valid-limit, records-enough, AlikeThrough, alike-before, recordAt, SameButPlus}
 use Rattle.layout.specs.Promise.{given, resultOf, resultAt, given-result, EntryPromise}
-use Rattle.layout.specs.Head.{headSize, length-head}
+use Rattle.layout.specs.Head.{length-head}
 use Rattle.layout.specs.Answers as Answers
 use Rattle.layout.specs.declared.answer.Answer.{Answer}
 use Rattle.layout.specs.declared.answer.Missed.{Missed}
@@ -43,7 +43,7 @@ use Rattle.spelling.specs.Signs.{unreserved, ordinary}
 use Rattle.spelling.specs.Spelling.{Closed, Spelled}
 use Rattle.spelling.specs.Silence.{Unerring}
 use Rattle.spelling.specs.Answers as Spellings
-use Rattle.terminal.specs.Exported.{Exported, told, answerLaid, outAfter, answered, answerBytes, shortAnswer, exported}
+use Rattle.terminal.specs.Exported.{Exported, told, answerLaid, outAfter, answered, answerBytes, answer-bytes, shortAnswer, exported}
 use Rattle.terminal.specs.Stays.{number-roomy, number-short, stays}
 
 -- ---- what a caller finds in the answer store
@@ -66,16 +66,9 @@ addedIn w O = joined (getD O (1 + 2 * width w) 0) (getD O (2 + 2 * width w) 0)
 
 laid-long : (w : Layout) (r : Reading (Maybe Operand)) (v : Maybe Operand) → length (answerLaid w (given w (resultOf r v))) ≡ answerBytes w
 unfolding answerLaid given resultOf lowFirst
-laid-long w r (some x) = simp length-append (go w (length-head w 0 (r .cursor) (sizeM (some x)) (length (r .raised))) (length-bytes w (recordOf x)))
-  where
-    go : (w : Layout) {m n : ℕ} → m ≡ headSize w → n ≡ operandSize w → m + (n + 2) ≡ answerBytes w
-    go Layout.Narrow e f = omega arith
-    go Layout.Wide e f = omega arith
-laid-long w r none = simp (length-append, length-replicate) (go w (length-head w 1 (r .cursor) 0 (length (r .raised))))
-  where
-    go : (w : Layout) {m : ℕ} → m ≡ headSize w → m + (operandSize w + 2) ≡ answerBytes w
-    go Layout.Narrow e = omega arith
-    go Layout.Wide e = omega arith
+laid-long w r (some x) =
+    simp length-append (omega (arith, length-head w 0 (r .cursor) (sizeM (some x)) (length (r .raised)), length-bytes w (recordOf x), answer-bytes w))
+laid-long w r none = simp (length-append, length-replicate) (omega (arith, length-head w 1 (r .cursor) 0 (length (r .raised)), answer-bytes w))
 
 -- the entry's answer, as it stands in a store
 record Stands (w : Layout) (r : Answer) (O : List ℕ) : Type 0 where

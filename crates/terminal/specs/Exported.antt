@@ -1,5 +1,6 @@
 -- What an exported call gives: the entry's outcome, with the answer as 27 bytes in a lent store, or as 39 in the wide layout.
 -- Assumes nothing.
+use mathlib.Core.Path.{_≡_, refl}
 use mathlib.Core.List.{List, [], _++_}
 use Prim.Native.Nat.{ℕ, _+_}
 use lib.Dec.{ltb}
@@ -11,6 +12,7 @@ use Rattle.operand.specs.Entry.{Input, Outcome, outcome}
 use Rattle.operand.specs.Entry as Entry
 use Rattle.operand.specs.declared.layouts.Layout.{Layout}
 use Rattle.operand.specs.Layouts.{operandSize}
+use Rattle.layout.specs.Head.{headSize}
 use Rattle.operand.specs.Layout.{headLaid, operandNumber, noOperandNumber}
 
 -- the number that is returned: 0 with an answer, else the refusal's
@@ -46,6 +48,11 @@ answered w x O = told (numberOf (x .answer)) (x .nodes) (x .diagnostics) (outAft
 abbrev pub answerBytes : Layout → ℕ
 answerBytes Layout.Narrow = 27
 answerBytes Layout.Wide = 39
+
+-- the beginning, the record and the mask
+pub answer-bytes : (w : Layout) → headSize w + (operandSize w + 2) ≡ answerBytes w
+answer-bytes Layout.Narrow = refl
+answer-bytes Layout.Wide = refl
 
 -- the number of a store that is too short for them: the library's own, far from the papers' numbers
 abbrev pub shortAnswer : ℕ

@@ -8,7 +8,7 @@ use native.Mathlib.Omega.{arith}
 use lib.ListN.{length, take, set, length-append}
 use Rattle.records.specs.Stores.{written}
 use Rattle.operand.specs.declared.layouts.Layout.{Layout}
-use Rattle.operand.specs.Layouts.{nodeSize, diagnosticSize, operandSize, mostTokens, freeRecords, nodes-within}
+use Rattle.operand.specs.Layouts.{nodeSize, diagnosticSize, operandSize, freeRecords, nodes-within}
 use Rattle.operand.specs.Layout.{bytesOf, headLaid, operandNumber, noOperandNumber}
 use Rattle.layout.specs.Head.{headSize}
 use Rattle.layout.specs.declared.answer.Found.{Found}
@@ -17,7 +17,7 @@ use Rattle.frames.specs.Frame.{diagnosticBytes, opening}
 use Rattle.frames.specs.Hex.{digits}
 use Rattle.frames.specs.Reply.{ended}
 use Rattle.records.specs.Written.{written-more, written-take}
-use Rattle.frames.specs.Lengths.{length-digits, digits-append}
+use Rattle.frames.specs.Lengths.{length-digits, digits-append, parts-short}
 use Rattle.frames.specs.Inner.{Put, foundBytes, FoundAsks, missedBytes, MissedAsks}
 use Rattle.frames.proofs.hex.Digits.{written-none, written-one}
 
@@ -86,13 +86,12 @@ parts-put w h r n d a p₀ kept p₁ p₂ p₃ p₄ p₅ =
 
 -- how long the parts of an answer are
 module _ (w : Layout) where
-  sizes : (n d : ℕ) → n ≤ mostTokens w → d ≤ freeRecords w → (headSize w ≤ 7) × (operandSize w ≤ 30) × (headSize w + operandSize w + nodeSize w * n + diagnosticSize w * d ≤ 51203)
-  unfolding mostTokens freeRecords
-  sizes n d h g = go w h g
+  sizes : (headSize w ≤ 7) × (operandSize w ≤ 30)
+  sizes = go w
     where
-      go : (w : Layout) → n ≤ mostTokens w → d ≤ freeRecords w → (headSize w ≤ 7) × (operandSize w ≤ 30) × (headSize w + operandSize w + nodeSize w * n + diagnosticSize w * d ≤ 51203)
-      go Layout.Narrow h g = omega arith
-      go Layout.Wide h g = omega arith
+      go : (w : Layout) → (headSize w ≤ 7) × (operandSize w ≤ 30)
+      go Layout.Narrow = omega arith
+      go Layout.Wide = omega arith
 
   diagnostics-within : (d : ℕ) → d ≤ freeRecords w → diagnosticSize w * d ≤ diagnosticBytes w
   unfolding freeRecords diagnosticBytes
@@ -117,24 +116,22 @@ module _ (w : Layout) where
 
   pub found-long : (O N D : List ℕ) (at : ℕ) (x : Found) → FoundAsks w O at x N D → Long O N D at (x .nodes) (x .diagnostics)
   found-long O N D at x a =
-      let s = sizes (x .nodes) (x .diagnostics) (a .nodes-few) (a .diagnostics-few) in
       record {
-        head = s .0;
-        operand = s .1;
+        head = sizes .0;
+        operand = sizes .1;
         nodes = omega (arith, nodes-within w (x .nodes) (a .nodes-few), a .nodes-long);
         diagnostics = omega (arith, diagnostics-within (x .diagnostics) (a .diagnostics-few), a .diagnostics-long);
-        room = omega (arith, s, a .room);
+        room = omega (arith, parts-short w (x .nodes) (x .diagnostics) (a .nodes-few) (a .diagnostics-few), a .room);
       }
 
   pub missed-long : (O D : List ℕ) (at : ℕ) (x : Missed) → MissedAsks w O at x D → Long O [] D at 0 (x .diagnostics)
   missed-long O D at x a =
-      let s = sizes 0 (x .diagnostics) (omega arith) (a .diagnostics-few) in
       record {
-        head = s .0;
-        operand = s .1;
+        head = sizes .0;
+        operand = sizes .1;
         nodes = omega (arith, mul-zero (nodeSize w));
         diagnostics = omega (arith, diagnostics-within (x .diagnostics) (a .diagnostics-few), a .diagnostics-long);
-        room = omega (arith, s, a .room);
+        room = omega (arith, parts-short w 0 (x .diagnostics) (omega arith) (a .diagnostics-few), a .room);
       }
 
   -- the parts of an answer as they are taken, under the answer's name

@@ -19,7 +19,7 @@ use Rattle.layout.specs.Head.{headSize, length-head}
 use Rattle.layout.specs.declared.answer.Answer.{Answer}
 use Rattle.layout.specs.declared.answer.Found.{Found}
 use Rattle.layout.specs.declared.answer.Missed.{Missed}
-use Rattle.terminal.specs.Exported.{told, numberOf, answerLaid, outAfter, answered, answerBytes, shortAnswer, exported}
+use Rattle.terminal.specs.Exported.{told, numberOf, answerLaid, outAfter, answered, answerBytes, answer-bytes, shortAnswer, exported}
 use Rattle.terminal.specs.Stays.{written-nothing}
 use Rattle.terminal.specs.Call.{AnswerPut}
 
@@ -32,11 +32,6 @@ three : (O P Q R x y z : List ℕ) (j k : ℕ) → P ≡ written O 0 x → Q ≡
 three O P Q R x y z j k p q r e f h =
     two O Q R (x ++ y) z k (two O P Q x y j p q (omega arith) (omega arith)) r (simp length-append (omega arith)) (simp length-append (omega arith))
     ∙ ap (written O 0) (append-assoc x y z)
-
--- the beginning, the record and the mask fill an answer
-pub sizes : (w : Layout) → headSize w + (operandSize w + 2) ≡ answerBytes w
-sizes Layout.Narrow = refl
-sizes Layout.Wide = refl
 
 -- the longest record, with the mask
 pub zeros-enough : (w : Layout) → operandSize w + 2 ≤ 32
@@ -57,7 +52,7 @@ unfolding given numberOf outAfter answerLaid lowFirst
 found-put w x O P Q R j k h e f p q r =
     let head = length-head w 0 (x .cursor) (x .nodes) (x .diagnostics) in
     let record-long = length-bytes w (x .operand) in
-    record { number = refl; out = three O P Q R _ _ _ j (j + k) p q r (omega (arith, head)) (omega (arith, head, record-long)) (omega (arith, head, record-long, sizes w)) }
+    record { number = refl; out = three O P Q R _ _ _ j (j + k) p q r (omega (arith, head)) (omega (arith, head, record-long)) (omega (arith, head, record-long, answer-bytes w)) }
 
 pub missed-put : (w : Layout) (x : Missed) (O P Q Z : List ℕ) (j : ℕ) → answerBytes w ≤ length O → j ≡ headSize w → Z ≡ replicate (operandSize w + 2) 0
     → P ≡ written O 0 (headLaid w 1 (x .cursor) 0 (x .diagnostics)) → Q ≡ written P j Z → AnswerPut w (Answer.NoOperand x) O Q 0
@@ -66,7 +61,7 @@ missed-put w x O P Q Z j h e z p q =
     let head = length-head w 1 (x .cursor) 0 (x .diagnostics) in
     let Y : List ℕ = replicate (operandSize w + 2) 0 in
     let long : length Y ≡ operandSize w + 2 = length-replicate (operandSize w + 2) 0 in
-    record { number = refl; out = two O P Q _ _ j p (q ∙ ap (written P j) z) (omega (arith, head)) (omega (arith, head, long, sizes w)) }
+    record { number = refl; out = two O P Q _ _ j p (q ∙ ap (written P j) z) (omega (arith, head)) (omega (arith, head, long, answer-bytes w)) }
 
 pub refused-put : (w : Layout) (O : List ℕ) (k : ℕ) → AnswerPut w (Answer.Refused k) O O k
 unfolding given numberOf outAfter answerLaid

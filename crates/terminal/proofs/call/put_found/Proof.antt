@@ -2,7 +2,8 @@
 -- Assumes nothing.
 -- Written by tools/proof.py from the answers of the same path: change those, not this file.
 use native.Mathlib.Omega.{arith}
-use Rattle.terminal.proofs.call.Puts.{sizes, found-put}
+use Rattle.terminal.specs.Exported.{answer-bytes}
+use Rattle.terminal.proofs.call.Puts.{found-put}
 use borrow.Author.Needs.{needs}
 use Rattle.terminal.proofs.call.put_found.Statement.{statement}
 use Rattle.terminal.proofs.call.put_found.Tie as tie
@@ -31,7 +32,7 @@ add-write c =
     let c-operand-size = c .operand-size in
     let c-args = c .before .before .before .before .before .before .before .before .before .before .before .before .before .args in
     let c-pre = c .before .before .before .before .before .before .before .before .before .before .before .before .before .pre in
-    omega (arith, c-head-size .ensures, c-operand-size .ensures, sizes (c-args .layout), c-pre)
+    omega (arith, c-head-size .ensures, c-operand-size .ensures, answer-bytes (c-args .layout), c-pre)
 
 slice-aggregate-write : tie.Need-slice-aggregate-write
 slice-aggregate-write c = search needs
