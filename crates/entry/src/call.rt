@@ -13,7 +13,7 @@ use operand_code::{OperandAnswer, operand_at};
 use refusals::{refuse_line_and_list, refuse_start_stores_and_limit};
 
 // What a call is given by value.
-#[derive(Drop)]
+#[derive(Clone, Copy)]
 struct Given {
     layout: Layout,
     start: usize,

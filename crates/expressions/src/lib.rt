@@ -1,4 +1,6 @@
 // Expressions: the definition of a reading in specs/.
+#![tactic(auto)]
+
 mod reading;
 
 pub use reading::Setting;

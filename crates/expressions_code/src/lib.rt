@@ -1,4 +1,6 @@
 // Expressions: terms, levels and trees, read into stores of records.
+#![tactic(auto)]
+
 mod leaves;
 mod levels;
 mod reading;

@@ -8,13 +8,13 @@ use expressions::Setting;
 use records::{Counters, MOST_COUNTED, MOST_TOKENS, Span, clear_nodes, widen};
 
 // What is read, or unfit where the counts leave no room for a reading.
-#[derive(Drop)]
+#[derive(Clone, Copy)]
 pub enum ExpressionAnswer {
     Is(Step),
     Unfit,
 }
 
-#[derive(Drop)]
+#[derive(Clone, Copy)]
 pub enum ChainAnswer {
     Is(Chain),
     Unfit,

@@ -14,21 +14,21 @@ use records::diagnostic_kinds::PLUS_IS_NOT_A_UNARY_OPERATOR;
 use records::{Counters, Span, span_of, widen};
 
 // A term: read, with its root's span; failed and reported; or not there.
-#[derive(Drop)]
+#[derive(Clone, Copy)]
 pub enum Parsed {
     Read(Span),
     Reported,
     Absent,
 }
 
-#[derive(Drop)]
+#[derive(Clone, Copy)]
 pub struct Step {
     pub parsed: Parsed,
     pub counters: Counters,
 }
 
 // A tree that is read: its root's span.
-#[derive(Drop)]
+#[derive(Clone, Copy)]
 pub struct Chain {
     pub span: Span,
     pub counters: Counters,

@@ -9,7 +9,7 @@ use crate::reply::{LONGEST, answer};
 const ROOMY: usize = 61432;
 
 // How many bytes of the input were read, how many of the unfinished line are held, how many were written.
-#[derive(Drop)]
+#[derive(Clone, Copy)]
 pub struct Batched {
     pub consumed: usize,
     pub held: usize,
@@ -17,7 +17,7 @@ pub struct Batched {
 }
 
 // What a byte leaves.
-#[derive(Drop)]
+#[derive(Clone, Copy)]
 struct Turned {
     held: usize,
     written: usize,

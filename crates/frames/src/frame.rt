@@ -59,7 +59,7 @@ fn tokens_long(layout: Layout, count: usize) -> usize
 }
 
 // The length of a frame's line, if the bytes are a frame: their counts give their length.
-#[derive(Drop)]
+#[derive(Clone, Copy)]
 pub(crate) enum Framed {
     Is(usize),
     Not,

@@ -4,7 +4,7 @@ ghost use Rattle.frames.specs.Hex.{digit, digits, value};
 ghost use Rattle.frames.specs.Inner.{DecodedAs, Put};
 
 // How many bytes a line spells, if it spells bytes.
-#[derive(Drop)]
+#[derive(Clone, Copy)]
 pub(crate) enum Decoded {
     Is(usize),
     Not,

@@ -1,4 +1,6 @@
 // Frames in, answer lines out: the program's work on bytes.
+#![tactic(auto)]
+
 mod batches;
 mod frame;
 mod hex;

@@ -15,7 +15,7 @@ pub const NO_OPERAND: u8 = 1;
 pub const REFUSED: u8 = 2;
 
 // An operand, with the cursor, the nodes used and the diagnostics added.
-#[derive(Drop)]
+#[derive(Clone, Copy)]
 pub struct Found {
     pub operand: OperandRecord,
     pub cursor: usize,
@@ -24,14 +24,14 @@ pub struct Found {
 }
 
 // No operand, with the cursor and the diagnostics added.
-#[derive(Drop)]
+#[derive(Clone, Copy)]
 pub struct Missed {
     pub cursor: usize,
     pub diagnostics: usize,
 }
 
 // A refusal by its number.
-#[derive(Drop)]
+#[derive(Clone, Copy)]
 pub enum Answer {
     Operand(Found),
     NoOperand(Missed),

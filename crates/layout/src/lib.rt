@@ -1,4 +1,6 @@
 // The answer as bytes (docs/FORMAT.md): the reading's numbers encoded.
+#![tactic(auto)]
+
 mod answer;
 mod diagnostics;
 mod nodes;

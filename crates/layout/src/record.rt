@@ -80,7 +80,7 @@ fn index_part(index: Index) -> IndexRegister
 }
 
 // The parts of a record that may be absent, filled in with the same bytes.
-#[derive(Drop)]
+#[derive(Clone, Copy)]
 struct Filled {
     displacement: Sized,
     base: Register,

@@ -1,4 +1,6 @@
 // Shows what the leaves make of each line of the standard input, a line each: the file `stdout` is what the Rust's own functions say.
+#![tactic(auto)]
+
 ghost use Rattle.std.specs.Prelude.{◌≤◌, length};
 
 use libc::{STDIN_FILENO, STDOUT_FILENO};

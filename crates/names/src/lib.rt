@@ -1,4 +1,6 @@
 // The leaves of the operand reader: tokens and their texts, and what a text spells.
+#![tactic(auto)]
+
 pub mod kinds;
 mod letters;
 mod literals;

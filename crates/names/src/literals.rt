@@ -5,14 +5,14 @@ ghost use Rattle.names.specs.Literals.{Inner_told, literal_bytes, Stored};
 use crate::tokens::first;
 
 // What stands inside a literal at a place: a byte, with the place behind it, or the literal's end.
-#[derive(Drop)]
+#[derive(Clone, Copy)]
 enum Inner {
     Byte(u8, usize),
     End,
 }
 
 // How many bytes were stored, or that they have no room.
-#[derive(Drop)]
+#[derive(Clone, Copy)]
 pub enum Literal {
     Is(usize),
     NoRoom,

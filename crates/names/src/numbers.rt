@@ -10,7 +10,7 @@ use crate::tokens::behind_first;
 const BASES: u16 = 4;
 
 // The base of a number, in the order of the Rust's `NumberBase`.
-#[derive(Drop)]
+#[derive(Clone, Copy)]
 enum NumberBase {
     Decimal,
     Hexadecimal,
@@ -19,7 +19,7 @@ enum NumberBase {
 }
 
 // What the digits of a number come to: a value below 2^63; digits of the base with a larger value; no number.
-#[derive(Drop)]
+#[derive(Clone, Copy)]
 pub enum Number {
     Value(u64),
     TooLarge,

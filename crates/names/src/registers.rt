@@ -12,21 +12,21 @@ use crate::tokens::behind_first;
 // One more than any register.
 const NO_BANK: u8 = 16;
 
-#[derive(Drop)]
+#[derive(Clone, Copy)]
 pub enum Reg {
     Is(u8),
     Not,
 }
 
 // One of the ten special registers, 1 to 10 in the order of the Rust's `SpecialRegister`.
-#[derive(Drop)]
+#[derive(Clone, Copy)]
 pub enum SpecialRegister {
     Is(u8),
     Not,
 }
 
 // A register written with a `z`: its mask index, or the program counter.
-#[derive(Drop)]
+#[derive(Clone, Copy)]
 pub enum Suppressed {
     Register(u8),
     ProgramCounter,

@@ -7,7 +7,7 @@ use crate::letters::lower;
 use crate::tokens::behind_first;
 
 // A size, 1 to 4 in the order of the Rust's `SizeSuffix`: byte, word, long, short.
-#[derive(Drop)]
+#[derive(Clone, Copy)]
 pub enum SizeSuffix {
     Is(u8),
     Not,

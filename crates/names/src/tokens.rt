@@ -5,7 +5,7 @@ ghost use Rattle.names.specs.Places.{text_of};
 
 use crate::kinds::{NUMBER, STRING_LITERAL};
 
-#[derive(Drop)]
+#[derive(Clone, Copy)]
 pub struct Token {
     pub kind: u16,
     pub detail: u16,
@@ -14,7 +14,7 @@ pub struct Token {
 }
 
 // What stands at a place of the list: a token, or nothing from the list's end on.
-#[derive(Drop)]
+#[derive(Clone, Copy)]
 pub enum Peeked {
     Is(Token),
     End,

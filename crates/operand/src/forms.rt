@@ -2,14 +2,14 @@
 use records::{Counters, Span};
 
 // A register by its mask index, and the span of its token.
-#[derive(Drop)]
+#[derive(Clone, Copy)]
 pub struct Register {
     pub index: u8,
     pub span: Span,
 }
 
 // Size 1 to 4 and scale 1, 2, 4 or 8, 0 for none; the last span is that of `d1.w*4`.
-#[derive(Drop)]
+#[derive(Clone, Copy)]
 pub struct IndexRegister {
     pub register: Register,
     pub size: u8,
@@ -19,7 +19,7 @@ pub struct IndexRegister {
 }
 
 // A suppressed address register is its number, 0 to 7.
-#[derive(Drop)]
+#[derive(Clone, Copy)]
 pub enum BaseRegister {
     Address(Register),
     ProgramCounter,
@@ -28,27 +28,27 @@ pub enum BaseRegister {
     Omitted,
 }
 
-#[derive(Drop)]
+#[derive(Clone, Copy)]
 pub enum Index {
     Indexed(IndexRegister),
     Unindexed,
 }
 
 // The base and the index of a full index.
-#[derive(Drop)]
+#[derive(Clone, Copy)]
 pub struct Registers {
     pub base: BaseRegister,
     pub index: Index,
 }
 
 // An expression and its size, 0 for none.
-#[derive(Drop)]
+#[derive(Clone, Copy)]
 pub struct Sized {
     pub node: u16,
     pub size: u8,
 }
 
-#[derive(Drop)]
+#[derive(Clone, Copy)]
 pub enum SizedDisplacement {
     Is(Sized),
     Not,
@@ -56,7 +56,7 @@ pub enum SizedDisplacement {
 
 // The fields of the operand's record (docs/FORMAT.md), and the mask of a register list, which has sixteen bits. Order and widths are such that the pieces
 // in which a record is copied do not overlap.
-#[derive(Drop)]
+#[derive(Clone, Copy)]
 pub struct OperandRecord {
     pub base: BaseRegister,
     pub index: Index,
@@ -71,81 +71,81 @@ pub struct OperandRecord {
 
 // ---- what the functions answer, each with the counters behind it
 
-#[derive(Drop)]
+#[derive(Clone, Copy)]
 pub enum OperandRead {
     Is(OperandRecord),
     Not,
 }
 
-#[derive(Drop)]
+#[derive(Clone, Copy)]
 pub struct OperandStep {
     pub operand: OperandRead,
     pub counters: Counters,
 }
 
-#[derive(Drop)]
+#[derive(Clone, Copy)]
 pub enum IndexRead {
     Is(IndexRegister),
     Not,
 }
 
-#[derive(Drop)]
+#[derive(Clone, Copy)]
 pub struct IndexStep {
     pub index: IndexRead,
     pub counters: Counters,
 }
 
-#[derive(Drop)]
+#[derive(Clone, Copy)]
 pub enum RegistersRead {
     Is(Registers),
     Not,
 }
 
-#[derive(Drop)]
+#[derive(Clone, Copy)]
 pub struct RegistersStep {
     pub registers: RegistersRead,
     pub counters: Counters,
 }
 
-#[derive(Drop)]
+#[derive(Clone, Copy)]
 pub enum DisplacementRead {
     Is(SizedDisplacement),
     Not,
 }
 
-#[derive(Drop)]
+#[derive(Clone, Copy)]
 pub struct DisplacementStep {
     pub displacement: DisplacementRead,
     pub counters: Counters,
 }
 
 // The end of a parenthesis.
-#[derive(Drop)]
+#[derive(Clone, Copy)]
 pub enum Close {
     Is(u16),
     Not,
 }
 
-#[derive(Drop)]
+#[derive(Clone, Copy)]
 pub struct CloseStep {
     pub close: Close,
     pub counters: Counters,
 }
 
 // A size suffix: its size, 0 for one that is not known, and its span.
-#[derive(Drop)]
+#[derive(Clone, Copy)]
 pub struct Suffixed {
     pub size: u8,
     pub span: Span,
 }
 
-#[derive(Drop)]
+#[derive(Clone, Copy)]
 pub enum SuffixRead {
     Is(Suffixed),
     Not,
 }
 
-#[derive(Drop)]
+#[derive(Clone, Copy)]
 pub struct SuffixStep {
     pub suffix: SuffixRead,
     pub counters: Counters,

@@ -2,7 +2,7 @@
 ghost use Rattle.std.specs.Prelude.{◌≡◌, ◌/◌};
 ghost use Rattle.operand.specs.Layouts.{token_size, node_size, diagnostic_size, operand_size, longest_line, most_tokens, node_store, free_records};
 
-#[derive(Drop)]
+#[derive(Clone, Copy)]
 pub enum Layout {
     Narrow,
     Wide,

@@ -1,4 +1,6 @@
 // Operands: the definition of a reading in specs/, and the types that the code and it share.
+#![tactic(auto)]
+
 pub mod form_numbers;
 mod forms;
 pub mod layouts;

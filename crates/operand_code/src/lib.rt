@@ -1,4 +1,5 @@
 // The reader of one operand: every addressing mode. Its parts, in reading order:
+#![tactic(auto)]
 
 // what the forms share
 mod expressed;

@@ -26,7 +26,7 @@ use records::shapes::NO_SHAPE;
 use records::{Counters, Span, diagnostic, put_node, span_of};
 
 // A register (kind 7) or a range (kind 8), as its node has it.
-#[derive(Drop)]
+#[derive(Clone, Copy)]
 pub struct Item {
     pub kind: u16,
     pub from: Register,
@@ -34,33 +34,33 @@ pub struct Item {
     pub span: Span,
 }
 
-#[derive(Drop)]
+#[derive(Clone, Copy)]
 pub enum ItemRead {
     Is(Item),
     Not,
 }
 
-#[derive(Drop)]
+#[derive(Clone, Copy)]
 pub struct ItemStep {
     pub item: ItemRead,
     pub counters: Counters,
 }
 
 // A register that stands at the cursor.
-#[derive(Drop)]
+#[derive(Clone, Copy)]
 pub enum RegisterRead {
     Is(Register),
     Not,
 }
 
-#[derive(Drop)]
+#[derive(Clone, Copy)]
 pub struct RegisterStep {
     pub register: RegisterRead,
     pub counters: Counters,
 }
 
 // Where a list ends: the counters, with the cursor and the end of its last token, and the mask of its items.
-#[derive(Drop)]
+#[derive(Clone, Copy)]
 pub struct ListEnd {
     pub counters: Counters,
     pub mask: u16,

@@ -15,19 +15,19 @@ use operand::{BaseRegister, DisplacementRead, Index, Registers, RegistersRead, S
 use records::{Counters, shapes};
 
 // What stands between the brackets.
-#[derive(Drop)]
+#[derive(Clone, Copy)]
 pub struct InnerPart {
     pub displacement: SizedDisplacement,
     pub registers: Registers,
 }
 
-#[derive(Drop)]
+#[derive(Clone, Copy)]
 pub enum InnerRead {
     Is(InnerPart),
     Not,
 }
 
-#[derive(Drop)]
+#[derive(Clone, Copy)]
 pub struct InnerStep {
     pub inner: InnerRead,
     pub counters: Counters,

@@ -17,20 +17,20 @@ use records::problems::INDEX_TWICE;
 use records::{Counters, shapes};
 
 // What stands behind them. Indirection: 1 preindexed, 2 postindexed.
-#[derive(Drop)]
+#[derive(Clone, Copy)]
 pub struct OuterPart {
     pub index: Index,
     pub indirection: u8,
     pub displacement: SizedDisplacement,
 }
 
-#[derive(Drop)]
+#[derive(Clone, Copy)]
 pub enum OuterRead {
     Is(OuterPart),
     Not,
 }
 
-#[derive(Drop)]
+#[derive(Clone, Copy)]
 pub struct OuterStep {
     pub outer: OuterRead,
     pub counters: Counters,

@@ -13,7 +13,7 @@ use operand::{OperandRead, OperandStep};
 use records::{Counters, MOST_TOKENS, clear_behind};
 
 // What is read, or unfit where the counts leave no room for a reading.
-#[derive(Drop)]
+#[derive(Clone, Copy)]
 pub enum OperandAnswer {
     Is(OperandStep),
     Unfit,

@@ -1,4 +1,6 @@
 // Frames on standard input, answers on standard output, a line for each line.
+#![tactic(auto)]
+
 ghost use Rattle.std.specs.Prelude.{◌≤◌, length};
 ghost use Rattle.libc.specs.Io.{Moved};
 ghost use Rattle.operands.specs.Passing.{PartTold, LastTold, ReadTold};
@@ -7,7 +9,7 @@ use frames::{batch, finish};
 use libc::{STDIN_FILENO, STDOUT_FILENO};
 
 // How much of the unfinished line is held, and whether to go on.
-#[derive(Drop)]
+#[derive(Clone, Copy)]
 struct Passed {
     held: usize,
     more: bool,

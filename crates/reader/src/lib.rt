@@ -1,11 +1,13 @@
 // A thin reader: the lent line, its tokens and a place among them. The borrow checker covers no function over a struct that holds
 // references, so each of those is proved by hand and leaves the work to a covered function of plain parameters.
+#![tactic(auto)]
+
 ghost use Rattle.std.specs.Prelude.{◌≡◌};
 ghost use Rattle.reader.specs.Cursor.{text_at, place_in, next_place};
 
 use names::{Peeked, lent_token_at, text_of};
 
-#[derive(Drop)]
+#[derive(Clone, Copy)]
 pub struct Reader<'a, 'b> {
     pub line: &'a [u8],
     pub tokens: &'b [u8],

@@ -2,7 +2,7 @@
 use crate::spans::Span;
 
 // A diagnostic, as its ten numbers have it.
-#[derive(Drop)]
+#[derive(Clone, Copy)]
 pub struct Diagnostic {
     pub kind: u16,
     pub shape: u16,

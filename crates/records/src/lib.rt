@@ -1,4 +1,6 @@
 // Records of numbers in stores: spans, counters, diagnostics and nodes.
+#![tactic(auto)]
+
 mod counters;
 pub mod diagnostic_kinds;
 mod diagnostics;

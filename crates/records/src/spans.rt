@@ -5,7 +5,7 @@ ghost use Rattle.records.specs.Spans.{span_of};
 use names::Token;
 
 // Byte offsets in the line, the end excluded.
-#[derive(Drop)]
+#[derive(Clone, Copy)]
 pub struct Span {
     pub start: u16,
     pub end: u16,

@@ -1,0 +1,25 @@
+-- `names::numbers::NumberBase::of_detail` meets its contract.
+-- Assumes nothing.
+use borrow.Author.Tests.{ne_eqb}
+use Rattle.names.specs.Numbers.{base_of}
+use Rattle.names.proofs.numbers.NumberBase.of_detail.Goals as goal
+
+pub returns-in-0 : goal.returns-in-0
+unfolding base_of
+returns-in-0 c =
+    rw c.in-0.is
+
+pub returns-in-1 : goal.returns-in-1
+unfolding base_of
+returns-in-1 c =
+    rw c.in-1.is
+
+pub returns-in-2 : goal.returns-in-2
+unfolding base_of
+returns-in-2 c =
+    rw c.in-2.is
+
+pub returns-in_default : goal.returns-in_default
+unfolding base_of
+returns-in_default c =
+    simp (ne_eqb _ 0 c.in_default.in_default-own.rest.0.0.1, ne_eqb _ 1 c.in_default.in_default-own.rest.0.1, ne_eqb _ 2 c.in_default.in_default-own.rest.1)
