@@ -34,7 +34,7 @@ pub fn place_in(tokens: &[u8], place: usize) -> usize
 }
 
 // The place behind the token at a place, the same place where none stands.
-pub fn next_place_lem(tokens: &[u8], place: usize) -> usize
+pub fn next_place(tokens: &[u8], place: usize) -> usize
     ensures { result ≡ next_place tokens.now place }
 {
     match lent_token_at(tokens, place) {
@@ -66,7 +66,7 @@ pub fn text<'a, 'b>(r: Reader<'a, 'b>) -> &'a [u8]
 pub fn advance<'a, 'b>(r: Reader<'a, 'b>) -> Reader<'a, 'b>
     ensures { (result.line ≡ r.entry.line) × (result.tokens ≡ r.entry.tokens) × (result.place ≡ next_place r.entry.tokens.now r.entry.place) }
 {
-    let place = next_place_lem(r.tokens, r.place);
+    let place = next_place(r.tokens, r.place);
     Reader {
         line: r.line,
         tokens: r.tokens,

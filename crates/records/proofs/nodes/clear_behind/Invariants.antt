@@ -1,0 +1,13 @@
+-- `records::nodes::clear_behind` meets its contract. The loop's invariant: what stands from the n-th record up to i is 0, and the rest is as it was.
+-- Assumes nothing.
+use mathlib.Core.Path.{◌≡◌}
+use Prim.Native.Nat.{◌≤◌, ◌-◌, ◌*◌}
+use lib.ListN.{length}
+use Rattle.records.specs.Stores.{cleared}
+use Rattle.records.proofs.nodes.clear_behind.Given as goal
+
+abbrev pub invariant-loop-i : goal.invariant-loop-i
+invariant-loop-i l = (l.nodes ≡ cleared l.initial.nodes (10 * l.n) l.i) × (10 * l.n ≤ l.i) × (l.i ≤ length l.initial.nodes) × (length l.nodes ≡ length l.initial.nodes)
+
+abbrev pub decreases-loop-i : goal.decreases-loop-i
+decreases-loop-i l = length l.nodes - l.i
