@@ -68,11 +68,11 @@ module _ {P : Diagnostic → Type 0} where
       → ((k : Token) (x : List ℕ) → at i ≡ stands k x → t k x ≡ true → Alike P at (i + 1) k.end (y k x) (y' k x)) → Alike P at i l (n tt) (n' tt)
       → Alike P at i l (bump t y n) (bump u y' n')
   unfolding run
-  bump_same {A} {at = at} {i = i} {l = l} {t = t} {u = u} {y' = y'} {n' = n'} e f g = record {
+  bump_same {A} {at = at} {i = i} {l = l} {t = t} {u = u} {y = y} {y' = y'} {n = n} {n' = n'} e f g = record {
     same =
-        met_one (λ (s : Reading A). Every P s.raised → s ≡ run (bump u y' n') at i l) t _ _ (at i)
-        (λ k x h q c. (f k x h q).same c ∙ sym (met_yes u _ _ (at i) k x h (sym (e k x h) ∙ q)))
-        (λ q c. g.same c ∙ sym (met_no u _ _ (at i) (sym (holds_same t u (at i) e) ∙ q)));
+        met_one (λ (s : Reading A). Every P s.raised → s ≡ run (bump u y' n') at i l) t (λ k x. run (y k x) at (i + 1) k.end) (λ u. run (n u) at i l) (at i)
+        (λ k x h q c. (f k x h q).same c ∙ sym (met_yes u (λ k x. run (y' k x) at (i + 1) k.end) (λ v. run (n' v) at i l) (at i) k x h (sym (e k x h) ∙ q)))
+        (λ q c. g.same c ∙ sym (met_no u (λ k x. run (y' k x) at (i + 1) k.end) (λ v. run (n' v) at i l) (at i) (sym (holds_same t u (at i) e) ∙ q)));
   }
 
   pub peek_same : {A : Type 0} {at : ℕ → Place} {i l : ℕ} (a : ℕ) {t u : Test} {y y' : Token → List ℕ → Reader A} {n n' : Unit {0} → Reader A}
@@ -80,11 +80,11 @@ module _ {P : Diagnostic → Type 0} where
       → ((k : Token) (x : List ℕ) → Alike P at i l (y k x) (y' k x)) → Alike P at i l (n tt) (n' tt)
       → Alike P at i l (peek a t y n) (peek a u y' n')
   unfolding run
-  peek_same {A} {at = at} {i = i} {l = l} a {t = t} {u = u} {y' = y'} {n' = n'} e f g = record {
+  peek_same {A} {at = at} {i = i} {l = l} a {t = t} {u = u} {y = y} {y' = y'} {n = n} {n' = n'} e f g = record {
     same =
-        met_one (λ (s : Reading A). Every P s.raised → s ≡ run (peek a u y' n') at i l) t _ _ (at (i + a))
-        (λ k x h q c. (f k x).same c ∙ sym (met_yes u _ _ (at (i + a)) k x h (sym (e k x h) ∙ q)))
-        (λ q c. g.same c ∙ sym (met_no u _ _ (at (i + a)) (sym (holds_same t u (at (i + a)) e) ∙ q)));
+        met_one (λ (s : Reading A). Every P s.raised → s ≡ run (peek a u y' n') at i l) t (λ k x. run (y k x) at i l) (λ u. run (n u) at i l) (at (i + a))
+        (λ k x h q c. (f k x).same c ∙ sym (met_yes u (λ k x. run (y' k x) at i l) (λ v. run (n' v) at i l) (at (i + a)) k x h (sym (e k x h) ∙ q)))
+        (λ q c. g.same c ∙ sym (met_no u (λ k x. run (y' k x) at i l) (λ v. run (n' v) at i l) (at (i + a)) (sym (holds_same t u (at (i + a)) e) ∙ q)));
   }
 
   -- the same test

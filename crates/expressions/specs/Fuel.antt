@@ -15,8 +15,8 @@ use Rattle.expressions.specs.Alike.{Alike, Any, alike_run, flip, same_alike, bin
 pub bump_past : {A : Type 0} {at : ℕ → Place} {i l : ℕ} {t : Test} {y : Token → List ℕ → Reader A} {n : Unit {0} → Reader A}
     → ((k : Token) (x : List ℕ) → at i ≡ stands k x → ⊥) → Alike Any at i l (bump t y n) (n tt)
 unfolding run
-bump_past {A} {at = at} {i = i} {l = l} {t = t} {n = n} h = record {
-  same = λ c. met_one (λ (s : Reading A). s ≡ run (n tt) at i l) t _ _ (at i) (λ k x e q. absurd (h k x e)) (λ q. refl);
+bump_past {A} {at = at} {i = i} {l = l} {t = t} {y = y} {n = n} h = record {
+  same = λ c. met_one (λ (s : Reading A). s ≡ run (n tt) at i l) t (λ k x. run (y k x) at (i + 1) k.end) (λ u. run (n u) at i l) (at i) (λ k x e q. absurd (h k x e)) (λ q. refl);
 }
 
 -- ---- the climb

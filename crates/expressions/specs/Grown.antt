@@ -7,7 +7,7 @@ use Rattle.names.specs.declared.tokens.Token.{Token}
 use Rattle.records.specs.declared.spans.Span.{Span}
 use Rattle.records.specs.Spans.{span}
 use Rattle.expressions.specs.Trees.{Expr, binary, span_e, size}
-use Rattle.expressions.specs.Reader.{Reading, Reader, run}
+use Rattle.expressions.specs.Reader.{Reading, Reader, answer, run, ◌>>=◌}
 use Rattle.expressions.specs.Expressions.{Term, read, reported, absent, precedence, binary_operator, operator, operated, parse_expression_from}
 use Rattle.expressions.specs.Records.{nodes, length_nodes}
 use Rattle.expressions.specs.Laws.{met_one}
@@ -51,6 +51,6 @@ pub climb_grows : (b g : ℕ) (p : Reader Term) (min : ℕ) (e : Expr) (at : ℕ
 unfolding run parse_expression_from
 climb_grows b zero p min e at i l = grown_self
 climb_grows b (suc g) p min e at i l =
-    met_one (λ (s : Reading Expr). Grown b e s.value) (operator min) _ _ (at i)
+    met_one (λ (s : Reading Expr). Grown b e s.value) (operator min) (λ k x. run (p >>= operated (parse_expression_from g p) min e k) at (i + 1) k.end) (λ u. run (answer e) at i l) (at i)
     (λ k x h q. let s = run p at (i + 1) k.end in grown_turn b (parse_expression_from g p) min e k at s.cursor s.end s.value (λ v j m. climb_grows b g p min v at j m))
     (λ q. grown_self)

@@ -55,10 +55,10 @@ forward (bind p f) at i l =
 forward (here f) at i l = forward (f i l) at i l
 forward (raise d p) at i l = forward p at i l
 forward {A} (bump t y n) at i l =
-    met_one (λ (s : Reading A). i ≤ s.cursor) t _ _ (at i)
+    met_one (λ (s : Reading A). i ≤ s.cursor) t (λ k x. run (y k x) at (i + 1) k.end) (λ u. run (n u) at i l) (at i)
     (λ k x h q. omega (arith, forward (y k x) at (i + 1) k.end)) (λ q. forward (n tt) at i l)
 forward {A} (peek a t y n) at i l =
-    met_one (λ (s : Reading A). i ≤ s.cursor) t _ _ (at (i + a))
+    met_one (λ (s : Reading A). i ≤ s.cursor) t (λ k x. run (y k x) at i l) (λ u. run (n u) at i l) (at (i + a))
     (λ k x h q. forward (y k x) at i l) (λ q. forward (n tt) at i l)
 
 -- and stays within the tokens
@@ -70,10 +70,10 @@ within (bind p f) at count i l ends h = let s = run p at i l in within (f s.valu
 within (here f) at count i l ends h = within (f i l) at count i l ends h
 within (raise d p) at count i l ends h = within p at count i l ends h
 within {A} (bump t y n) at count i l ends h =
-    met_one (λ (s : Reading A). s.cursor ≤ count) t _ _ (at i)
+    met_one (λ (s : Reading A). s.cursor ≤ count) t (λ k x. run (y k x) at (i + 1) k.end) (λ u. run (n u) at i l) (at i)
     (λ k x h' q. within (y k x) at count (i + 1) k.end ends (omega (arith, ends i k x h'))) (λ q. within (n tt) at count i l ends h)
 within {A} (peek a t y n) at count i l ends h =
-    met_one (λ (s : Reading A). s.cursor ≤ count) t _ _ (at (i + a))
+    met_one (λ (s : Reading A). s.cursor ≤ count) t (λ k x. run (y k x) at i l) (λ u. run (n u) at i l) (at (i + a))
     (λ k x h' q. within (y k x) at count i l ends h) (λ q. within (n tt) at count i l ends h)
 
 -- ---- locality: a reading depends on the places from the start through the cursor and through what was peeked at
@@ -84,9 +84,9 @@ reach_up (answer a) at i l r = omega arith
 reach_up (bind p f) at i l r = let s = run p at i l in omega (arith, reach_up p at i l r, reach_up (f s.value) at s.cursor s.end (reach p at i l r))
 reach_up (here f) at i l r = reach_up (f i l) at i l r
 reach_up (raise d p) at i l r = reach_up p at i l r
-reach_up (bump t y n) at i l r = met_one (λ s. r ≤ s) t _ _ (at i) (λ k x h q. reach_up (y k x) at (i + 1) k.end r) (λ q. reach_up (n tt) at i l r)
+reach_up (bump t y n) at i l r = met_one (λ s. r ≤ s) t (λ k x. reach (y k x) at (i + 1) k.end r) (λ u. reach (n u) at i l r) (at i) (λ k x h q. reach_up (y k x) at (i + 1) k.end r) (λ q. reach_up (n tt) at i l r)
 reach_up (peek a t y n) at i l r =
-    met_one (λ s. r ≤ s) t _ _ (at (i + a))
+    met_one (λ s. r ≤ s) t (λ k x. reach (y k x) at i l (max r (i + a))) (λ u. reach (n u) at i l (max r (i + a))) (at (i + a))
     (λ k x h q. omega (arith, reach_up (y k x) at i l (max r (i + a)))) (λ q. omega (arith, reach_up (n tt) at i l (max r (i + a))))
 
 pub local : {A : Type 0} (p : Reader A) (at at' : ℕ → Place) (i l r : ℕ)
@@ -105,21 +105,21 @@ local {A} (bind p f) at at' i l r h =
 local (here f) at at' i l r h = local (f i l) at at' i l r h
 local {A} (raise d p) at at' i l r h = ap (λ (q : Reading A). after (d ∷ []) q) (local p at at' i l r h)
 local {A} (bump t y n) at at' i l r h =
-    (met_all (λ (s : Reading A) (m : ℕ). ((j : ℕ) → i ≤ j → j ≤ max s.cursor m → at j ≡ at' j) → s ≡ run (bump t y n) at' i l) t _ _ _ _ (at i)
+    (met_all (λ (s : Reading A) (m : ℕ). ((j : ℕ) → i ≤ j → j ≤ max s.cursor m → at j ≡ at' j) → s ≡ run (bump t y n) at' i l) t (λ k x. run (y k x) at (i + 1) k.end) (λ u. run (n u) at i l) (λ k x. reach (y k x) at (i + 1) k.end r) (λ u. reach (n u) at i l r) (at i)
     (λ k x e q g.
     let a = forward (y k x) at (i + 1) k.end in
-    local (y k x) at at' (i + 1) k.end r (λ j b c. g j (omega arith) c) ∙ sym (met_yes t _ _ (at' i) k x (sym (g i (omega arith) (omega arith)) ∙ e) q))
+    local (y k x) at at' (i + 1) k.end r (λ j b c. g j (omega arith) c) ∙ sym (met_yes t (λ k x. run (y k x) at' (i + 1) k.end) (λ u. run (n u) at' i l) (at' i) k x (sym (g i (omega arith) (omega arith)) ∙ e) q))
     (λ q g.
     let a = forward (n tt) at i l in
-    local (n tt) at at' i l r g ∙ sym (met_no t _ _ (at' i) (rw (g i (omega arith) (omega arith)) at q)))) h
+    local (n tt) at at' i l r g ∙ sym (met_no t (λ k x. run (y k x) at' (i + 1) k.end) (λ u. run (n u) at' i l) (at' i) (rw (g i (omega arith) (omega arith)) at q)))) h
 local {A} (peek a t y n) at at' i l r h =
-    (met_all (λ (s : Reading A) (m : ℕ). ((j : ℕ) → i ≤ j → j ≤ max s.cursor m → at j ≡ at' j) → s ≡ run (peek a t y n) at' i l) t _ _ _ _ (at (i + a))
+    (met_all (λ (s : Reading A) (m : ℕ). ((j : ℕ) → i ≤ j → j ≤ max s.cursor m → at j ≡ at' j) → s ≡ run (peek a t y n) at' i l) t (λ k x. run (y k x) at i l) (λ u. run (n u) at i l) (λ k x. reach (y k x) at i l (max r (i + a))) (λ u. reach (n u) at i l (max r (i + a))) (at (i + a))
     (λ k x e q g.
     let b = reach_up (y k x) at i l (max r (i + a)) in
-    local (y k x) at at' i l (max r (i + a)) g ∙ sym (met_yes t _ _ (at' (i + a)) k x (sym (g (i + a) (omega arith) (omega arith)) ∙ e) q))
+    local (y k x) at at' i l (max r (i + a)) g ∙ sym (met_yes t (λ k x. run (y k x) at' i l) (λ u. run (n u) at' i l) (at' (i + a)) k x (sym (g (i + a) (omega arith) (omega arith)) ∙ e) q))
     (λ q g.
     let b = reach_up (n tt) at i l (max r (i + a)) in
-    local (n tt) at at' i l (max r (i + a)) g ∙ sym (met_no t _ _ (at' (i + a)) (rw (g (i + a) (omega arith) (omega arith)) at q)))) h
+    local (n tt) at at' i l (max r (i + a)) g ∙ sym (met_no t (λ k x. run (y k x) at' i l) (λ u. run (n u) at' i l) (at' (i + a)) (rw (g (i + a) (omega arith) (omega arith)) at q)))) h
 
 -- ---- a diagnostic of kind 13 has its plus before the cursor
 
@@ -139,14 +139,14 @@ If false T = Unit {0}
 
 -- what a diagnostic that is raised with the cursor at j has to meet
 abbrev pub Fine : (ℕ → Place) → Diagnostic → ℕ → Type 0
-Fine at d j = If (eqb d.kind DiagnosticKinds.plus_is_not_aUnary_operator) (PlusBefore at d.span j)
+Fine at d j = If (eqb d.kind DiagnosticKinds.plus_is_not_a_unary_operator) (PlusBefore at d.span j)
 
 if_map : {S T : Type 0} (b : Bool) → (S → T) → If b S → If b T
 if_map true f h = f h
 if_map false f h = tt
 
 fine_on : (at : ℕ → Place) (d : Diagnostic) {i j : ℕ} → i ≤ j → Fine at d i → Fine at d j
-fine_on at d h = if_map (eqb d.kind DiagnosticKinds.plus_is_not_aUnary_operator) λ p. record { place = p.place; before = omega arith; token = p.token; text = p.text; found = p.found; plus = p.plus; spans = p.spans }
+fine_on at d h = if_map (eqb d.kind DiagnosticKinds.plus_is_not_a_unary_operator) λ p. record { place = p.place; before = omega arith; token = p.token; text = p.text; found = p.found; plus = p.plus; spans = p.spans }
 
 abbrev pub Every : (Diagnostic → Type 0) → List Diagnostic → Type 0
 Every P [] = Unit {0}
@@ -184,11 +184,11 @@ all_run (bind p f) at Q i l d r h =
 all_run (here f) at Q i l d r h = all_run (f i l) at Q i l d r h
 all_run (raise x p) at Q i l d r h = rw (add-suc, ← suc-add) (all_run p at Q i l (suc d) r h.1)
 all_run {A} (bump t y n) at Q i l d r h =
-    met_all (λ (s : Reading A) (m : ℕ). Q s.cursor (d + length s.raised) m s.value) t _ _ _ _ (at i)
+    met_all (λ (s : Reading A) (m : ℕ). Q s.cursor (d + length s.raised) m s.value) t (λ k x. run (y k x) at (i + 1) k.end) (λ u. run (n u) at i l) (λ k x. reach (y k x) at (i + 1) k.end r) (λ u. reach (n u) at i l r) (at i)
     (λ k x e q. all_run (y k x) at Q (i + 1) k.end d r (h.0 k x e q))
     (λ q. all_run (n tt) at Q i l d r (h.1 q))
 all_run {A} (peek a t y n) at Q i l d r h =
-    met_all (λ (s : Reading A) (m : ℕ). Q s.cursor (d + length s.raised) m s.value) t _ _ _ _ (at (i + a))
+    met_all (λ (s : Reading A) (m : ℕ). Q s.cursor (d + length s.raised) m s.value) t (λ k x. run (y k x) at i l) (λ u. run (n u) at i l) (λ k x. reach (y k x) at i l (max r (i + a))) (λ u. reach (n u) at i l (max r (i + a))) (at (i + a))
     (λ k x e q. all_run (y k x) at Q i l d _ (h.0 k x e q))
     (λ q. all_run (n tt) at Q i l d _ (h.1 q))
 
@@ -206,11 +206,11 @@ all_fine (bind p f) at Q i l d r h =
 all_fine (here f) at Q i l d r h = all_fine (f i l) at Q i l d r h
 all_fine (raise x p) at Q i l d r h = (fine_on at x (forward p at i l) h.0, all_fine p at Q i l (suc d) r h.1)
 all_fine {A} (bump t y n) at Q i l d r h =
-    met_one (λ (s : Reading A). Every (λ x. Fine at x s.cursor) s.raised) t _ _ (at i)
+    met_one (λ (s : Reading A). Every (λ x. Fine at x s.cursor) s.raised) t (λ k x. run (y k x) at (i + 1) k.end) (λ u. run (n u) at i l) (at i)
     (λ k x e q. all_fine (y k x) at Q (i + 1) k.end d r (h.0 k x e q))
     (λ q. all_fine (n tt) at Q i l d r (h.1 q))
 all_fine {A} (peek a t y n) at Q i l d r h =
-    met_one (λ (s : Reading A). Every (λ x. Fine at x s.cursor) s.raised) t _ _ (at (i + a))
+    met_one (λ (s : Reading A). Every (λ x. Fine at x s.cursor) s.raised) t (λ k x. run (y k x) at i l) (λ u. run (n u) at i l) (at (i + a))
     (λ k x e q. all_fine (y k x) at Q i l d _ (h.0 k x e q))
     (λ q. all_fine (n tt) at Q i l d _ (h.1 q))
 

@@ -7,7 +7,9 @@ use Rattle.names.specs.Places.{Place}
 use Rattle.records.specs.DiagnosticKinds
 use Rattle.records.specs.declared.diagnostics.Diagnostic.{Diagnostic}
 use Rattle.expressions.specs.Trees.{Expr}
-use Rattle.expressions.specs.Reader.{any, Reading, Reader, run}
+use Rattle.records.specs.Diagnostics.{nesting_too_deep}
+use Rattle.records.specs.Spans.{empty, span_of}
+use Rattle.expressions.specs.Reader.{any, Reading, Reader, answer, raise, run}
 use Rattle.expressions.specs.Expressions.{Term, read, reported, absent, operated, parse_expression_from, climbed, parse_expression_of, parse_prefix_term, too_deep, parse_prefix, fuel, parse_expression, expression_from}
 use Rattle.expressions.specs.Laws.{met_one, Every}
 use Rattle.expressions.specs.Alike.{Alike, same_alike, bind_alike, bump_alike}
@@ -49,7 +51,7 @@ module _ (P : Diagnostic → Type 0) (at : ℕ → Place) (p q : Reader Term) (h
 -- where no term may be opened, NestingTooDeep is raised
 too_deep_lem : (at : ℕ → Place) (i l : ℕ) → Every NotTooDeep (run too_deep at i l).raised → ⊥
 unfolding run too_deep
-too_deep_lem at i l = met_one (λ (s : Reading Term). Every NotTooDeep s.raised → ⊥) any _ _ (at (i + 0)) (λ k x h q c. c.0 refl) (λ q c. c.0 refl)
+too_deep_lem at i l = met_one (λ (s : Reading Term). Every NotTooDeep s.raised → ⊥) any (λ k x. run (raise (nesting_too_deep (span_of k)) (answer reported)) at i l) (λ u. run (raise (nesting_too_deep (empty l)) (answer reported)) at i l) (at (i + 0)) (λ k x h q c. c.0 refl) (λ q c. c.0 refl)
 
 module _ (at : ℕ → Place) where
   prefix_higher : (f m n : ℕ) → m ≤ n → (i l : ℕ) → Alike NotTooDeep at i l (parse_prefix f m) (parse_prefix f n)

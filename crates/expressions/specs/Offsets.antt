@@ -76,18 +76,18 @@ module _ {A : Type 0} {m : ℕ} {P : A → Type 0} where
   pub steps : {t : Test} {y : Token → List ℕ → Reader A} {n : Unit {0} → Reader A}
       → ((k : Token) (x : List ℕ) → SpanIn m (span_of k) → Fits m P (y k x)) → Fits m P (n tt) → Fits m P (bump t y n)
   unfolding run
-  steps {t = t} h g = record {
+  steps {t = t} {y = y} {n = n} h g = record {
     all = λ at w i l b.
-        met_one (Left m P) t _ _ (at i)
+        met_one (Left m P) t (λ k x. run (y k x) at (i + 1) k.end) (λ u. run (n u) at i l) (at i)
         (λ k x e q. let z = w.tokens i k x e in (h k x z).all at w (i + 1) k.end z.1) (λ q. g.all at w i l b);
   }
 
   pub sees : {a : ℕ} {t : Test} {y : Token → List ℕ → Reader A} {n : Unit {0} → Reader A}
       → ((k : Token) (x : List ℕ) → SpanIn m (span_of k) → Fits m P (y k x)) → Fits m P (n tt) → Fits m P (peek a t y n)
   unfolding run
-  sees {a = a} {t = t} h g = record {
+  sees {a = a} {t = t} {y = y} {n = n} h g = record {
     all = λ at w i l b.
-        met_one (Left m P) t _ _ (at (i + a)) (λ k x e q. (h k x (w.tokens (i + a) k x e)).all at w i l b) (λ q. g.all at w i l b);
+        met_one (Left m P) t (λ k x. run (y k x) at i l) (λ u. run (n u) at i l) (at (i + a)) (λ k x e q. (h k x (w.tokens (i + a) k x e)).all at w i l b) (λ q. g.all at w i l b);
   }
 
   pub chooses : (b : Bool) {p q : Reader A} → Fits m P p → Fits m P q → Fits m P (choose b p q)

@@ -139,12 +139,12 @@ module _ {A E : Type 0} {f : A → E} {Q : A → Counters → Type 0} {L T D D' 
   unfolding run
   hit {k} {c₁} h q e g =
       let x = text_of L k.start k.end in
-      retold (met_yes t _ _ (place L T c.at) k x (there L T c.at k h) q ∙ ap (λ z. run (y k x) (place L T) z.at z.end) (sym e)) (ap (λ z. z.diagnostics) e) g
+      retold (met_yes t (λ k x. run (y k x) (place L T) (c.at + 1) k.end) (λ u. run (n u) (place L T) c.at c.end) (place L T c.at) k x (there L T c.at k h) q ∙ ap (λ z. run (y k x) (place L T) z.at z.end) (sym e)) (ap (λ z. z.diagnostics) e) g
 
   -- none passes
   pub missed : holds t (place L T c.at) ≡ false → Told f Q (n tt) L T D D' c v r → Told f Q (bump t y n) L T D D' c v r
   unfolding run
-  missed h g = retold (met_no t _ _ (place L T c.at) h) refl g
+  missed h g = retold (met_no t (λ k x. run (y k x) (place L T) (c.at + 1) k.end) (λ u. run (n u) (place L T) c.at c.end) (place L T c.at) h) refl g
 
   pub miss : {k : Token} → token_at T c.at ≡ peeked.Is k → t k (text_of L k.start k.end) ≡ false → Told f Q (n tt) L T D D' c v r → Told f Q (bump t y n) L T D D' c v r
   miss {k} h q g = missed (fails t (place L T c.at) k _ (there L T c.at k h) q) g
@@ -156,11 +156,11 @@ module _ {A E : Type 0} {f : A → E} {Q : A → Counters → Type 0} {L T D D' 
   pub seen : {a j : ℕ} {k : Token} → j ≡ c.at + a → token_at T j ≡ peeked.Is k → t k (text_of L k.start k.end) ≡ true
       → Told f Q (y k (text_of L k.start k.end)) L T D D' c v r → Told f Q (peek a t y n) L T D D' c v r
   unfolding run
-  seen {a} {j} {k} e h q g = retold (met_yes t _ _ (place L T (c.at + a)) k _ (there L T (c.at + a) k (subst (λ z. token_at T z ≡ peeked.Is k) e h)) q) refl g
+  seen {a} {j} {k} e h q g = retold (met_yes t (λ k x. run (y k x) (place L T) c.at c.end) (λ u. run (n u) (place L T) c.at c.end) (place L T (c.at + a)) k _ (there L T (c.at + a) k (subst (λ z. token_at T z ≡ peeked.Is k) e h)) q) refl g
 
   pub unseen : {a : ℕ} → holds t (place L T (c.at + a)) ≡ false → Told f Q (n tt) L T D D' c v r → Told f Q (peek a t y n) L T D D' c v r
   unfolding run
-  unseen {a} h g = retold (met_no t _ _ (place L T (c.at + a)) h) refl g
+  unseen {a} h g = retold (met_no t (λ k x. run (y k x) (place L T) c.at c.end) (λ u. run (n u) (place L T) c.at c.end) (place L T (c.at + a)) h) refl g
 
   pub other : {a j : ℕ} {k : Token} → j ≡ c.at + a → token_at T j ≡ peeked.Is k → t k (text_of L k.start k.end) ≡ false
       → Told f Q (n tt) L T D D' c v r → Told f Q (peek a t y n) L T D D' c v r
@@ -176,7 +176,7 @@ module _ {A E : Type 0} {f : A → E} {Q : A → Counters → Type 0} {L T D D' 
     where
       go : (p : Place) → place L T (c.at + a) ≡ p → holds t p ≡ true → Told f Q (peek a t y n) L T D D' c v r
       go nothing e q = let z : ◌≡◌ {A = ℕ} 0 1 = cc in absurd (omega arith)
-      go (stands k x) e q = retold (met_yes t _ _ (place L T (c.at + a)) k x e q) refl (g k x)
+      go (stands k x) e q = retold (met_yes t (λ k x. run (y k x) (place L T) c.at c.end) (λ u. run (n u) (place L T) c.at c.end) (place L T (c.at + a)) k x e q) refl (g k x)
 
   -- either way
   pub whether : {a : ℕ} → ((k : Token) (x : List ℕ) → Told f Q (y k x) L T D D' c v r) → Told f Q (n tt) L T D D' c v r → Told f Q (peek a t y n) L T D D' c v r

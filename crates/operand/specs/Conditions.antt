@@ -214,7 +214,7 @@ record_at w D i = take (diagnostic_size w) (drop (diagnostic_size w * i) D)
 unfoldable pub plus_at : Layout → Place → List ℕ → Bool
 plus_at w nothing x = false
 plus_at w (stands t y) x =
-    both (eqb (get_or x 0 0) DiagnosticKinds.plus_is_not_aUnary_operator) (both (eqb (number_at w x 3) t.start) (eqb (number_at w x (3 + width w)) t.end))
+    both (eqb (get_or x 0 0) DiagnosticKinds.plus_is_not_a_unary_operator) (both (eqb (number_at w x 3) t.start) (eqb (number_at w x (3 + width w)) t.end))
 
 -- the same record; or, where one is such a plus, the same in all but the kind, which is its first byte
 pub data SameButPlus (w : Layout) (p : Place) (x y : List ℕ) : Type 0 where

@@ -39,11 +39,11 @@ unfoldable pub use Immediates.{immediate_size, sized_immediate, parse_immediate}
 unfoldable pub use Lists.{register_expected, ranged, list_item, listed, next_item, list_loop, parse_register_list}
 unfoldable pub use Indexes.{scale_of, with_scale, scaled, scale_value, index_scale, index_size, index_register, parse_index_register}
 unfoldable pub use Bases.{base_shape, indexed_operand, close_index, base_and_index, closed_base, after_base, closed_counter, after_counter, parse_base_and_index}
-unfoldable pub use Full.{registers, with_index, comma_and_index, after_base_register, size_or_scale, no_base, parse_base_and_index_registers, closes, starts_aFull_index, parse_full_index}
+unfoldable pub use Full.{registers, with_index, comma_and_index, after_base_register, size_or_scale, no_base, parse_base_and_index_registers, closes, starts_a_full_index, parse_full_index}
 pub use Memory.{Inner, Outer}
 unfoldable pub use Memory.{sized, parse_sized_displacement, inner, no_registers, with_registers, inner_displaced, inner_displacement, parse_inner, outer, outer_displacement, outer_indexed, outer_index, parse_outer, close_indirect, after_inner, parse_memory_indirect}
 unfoldable pub use Absolutes.{absolute_size, finish_expression_operand, displacement_tail, displaced_or_absolute, no_expression, parse_expression_operand}
-unfoldable pub use Parentheses.{grouped_expression, grouped_operand, sized_base, unexpected, after_comma, size_and_base, after_expression, parenthesised, starts_aBase, unbracketed, parse_parenthesised_operand}
+unfoldable pub use Parentheses.{grouped_expression, grouped_operand, sized_base, unexpected, after_comma, size_and_base, after_expression, parenthesised, starts_a_base, unbracketed, parse_parenthesised_operand}
 
 -- ---- parse_predecrement
 

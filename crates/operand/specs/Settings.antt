@@ -153,10 +153,10 @@ module _ (P : Diagnostic → Type 0) (at : ℕ → Place) (limit limit' start m 
       (bump_alike (λ k x e q. after_base_register_lem shape _ _ _)
       (bump_same (λ k x h. unmarked_same i _ k x h) (λ k x h q. after_base_register_lem shape _ _ _) (no_base_lem shape i l))))))
 
-  starts_a_full_index : {A : Type 0} (i l : ℕ) (f g f' g' : Unit {0} → Reader A) → Alike P at i l (f tt) (f' tt) → Alike P at i l (g tt) (g' tt)
-      → Alike P at i l (Operand.starts_aFull_index s f g) (Operand.starts_aFull_index t f' g')
-  unfolding Operand.starts_aFull_index
-  starts_a_full_index i l f g f' g' hit miss =
+  starts_a_full_index_lem : {A : Type 0} (i l : ℕ) (f g f' g' : Unit {0} → Reader A) → Alike P at i l (f tt) (f' tt) → Alike P at i l (g tt) (g' tt)
+      → Alike P at i l (Operand.starts_a_full_index s f g) (Operand.starts_a_full_index t f' g')
+  unfolding Operand.starts_a_full_index
+  starts_a_full_index_lem i l f g f' g' hit miss =
       here_alike (peek_same 0 (λ k x h. unmarked_same i _ k x (sym (at_zero i) ∙ h)) (λ k x. peek_alike (λ k x. hit) miss)
       (peek_alike (λ k x. peek_alike (λ k x. hit) miss) (peek_alike (λ k x. peek_alike (λ k x. hit) miss) miss)))
 
@@ -224,7 +224,7 @@ module _ (P : Diagnostic → Type 0) (at : ℕ → Place) (limit limit' start m 
   after_expression_lem : (p : Token) (e : Expr) (i l : ℕ) → Alike P at i l (Operand.after_expression s p e) (Operand.after_expression t p e)
   unfolding Operand.after_expression
   after_expression_lem p e i l =
-      bump_alike (λ c x h q. starts_a_full_index _ _ _ _ _ _ (full_index_lem p _ _ _) (base_and_index_lem p _ _ _))
+      bump_alike (λ c x h q. starts_a_full_index_lem _ _ _ _ _ _ (full_index_lem p _ _ _) (base_and_index_lem p _ _ _))
       (bump_alike (λ c x h q. tail e _ _ _ _ (bind_alike (expression-from _ _ _) λ j m y h₂. finish y j m))
       (peek_alike (λ k x. peek_alike (λ c y. bind_alike same_alike λ j m z h. sized_base_lem p e z j m) same_alike) same_alike))
 
@@ -233,10 +233,10 @@ module _ (P : Diagnostic → Type 0) (at : ℕ → Place) (limit limit' start m 
   parenthesised p i l = expression_alike (expression i l) (λ j m e. after_expression_lem p e j m) refl
 
   parenthesised_operand : (p : Token) (i l : ℕ) → Alike P at i l (Operand.parse_parenthesised_operand s p) (Operand.parse_parenthesised_operand t p)
-  unfolding Operand.parse_parenthesised_operand Operand.starts_aBase
+  unfolding Operand.parse_parenthesised_operand Operand.starts_a_base
   parenthesised_operand p i l =
       bump_alike (λ k x e q. memory_indirect_lem p _ _)
-      (starts_a_full_index i l _ _ _ _ (full_index_lem p _ i l)
+      (starts_a_full_index_lem i l _ _ _ _ (full_index_lem p _ i l)
       (peek_alike (λ k x. peek_alike (λ k x. peek_alike (λ k x. base_and_index_lem p _ i l) (parenthesised p i l)) (base_and_index_lem p _ i l))
       (parenthesised p i l)))
 

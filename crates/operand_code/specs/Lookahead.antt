@@ -37,14 +37,14 @@ suppressed_reg (Suppressed.Register r) = Reg.Is r
 suppressed_reg Suppressed.ProgramCounter = Reg.Not
 suppressed_reg Suppressed.Not = Reg.Not
 
--- whether `starts_aFull_index` hits at the place i
+-- whether `starts_a_full_index` hits at the place i
 unfoldable pub full_index_starts : Setting → (ℕ → Place) → ℕ → Bool
 full_index_starts s at i =
     pick (holds (unmarked s i is_suppressed) (at i)) (holds (closes true true) (at (i + 1)))
     (pick (holds an_address_register (at i)) (holds (closes false false) (at (i + 1)))
     (both (holds a_register (at i)) (holds (closes true false) (at (i + 1)))))
 
--- whether `starts_aBase` hits at the place i
+-- whether `starts_a_base` hits at the place i
 unfoldable pub base_starts : (ℕ → Place) → ℕ → Bool
 base_starts at i =
     both (holds (λ t x. either (a_register t x) (a_program_counter t x)) (at i))

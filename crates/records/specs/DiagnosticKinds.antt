@@ -38,5 +38,5 @@ register_in_expression = 11
 abbrev pub expression_expected : ℕ
 expression_expected = 12
 
-abbrev pub plus_is_not_aUnary_operator : ℕ
-plus_is_not_aUnary_operator = 13
+abbrev pub plus_is_not_a_unary_operator : ℕ
+plus_is_not_a_unary_operator = 13

@@ -70,8 +70,8 @@ abbrev pub expression_expected : Span → Diagnostic
 expression_expected after = plain DiagnosticKinds.expression_expected (empty after.end) after
 
 -- the plus, and the term that was read, no span where that failed
-abbrev pub plus_is_not_aUnary_operator : Span → Span → Diagnostic
-plus_is_not_aUnary_operator s term = plain DiagnosticKinds.plus_is_not_aUnary_operator s term
+abbrev pub plus_is_not_a_unary_operator : Span → Span → Diagnostic
+plus_is_not_a_unary_operator s term = plain DiagnosticKinds.plus_is_not_a_unary_operator s term
 
 -- its ten numbers
 unfoldable pub diagnostic_record : Diagnostic → List ℕ

@@ -20,7 +20,7 @@ use Rattle.expressions.specs.Costs.{true_false}
 use Rattle.operand.specs.Operands.{Displacement, displaced, undisplaced, Operand, Maybe, some, none}
 use Rattle.operand.specs.Operands as O
 use Rattle.operand.specs.Operand
-use Rattle.operand.specs.Operand.{starts_aBase}
+use Rattle.operand.specs.Operand.{starts_a_base}
 use Rattle.operand.specs.declared.forms.Register.{Register}
 use Rattle.operand.specs.declared.forms.IndexRegister.{IndexRegister}
 use Rattle.operand.specs.declared.forms.BaseRegister.{BaseRegister}
@@ -213,7 +213,7 @@ module _ (s : Setting) (at : ℕ → Place) (count : ℕ) (ends : (j : ℕ) (k :
   }
 
   pub grouped_sound : (t : Sign at Kinds.left_paren own) (l : ℕ) → Quiet (Operand.parse_parenthesised_operand s t.token) at Found (own + 1) l
-  unfolding Silent Operand.parse_parenthesised_operand starts_aBase Operand.parenthesised Operand.or_absent
+  unfolding Silent Operand.parse_parenthesised_operand starts_a_base Operand.parenthesised Operand.or_absent
   grouped_sound t l =
       let based = (base_sound t.token l (Spelling.alone t)).all in
       let expressed : Silent (Operand.parenthesised s t.token) at Found (own + 1) l

@@ -10,7 +10,7 @@ use Rattle.expressions.specs.declared.reading.Setting.{Setting}
 use Rattle.expressions.specs.Reader.{Reader}
 use Rattle.expressions.specs.Laws.{holds}
 use Rattle.expressions.specs.Costs.{true_false}
-use Rattle.operand.specs.Operand.{is_address, is_suppressed, an_address_register, size_or_scale, closes, starts_aFull_index}
+use Rattle.operand.specs.Operand.{is_address, is_suppressed, an_address_register, size_or_scale, closes, starts_a_full_index}
 use Rattle.operand.specs.declared.forms.Register.{Register}
 use Rattle.operand.specs.declared.forms.IndexRegister.{IndexRegister}
 use Rattle.operand.specs.declared.forms.Registers.{Registers}
@@ -48,8 +48,8 @@ module _ (s : Setting) (at : ℕ → Place) where
   full_found (hit_address p t) (BaseAndIndex.index x f) c = by_tail p x (address_tail p x f)
 
   pub starts_sound : {A : Type 0} (hit miss : Unit {0} → Reader A) (Q : ℕ → ℕ → A → Type 0) (i l : ℕ) → (Hit i → Silent (hit tt) at Q i l) → Silent (miss tt) at Q i l
-      → Silent (starts_aFull_index s hit miss) at Q i l
-  unfolding Silent starts_aFull_index closes holds
+      → Silent (starts_a_full_index s hit miss) at Q i l
+  unfolding Silent starts_a_full_index closes holds
   starts_sound hit miss Q i l f g = (
     (λ k x e q. ((λ t y e₂ q₂. f (hit_suppressed (found_suppressed s i k x is_suppressed q (rw (add-zero i) at e) refl) (suppressed_passes s i k x is_suppressed q))), λ q₂. g)),
     λ _. (

@@ -120,5 +120,5 @@ modes =
 
 -- each is read as its mode
 pub modes_are_read : readings modes ≡ expected modes
-unfolding readings expected modes Names-as-Tokens.token_at Names-as-Places.text_of Names-as-Places.placed Names-as-Places.place Names-as-Letters.lower Names-as-Letters.lowered Names-as-Letters.same Names-as-Letters.spelled Names-as-Registers.pair Names-as-Registers.register Names-as-Registers.register_of Names-as-Registers.program_counter Names-as-Registers.numbered Names-as-Registers.special_of Names-as-Registers.suppressing Names-as-Registers.suppressed Names-as-Registers.suppressed_of Names-as-Registers.one_of Names-as-Registers.reserved Names-as-Sizes.run_of Names-as-Sizes.letter_size Names-as-Sizes.size_of Names-as-Numbers.radix_of Names-as-Numbers.width Names-as-Numbers.figure Names-as-Numbers.scan Names-as-Numbers.digits_of Names-as-Numbers.in_base Names-as-Numbers.base_of Names-as-Numbers.number_of Expressions-as-Trees.span_e Expressions-as-Trees.with_span Expressions-as-Reader.met Expressions-as-Reader.run Expressions-as-Expressions.known Expressions-as-Expressions.suffix_run Expressions-as-Expressions.take_size_suffix Expressions-as-Expressions.precedence Expressions-as-Expressions.binary_operator Expressions-as-Expressions.operator Expressions-as-Expressions.operated Expressions-as-Expressions.parse_expression_from Expressions-as-Expressions.climbed Expressions-as-Expressions.parse_expression_of Expressions-as-Expressions.is_unary Expressions-as-Expressions.unary_operator Expressions-as-Expressions.negated Expressions-as-Expressions.plussed Expressions-as-Expressions.valued Expressions-as-Expressions.named Expressions-as-Expressions.grouped Expressions-as-Expressions.number_term Expressions-as-Expressions.leaf_term Expressions-as-Expressions.parse_prefix_term Expressions-as-Expressions.too_deep Expressions-as-Expressions.parse_prefix Expressions-as-Expressions.fuel Expressions-as-Expressions.parse_expression Expressions-as-Expressions.expression_from Operand-as-Operand.is_address Operand-as-Operand.is_suppressed Operand-as-Operand.is_suppressed_register Operand-as-Operand.is_suppressed_address Operand-as-Operand.a_register Operand-as-Operand.an_address_register Operand-as-Operand.a_program_counter Operand-as-Operand.unmarked Operand-as-Operand.an_index Operand-as-Operand.a_base_or_an_index Operand-as-Operand.index_of Operand-as-Operand.suppressed_index Operand-as-Operand.register_from Operand-as-Operand.malformed Operand-as-Operand.unclosed Operand-as-Operand.stepped_over Operand-as-Operand.not_an_address_register Operand-as-Operand.immediate_size Operand-as-Operand.or_absent Operand-as-Operand.parse_immediate Operand-as-Operand.expect_close Operand-as-Operand.over Operand-as-Operand.or_none Operand-as-Operand.predecrement_close Operand-as-Operand.parse_predecrement Operand-as-Operand.register_expected Operand-as-Operand.ranged Operand-as-Operand.list_item Operand-as-Operand.listed Operand-as-Operand.next_item Operand-as-Operand.list_loop Operand-as-Operand.parse_register_list Operand-as-Operand.register_direct Operand-as-Operand.parse_register_operand Operand-as-Operand.scale_of Operand-as-Operand.scaled Operand-as-Operand.index_scale Operand-as-Operand.index_size Operand-as-Operand.index_register Operand-as-Operand.parse_index_register Operand-as-Operand.base_shape Operand-as-Operand.indexed_operand Operand-as-Operand.closed_base Operand-as-Operand.after_base Operand-as-Operand.closed_counter Operand-as-Operand.after_counter Operand-as-Operand.parse_base_and_index Operand-as-Operand.after_base_register Operand-as-Operand.size_or_scale Operand-as-Operand.no_base Operand-as-Operand.parse_base_and_index_registers Operand-as-Operand.closes Operand-as-Operand.starts_aFull_index Operand-as-Operand.parse_full_index Operand-as-Operand.sized Operand-as-Operand.parse_sized_displacement Operand-as-Operand.inner_displaced Operand-as-Operand.parse_inner Operand-as-Operand.outer_indexed Operand-as-Operand.outer_index Operand-as-Operand.parse_outer Operand-as-Operand.parse_memory_indirect Operand-as-Operand.absolute_size Operand-as-Operand.finish_expression_operand Operand-as-Operand.displacement_tail Operand-as-Operand.parse_expression_operand Operand-as-Operand.grouped_operand Operand-as-Operand.sized_base Operand-as-Operand.unexpected Operand-as-Operand.after_expression Operand-as-Operand.parenthesised Operand-as-Operand.starts_aBase Operand-as-Operand.parse_parenthesised_operand Operand-as-Operand.special_index Operand-as-Operand.name_or_expression Operand-as-Operand.minus_operand Operand-as-Operand.operand_from Operand-as-Operand.parse_operand Operand-as-Operand.reading_of
+unfolding readings expected modes Names-as-Tokens.token_at Names-as-Places.text_of Names-as-Places.placed Names-as-Places.place Names-as-Letters.lower Names-as-Letters.lowered Names-as-Letters.same Names-as-Letters.spelled Names-as-Registers.pair Names-as-Registers.register Names-as-Registers.register_of Names-as-Registers.program_counter Names-as-Registers.numbered Names-as-Registers.special_of Names-as-Registers.suppressing Names-as-Registers.suppressed Names-as-Registers.suppressed_of Names-as-Registers.one_of Names-as-Registers.reserved Names-as-Sizes.run_of Names-as-Sizes.letter_size Names-as-Sizes.size_of Names-as-Numbers.radix_of Names-as-Numbers.width Names-as-Numbers.figure Names-as-Numbers.scan Names-as-Numbers.digits_of Names-as-Numbers.in_base Names-as-Numbers.base_of Names-as-Numbers.number_of Expressions-as-Trees.span_e Expressions-as-Trees.with_span Expressions-as-Reader.met Expressions-as-Reader.run Expressions-as-Expressions.known Expressions-as-Expressions.suffix_run Expressions-as-Expressions.take_size_suffix Expressions-as-Expressions.precedence Expressions-as-Expressions.binary_operator Expressions-as-Expressions.operator Expressions-as-Expressions.operated Expressions-as-Expressions.parse_expression_from Expressions-as-Expressions.climbed Expressions-as-Expressions.parse_expression_of Expressions-as-Expressions.is_unary Expressions-as-Expressions.unary_operator Expressions-as-Expressions.negated Expressions-as-Expressions.plussed Expressions-as-Expressions.valued Expressions-as-Expressions.named Expressions-as-Expressions.grouped Expressions-as-Expressions.number_term Expressions-as-Expressions.leaf_term Expressions-as-Expressions.parse_prefix_term Expressions-as-Expressions.too_deep Expressions-as-Expressions.parse_prefix Expressions-as-Expressions.fuel Expressions-as-Expressions.parse_expression Expressions-as-Expressions.expression_from Operand-as-Operand.is_address Operand-as-Operand.is_suppressed Operand-as-Operand.is_suppressed_register Operand-as-Operand.is_suppressed_address Operand-as-Operand.a_register Operand-as-Operand.an_address_register Operand-as-Operand.a_program_counter Operand-as-Operand.unmarked Operand-as-Operand.an_index Operand-as-Operand.a_base_or_an_index Operand-as-Operand.index_of Operand-as-Operand.suppressed_index Operand-as-Operand.register_from Operand-as-Operand.malformed Operand-as-Operand.unclosed Operand-as-Operand.stepped_over Operand-as-Operand.not_an_address_register Operand-as-Operand.immediate_size Operand-as-Operand.or_absent Operand-as-Operand.parse_immediate Operand-as-Operand.expect_close Operand-as-Operand.over Operand-as-Operand.or_none Operand-as-Operand.predecrement_close Operand-as-Operand.parse_predecrement Operand-as-Operand.register_expected Operand-as-Operand.ranged Operand-as-Operand.list_item Operand-as-Operand.listed Operand-as-Operand.next_item Operand-as-Operand.list_loop Operand-as-Operand.parse_register_list Operand-as-Operand.register_direct Operand-as-Operand.parse_register_operand Operand-as-Operand.scale_of Operand-as-Operand.scaled Operand-as-Operand.index_scale Operand-as-Operand.index_size Operand-as-Operand.index_register Operand-as-Operand.parse_index_register Operand-as-Operand.base_shape Operand-as-Operand.indexed_operand Operand-as-Operand.closed_base Operand-as-Operand.after_base Operand-as-Operand.closed_counter Operand-as-Operand.after_counter Operand-as-Operand.parse_base_and_index Operand-as-Operand.after_base_register Operand-as-Operand.size_or_scale Operand-as-Operand.no_base Operand-as-Operand.parse_base_and_index_registers Operand-as-Operand.closes Operand-as-Operand.starts_a_full_index Operand-as-Operand.parse_full_index Operand-as-Operand.sized Operand-as-Operand.parse_sized_displacement Operand-as-Operand.inner_displaced Operand-as-Operand.parse_inner Operand-as-Operand.outer_indexed Operand-as-Operand.outer_index Operand-as-Operand.parse_outer Operand-as-Operand.parse_memory_indirect Operand-as-Operand.absolute_size Operand-as-Operand.finish_expression_operand Operand-as-Operand.displacement_tail Operand-as-Operand.parse_expression_operand Operand-as-Operand.grouped_operand Operand-as-Operand.sized_base Operand-as-Operand.unexpected Operand-as-Operand.after_expression Operand-as-Operand.parenthesised Operand-as-Operand.starts_a_base Operand-as-Operand.parse_parenthesised_operand Operand-as-Operand.special_index Operand-as-Operand.name_or_expression Operand-as-Operand.minus_operand Operand-as-Operand.operand_from Operand-as-Operand.parse_operand Operand-as-Operand.reading_of
 modes_are_read = refl

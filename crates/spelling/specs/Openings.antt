@@ -15,7 +15,7 @@ use Rattle.expressions.specs.declared.reading.Setting.{Setting}
 use Rattle.expressions.specs.Reader.{Reader}
 use Rattle.expressions.specs.Laws.{holds}
 use Rattle.expressions.specs.Costs.{true_false}
-use Rattle.operand.specs.Operand.{is_address, a_register, an_address_register, a_program_counter, unmarked, is_suppressed, size_or_scale, closes, starts_aFull_index, starts_aBase}
+use Rattle.operand.specs.Operand.{is_address, a_register, an_address_register, a_program_counter, unmarked, is_suppressed, size_or_scale, closes, starts_a_full_index, starts_a_base}
 use Rattle.operand.specs.declared.forms.Register.{Register}
 use Rattle.operand.specs.declared.forms.IndexRegister.{IndexRegister}
 use Rattle.operand.specs.declared.forms.Registers.{Registers}
@@ -66,18 +66,18 @@ tail_seen b c t = record { token = t.token; text = t.text; there = t.there; pass
 
 module _ {A : Type 0} (s : Setting) {at : ℕ → Place} {i l j : ℕ} {a : A} (hit miss : Unit {0} → Reader A) where
   -- an expression begins neither a full index nor a base
-  pub no_full : Looks s at i Reg.Not false Suppressed.Not → Reads (miss tt) at i l j a → Reads (starts_aFull_index s hit miss) at i l j a
-  unfolding starts_aFull_index is_suppressed is_address
+  pub no_full : Looks s at i Reg.Not false Suppressed.Not → Reads (miss tt) at i l j a → Reads (starts_a_full_index s hit miss) at i l j a
+  unfolding starts_a_full_index is_suppressed is_address
   no_full k h =
       from_here (misses (omega arith) (k.suppressions is_suppressed refl) (misses (omega arith) k.addresses (misses (omega arith) k.registers h)))
 
-  pub no_start : Looks s at i Reg.Not false Suppressed.Not → Reads (miss tt) at i l j a → Reads (starts_aBase hit miss) at i l j a
-  unfolding starts_aBase
+  pub no_start : Looks s at i Reg.Not false Suppressed.Not → Reads (miss tt) at i l j a → Reads (starts_a_base hit miss) at i l j a
+  unfolding starts_a_base
   no_start k h = misses (omega arith) (holds_either a_register a_program_counter (at i) ∙ rw (k.registers, k.counters) refl) h
 
   -- nor does a base begin a full index
-  pub base_not_full : BaseLike s at i → Shut at (i + 1) → Reads (miss tt) at i l j a → Reads (starts_aFull_index s hit miss) at i l j a
-  unfolding starts_aFull_index is_suppressed is_address closes size_or_scale
+  pub base_not_full : BaseLike s at i → Shut at (i + 1) → Reads (miss tt) at i l j a → Reads (starts_a_full_index s hit miss) at i l j a
+  unfolding starts_a_full_index is_suppressed is_address closes size_or_scale
   base_not_full (address {r} t₂ k low) t h =
       from_here (misses (omega arith) (k.suppressions is_suppressed refl) (either_way (omega arith)
       (λ n x e q. misses refl (comes (closes false false) t.sign (rw t.sign.of t.attached)) h)
@@ -88,8 +88,8 @@ module _ {A : Type 0} (s : Setting) {at : ℕ → Place} {i l j : ℕ} {a : A} (
   base_not_full (counter t₂ k) t h =
       from_here (misses (omega arith) (k.suppressions is_suppressed refl) (misses (omega arith) k.addresses (misses (omega arith) k.registers h)))
 
-  pub base_starts_lem : BaseLike s at i → Shut at (i + 1) → Reads (hit tt) at i l j a → Reads (starts_aBase hit miss) at i l j a
-  unfolding starts_aBase
+  pub base_starts_lem : BaseLike s at i → Shut at (i + 1) → Reads (hit tt) at i l j a → Reads (starts_a_base hit miss) at i l j a
+  unfolding starts_a_base
   base_starts_lem b t h = either_way (omega arith)
       (λ n x e q. sees refl t.sign.there refl (sees refl t.sign.there (rw t.sign.of t.shuts) h))
       λ q. absurd (seen b (sym (holds_either a_register a_program_counter (at i)) ∙ q))
@@ -102,22 +102,22 @@ module _ {A : Type 0} (s : Setting) {at : ℕ → Place} {i l j : ℕ} {a : A} (
 
   -- Z, which any of the four may follow
   pub suppressed_starts : {z : Suppressed} → SuppressedAt s at i z → is_suppressed z ≡ true → Seen at (closes true true) (i + 1) → Reads (hit tt) at i l j a
-      → Reads (starts_aFull_index s hit miss) at i l j a
-  unfolding starts_aFull_index is_suppressed
+      → Reads (starts_a_full_index s hit miss) at i l j a
+  unfolding starts_a_full_index is_suppressed
   suppressed_starts z e t h =
       let k = looks_suppressed z e in
       from_here (sees (omega arith) z.name.there (held (unmarked s i is_suppressed) z.name (k.suppressions is_suppressed refl ∙ e)) (sees refl t.there t.passed h))
 
   -- a register: a data register needs `)` or a tail, an address register a tail
   register_starts : {r : Register} → RegisterAt at i r → Seen at (closes (ltb r.index 8) false) (i + 1) → Reads (hit tt) at i l j a
-      → Reads (starts_aFull_index s hit miss) at i l j a
-  unfolding starts_aFull_index is_suppressed is_address
+      → Reads (starts_a_full_index s hit miss) at i l j a
+  unfolding starts_a_full_index is_suppressed is_address
   register_starts (a_register_lem {r = r} t q) c h = go (leb 8 r) refl
     where
       k : Looks s at i (Reg.Is r) false Suppressed.Not
       k = looks_register (a_register_lem t q)
 
-      go : (b : Bool) → leb 8 r ≡ b → Reads (starts_aFull_index s hit miss) at i l j a
+      go : (b : Bool) → leb 8 r ≡ b → Reads (starts_a_full_index s hit miss) at i l j a
       go true e =
           from_here (misses (omega arith) (k.suppressions is_suppressed refl) (sees (omega arith) t.there (held an_address_register t (k.addresses ∙ e))
           (sees refl c.there (rw (le-ltb r 8 (leb-true 8 r e)) at c.passed) h)))
@@ -126,22 +126,22 @@ module _ {A : Type 0} (s : Setting) {at : ℕ → Place} {i l j : ℕ} {a : A} (
           (sees refl c.there (rw (lt-ltb r 8 (leb-false 8 r e)) at c.passed) h))))
 
   index_starts : {n : ℕ} {x : IndexRegister} → Indexes s at i n x → (x.register.index < 8) ⊎ (i + 1 < n) → Sign at Kinds.right_paren n → Reads (hit tt) at i l j a
-      → Reads (starts_aFull_index s hit miss) at i l j a
+      → Reads (starts_a_full_index s hit miss) at i l j a
   unfolding is_suppressed
   index_starts (an_index_lem {n = n} (plain {r = r} p) sz sc) f c h = go (tail sz sc c)
     where
-      go : (Seen at size_or_scale (i + 1)) ⊎ (n ≡ i + 1) → Reads (starts_aFull_index s hit miss) at i l j a
+      go : (Seen at size_or_scale (i + 1)) ⊎ (n ≡ i + 1) → Reads (starts_a_full_index s hit miss) at i l j a
       go (inl t) = register_starts p (tail_seen _ false t) h
       go (inr e) = let small = first_of_lem f (omega arith) in register_starts p (rw (lt-ltb r.index 8 small, ← e) (close_seen false c)) h
   index_starts (an_index_lem {n = n} (suppressed z) sz sc) f c h = go (tail sz sc c)
     where
-      go : (Seen at size_or_scale (i + 1)) ⊎ (n ≡ i + 1) → Reads (starts_aFull_index s hit miss) at i l j a
+      go : (Seen at size_or_scale (i + 1)) ⊎ (n ≡ i + 1) → Reads (starts_a_full_index s hit miss) at i l j a
       go (inl t) = suppressed_starts z refl (tail_seen true true t) h
       go (inr e) = suppressed_starts z refl (rw (← e) (close_seen true c)) h
 
   -- any BI that begins with neither An nor PC
   bases_start : {n : ℕ} {r : Registers} → ((q : Register) → AddressAt at i q → ⊥) → (CounterAt at i → ⊥) → BaseAndIndex s at i n r → Sign at Kinds.right_paren n
-      → Reads (hit tt) at i l j a → Reads (starts_aFull_index s hit miss) at i l j a
+      → Reads (hit tt) at i l j a → Reads (starts_a_full_index s hit miss) at i l j a
   unfolding is_suppressed
   bases_start f g (Spelling.base (Spelling.address p)) c h = absurd (f _ p)
   bases_start f g (Spelling.base (Spelling.counter p)) c h = absurd (g p)
@@ -153,7 +153,7 @@ module _ {A : Type 0} (s : Setting) {at : ℕ → Place} {i l j : ℕ} {a : A} (
   bases_start f g (Spelling.base_index (Spelling.suppressed_counter z) k x) c h = suppressed_starts z refl (comma_seen k) h
   bases_start f g (Spelling.index x e) c h = index_starts x e c h
 
-  pub full_starts : {n : ℕ} {r : Registers} → Full s at i n r → Sign at Kinds.right_paren n → Reads (hit tt) at i l j a → Reads (starts_aFull_index s hit miss) at i l j a
+  pub full_starts : {n : ℕ} {r : Registers} → Full s at i n r → Sign at Kinds.right_paren n → Reads (hit tt) at i l j a → Reads (starts_a_full_index s hit miss) at i l j a
   full_starts (by_suppressed z e b) c h = bases_start (λ r p. elim p [ an_address q low ↦ suppressed_no_register s z e q ]) (suppressed_no_counter s z e) b c h
   full_starts (by_data p small b) c h = bases_start (λ r q. elim q [ an_address g low ↦ data_no_address s p small g low ]) (register_no_counter s p) b c h
   full_starts (by_tail p x long) c h = index_starts x (inr long) c h

@@ -5,7 +5,7 @@ use Rattle.names.specs.Kinds
 use Rattle.names.specs.declared.tokens.Token.{Token}
 use Rattle.records.specs.Spans.{span, no_span, empty, span_of}
 use Rattle.expressions.specs.Trees.{Expr, unary, binary, span_e, with_span}
-use Rattle.records.specs.Diagnostics.{unclosed_parenthesis, nesting_too_deep, expression_expected, plus_is_not_aUnary_operator}
+use Rattle.records.specs.Diagnostics.{unclosed_parenthesis, nesting_too_deep, expression_expected, plus_is_not_a_unary_operator}
 use Rattle.expressions.specs.Reader.{is, any, Reader, answer, here, raise, bump, peek, ◌>>=◌}
 use Rattle.expressions.specs.Expressions.Levels.{precedence, binary_operator, operator, is_unary, unary_operator}
 use Rattle.expressions.specs.Expressions.Leaves.{Term, read, reported, absent, leaf_term}
@@ -45,9 +45,9 @@ negated k reported = answer reported
 negated k absent = raise (expression_expected (span_of k)) (answer reported)
 
 unfoldable pub plussed : Token → Term → Reader Term
-plussed k (read e) = raise (plus_is_not_aUnary_operator (span_of k) (span_e e)) (answer (read e))
-plussed k reported = raise (plus_is_not_aUnary_operator (span_of k) no_span) (answer reported)
-plussed k absent = raise (plus_is_not_aUnary_operator (span_of k) no_span) (answer reported)
+plussed k (read e) = raise (plus_is_not_a_unary_operator (span_of k) (span_e e)) (answer (read e))
+plussed k reported = raise (plus_is_not_a_unary_operator (span_of k) no_span) (answer reported)
+plussed k absent = raise (plus_is_not_a_unary_operator (span_of k) no_span) (answer reported)
 
 -- `")"` behind `"(" expression`
 unfoldable pub grouped : Token → Term → Reader Term

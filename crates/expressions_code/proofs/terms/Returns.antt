@@ -217,24 +217,24 @@ module _ {L T N D N₁ D₁ : List ℕ} {c : Counters} (room : ℕ) {r : Step} (
     unfolding negated size_t
     unary_absents w f h = told_more g long (negated k) absent (is_absent g w) refl refl f h
 
-    pub plus_reports : {D₂ : List ℕ} {s : Span} {y : Diagnostic} {q : Step} → r.parsed ≡ parsed.Reported → s ≡ span_of k → y ≡ plain DiagnosticKinds.plus_is_not_aUnary_operator s no_span → DeepTold D₁ D₂ r.counters y q
+    pub plus_reports : {D₂ : List ℕ} {s : Span} {y : Diagnostic} {q : Step} → r.parsed ≡ parsed.Reported → s ≡ span_of k → y ≡ plain DiagnosticKinds.plus_is_not_a_unary_operator s no_span → DeepTold D₁ D₂ r.counters y q
         → BehindTold (plus_term room k) L T N D N₁ D₂ c q
     unfolding plussed size_t
-    plus_reports w sp f h = told_more g long (plussed k) reported (is_reported g w) refl refl (f ∙ ap (λ z. plain DiagnosticKinds.plus_is_not_aUnary_operator z no_span) sp) h
+    plus_reports w sp f h = told_more g long (plussed k) reported (is_reported g w) refl refl (f ∙ ap (λ z. plain DiagnosticKinds.plus_is_not_a_unary_operator z no_span) sp) h
 
-    pub plus_absents : {D₂ : List ℕ} {s : Span} {y : Diagnostic} {q : Step} → r.parsed ≡ parsed.Absent → s ≡ span_of k → y ≡ plain DiagnosticKinds.plus_is_not_aUnary_operator s no_span → DeepTold D₁ D₂ r.counters y q
+    pub plus_absents : {D₂ : List ℕ} {s : Span} {y : Diagnostic} {q : Step} → r.parsed ≡ parsed.Absent → s ≡ span_of k → y ≡ plain DiagnosticKinds.plus_is_not_a_unary_operator s no_span → DeepTold D₁ D₂ r.counters y q
         → BehindTold (plus_term room k) L T N D N₁ D₂ c q
     unfolding plussed size_t
-    plus_absents w sp f h = told_more g long (plussed k) absent (is_absent g w) refl refl (f ∙ ap (λ z. plain DiagnosticKinds.plus_is_not_aUnary_operator z no_span) sp) h
+    plus_absents w sp f h = told_more g long (plussed k) absent (is_absent g w) refl refl (f ∙ ap (λ z. plain DiagnosticKinds.plus_is_not_a_unary_operator z no_span) sp) h
 
-    pub plus_reads : {D₂ : List ℕ} {s x : Span} {y : Diagnostic} {q : Step} → r.parsed ≡ parsed.Read x → s ≡ span_of k → y ≡ plain DiagnosticKinds.plus_is_not_aUnary_operator s x → DeepTold D₁ D₂ r.counters y q
+    pub plus_reads : {D₂ : List ℕ} {s x : Span} {y : Diagnostic} {q : Step} → r.parsed ≡ parsed.Read x → s ≡ span_of k → y ≡ plain DiagnosticKinds.plus_is_not_a_unary_operator s x → DeepTold D₁ D₂ r.counters y q
         → BehindTold (plus_term room k) L T N D N₁ D₂ c (record { parsed = parsed.Read x; counters = q.counters })
     unfolding plussed parsed_of
     plus_reads w sp f h =
         let y = is_read g w in
         let t : Held N N₁ c.nodes (read y.0) r.counters = held_as g.told y.1 in
         behind g
-        (bound g.told y.1 (raised (raised_as (f ∙ ap₂ (λ a b. plain DiagnosticKinds.plus_is_not_aUnary_operator a b) sp y.2) (deep_raised h)) (answered (ap parsed.Read y.2) refl record { total = h.same ∙ t.total; bytes = rw h.same t.bytes })))
+        (bound g.told y.1 (raised (raised_as (f ∙ ap₂ (λ a b. plain DiagnosticKinds.plus_is_not_a_unary_operator a b) sp y.2) (deep_raised h)) (answered (ap parsed.Read y.2) refl record { total = h.same ∙ t.total; bytes = rw h.same t.bytes })))
         (λ j b. refl) h.at (omega (arith, h.same)) (omega (arith, h.push.next))
 
   -- ---- an expression whose first term answers r

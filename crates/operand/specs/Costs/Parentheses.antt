@@ -27,8 +27,8 @@ module _ (at : ℕ → Place) (w : ℕ) (clean : Clean at w) where
 
   starts_cost : (z : Setting) (p q : Unit {0} → Reader (Maybe Operand)) (m i l d r : ℕ)
       → ((s : ℕ) → Law (p tt) at (Left at w clean size_o 1 m 0 i d s) i l d s) → ((s : ℕ) → Law (q tt) at (Left at w clean size_o 1 m 0 i d s) i l d s)
-      → Law (Operand.starts_aFull_index z p q) at (Left at w clean size_o 1 m 0 i d r) i l d r
-  unfolding All Operand.starts_aFull_index
+      → Law (Operand.starts_a_full_index z p q) at (Left at w clean size_o 1 m 0 i d r) i l d r
+  unfolding All Operand.starts_a_full_index
   starts_cost z p q m i l d r f g = record {
     all = (
       (λ t x h k. ((λ u y h₂ k₂. near r (omega arith) (f _)), λ n. near r (omega arith) (g _))),
@@ -41,8 +41,8 @@ module _ (at : ℕ → Place) (w : ℕ) (clean : Clean at w) where
 
   starts_base_cost : (p q : Unit {0} → Reader (Maybe Operand)) (m i l d r : ℕ)
       → ((s : ℕ) → Law (p tt) at (Left at w clean size_o 1 m 0 i d s) i l d s) → ((s : ℕ) → Law (q tt) at (Left at w clean size_o 1 m 0 i d s) i l d s)
-      → Law (Operand.starts_aBase p q) at (Left at w clean size_o 1 m 0 i d r) i l d r
-  unfolding All Operand.starts_aBase
+      → Law (Operand.starts_a_base p q) at (Left at w clean size_o 1 m 0 i d r) i l d r
+  unfolding All Operand.starts_a_base
   starts_base_cost p q m i l d r f g = record {
     all = (
       (λ t x h k. (

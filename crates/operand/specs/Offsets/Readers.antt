@@ -263,8 +263,8 @@ module _ {m : ℕ} (s : Setting) (low : s.start ≤ m) where
   full_index_fits k d h g = tries (registers_fits Shapes.index) λ r q. tries (close_fits k Shapes.index h) λ e b. answers (g, q.0, q.1, tt, (low, b))
 
   starts_fits : (p q : Unit {0} → Reader (Maybe Operand)) → Fits m (MaybeIn (OperandIn m)) (p tt) → Fits m (MaybeIn (OperandIn m)) (q tt)
-      → Fits m (MaybeIn (OperandIn m)) (Operand.starts_aFull_index s p q)
-  unfolding Operand.starts_aFull_index
+      → Fits m (MaybeIn (OperandIn m)) (Operand.starts_a_full_index s p q)
+  unfolding Operand.starts_a_full_index
   starts_fits p q f g =
       from_here λ i l h.
       sees (λ t x b. sees (λ k y c. f) g) (sees (λ t x b. sees (λ k y c. f) g) (sees (λ t x b. sees (λ k y c. f) g) g))
@@ -350,8 +350,8 @@ module _ {m : ℕ} (s : Setting) (low : s.start ≤ m) where
   parenthesised_fits k h = expressed (raises (omega arith) (answers tt)) λ e g. after_expression_fits k e h g
 
   starts_base_fits : (p q : Unit {0} → Reader (Maybe Operand)) → Fits m (MaybeIn (OperandIn m)) (p tt) → Fits m (MaybeIn (OperandIn m)) (q tt)
-      → Fits m (MaybeIn (OperandIn m)) (Operand.starts_aBase p q)
-  unfolding Operand.starts_aBase
+      → Fits m (MaybeIn (OperandIn m)) (Operand.starts_a_base p q)
+  unfolding Operand.starts_a_base
   starts_base_fits p q f g = sees (λ t x b. sees (λ k y c. sees (λ v z d. f) g) f) g
 
   parenthesised_operand_fits : (k : Token) → SpanIn m (span_of k) → Fits m (MaybeIn (OperandIn m)) (Operand.parse_parenthesised_operand s k)

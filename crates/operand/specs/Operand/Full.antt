@@ -69,8 +69,8 @@ unfoldable pub closes : Bool → Bool → Test
 closes aParen aComma k x = either (both aParen (eqb k.kind Kinds.right_paren)) (either (both aComma (eqb k.kind Kinds.comma)) (size_or_scale k x))
 
 -- a suppressed register, a data register that is no base, or an address register with a size or a scale
-unfoldable pub starts_aFull_index : {A : Type 0} → Setting → (Unit {0} → Reader A) → (Unit {0} → Reader A) → Reader A
-starts_aFull_index s hit miss =
+unfoldable pub starts_a_full_index : {A : Type 0} → Setting → (Unit {0} → Reader A) → (Unit {0} → Reader A) → Reader A
+starts_a_full_index s hit miss =
     here λ i l.
     peek 0 (unmarked s i is_suppressed) (λ k x. peek 1 (closes true true) (λ t y. hit tt) miss) λ u.
     peek 0 an_address_register (λ k x. peek 1 (closes false false) (λ t y. hit tt) miss) λ u.

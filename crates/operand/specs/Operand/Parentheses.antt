@@ -15,7 +15,7 @@ use Rattle.operand.specs.Operand.Tries.{expression_or}
 use Rattle.operand.specs.Operand.Lookahead.{a_register, a_program_counter}
 use Rattle.operand.specs.Operand.Malformed.{over}
 use Rattle.operand.specs.Operand.Bases.{parse_base_and_index}
-use Rattle.operand.specs.Operand.Full.{starts_aFull_index, parse_full_index}
+use Rattle.operand.specs.Operand.Full.{starts_a_full_index, parse_full_index}
 use Rattle.operand.specs.Operand.Memory.{parse_memory_indirect}
 use Rattle.operand.specs.Operand.Absolutes.{finish_expression_operand, displacement_tail}
 
@@ -41,7 +41,7 @@ unexpected paren =
 
 -- behind a comma
 abbrev pub after_comma : Setting → Token → Displacement → Reader (Maybe Operand)
-after_comma s paren d = starts_aFull_index s (λ u. parse_full_index s paren d) λ u. parse_base_and_index s paren d
+after_comma s paren d = starts_a_full_index s (λ u. parse_full_index s paren d) λ u. parse_base_and_index s paren d
 
 -- at a size, where a comma must follow
 abbrev pub size_and_base : Setting → Token → Expr → Reader (Maybe Operand)
@@ -60,8 +60,8 @@ unfoldable pub parenthesised : Setting → Token → Reader (Maybe Operand)
 parenthesised s paren = expression_or s (raise (expression_expected (span_of paren)) (answer none)) (after_expression s paren)
 
 -- a register or the program counter, and then a parenthesis, a comma or the end
-unfoldable pub starts_aBase : {A : Type 0} → (Unit {0} → Reader A) → (Unit {0} → Reader A) → Reader A
-starts_aBase hit miss =
+unfoldable pub starts_a_base : {A : Type 0} → (Unit {0} → Reader A) → (Unit {0} → Reader A) → Reader A
+starts_a_base hit miss =
     peek 0 (λ k x. either (a_register k x) (a_program_counter k x))
     (λ k x. peek 1 any (λ t y. peek 1 (λ t y. either (eqb t.kind Kinds.right_paren) (eqb t.kind Kinds.comma)) (λ t y. hit tt) miss) hit)
     miss
@@ -69,8 +69,8 @@ starts_aBase hit miss =
 -- behind a parenthesis that no bracket follows
 abbrev pub unbracketed : Setting → Token → Reader (Maybe Operand)
 unbracketed s paren =
-    starts_aFull_index s (λ u. parse_full_index s paren undisplaced) λ u.
-    starts_aBase (λ u. parse_base_and_index s paren undisplaced) λ u.
+    starts_a_full_index s (λ u. parse_full_index s paren undisplaced) λ u.
+    starts_a_base (λ u. parse_base_and_index s paren undisplaced) λ u.
     parenthesised s paren
 
 -- `parenthesised_operand`: what an operand that starts with a parenthesis is, behind it

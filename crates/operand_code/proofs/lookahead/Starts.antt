@@ -24,7 +24,7 @@ use Rattle.records.specs.Counters.{stepped}
 use Rattle.expressions.specs.declared.reading.Setting.{Setting}
 use Rattle.records.specs.declared.counters.Counters.{Counters}
 use Rattle.operand.specs.Operands.{Maybe}
-use Rattle.operand.specs.Operand.{is_address, is_suppressed, is_suppressed_register, is_suppressed_address, a_register, an_address_register, a_program_counter, unmarked, suppressed_index, register_from, after_base_register, size_or_scale, no_base, parse_base_and_index_registers, closes, starts_aFull_index, starts_aBase}
+use Rattle.operand.specs.Operand.{is_address, is_suppressed, is_suppressed_register, is_suppressed_address, a_register, an_address_register, a_program_counter, unmarked, suppressed_index, register_from, after_base_register, size_or_scale, no_base, parse_base_and_index_registers, closes, starts_a_full_index, starts_a_base}
 use Rattle.expressions.specs.Told.{Told}
 use Rattle.operand_code.specs.Lookahead.{reg_at, suppressed_at, full_index_starts, base_starts, address_base, suppressed_base, is_counter, base_at, is_base}
 use Rattle.operand.specs.declared.forms.BaseRegister.{BaseRegister}
@@ -179,8 +179,8 @@ module _ {A E : Type 0} {f : A → E} {Q : A → Counters → Type 0} {L T D D' 
   module _ (s : Setting) (y n : Unit {0} → Reader A) where
     full : (full_index_starts s (place L T) c.at ≡ true → Told f Q (y tt) L T D D' c v r)
         → (full_index_starts s (place L T) c.at ≡ false → Told f Q (n tt) L T D D' c v r)
-        → Told f Q (starts_aFull_index s y n) L T D D' c v r
-    unfolding starts_aFull_index full_index_starts
+        → Told f Q (starts_a_full_index s y n) L T D D' c v r
+    unfolding starts_a_full_index full_index_starts
     full g h =
         hereby (forked c.at (omega arith)
         (λ a. forked (c.at + 1) refl (λ b. g (rw (a, b))) (λ b. h (rw (a, b))))
@@ -192,26 +192,26 @@ module _ {A E : Type 0} {f : A → E} {Q : A → Counters → Type 0} {L T D D' 
         (λ d. forked (c.at + 1) refl (λ e. g (rw (a, b, d, e))) (λ e. h (rw (a, b, d, e))))
         (λ d. h (rw (a, b, d))))))
 
-    pub full_starts : full_index_starts s (place L T) c.at ≡ true → Told f Q (y tt) L T D D' c v r → Told f Q (starts_aFull_index s y n) L T D D' c v r
+    pub full_starts : full_index_starts s (place L T) c.at ≡ true → Told f Q (y tt) L T D D' c v r → Told f Q (starts_a_full_index s y n) L T D D' c v r
     full_starts e g = full (λ q. g) (λ q. absurd (true_false (sym e ∙ q)))
 
-    pub full_not : full_index_starts s (place L T) c.at ≡ false → Told f Q (n tt) L T D D' c v r → Told f Q (starts_aFull_index s y n) L T D D' c v r
+    pub full_not : full_index_starts s (place L T) c.at ≡ false → Told f Q (n tt) L T D D' c v r → Told f Q (starts_a_full_index s y n) L T D D' c v r
     full_not e g = full (λ q. absurd (true_false (sym q ∙ e))) (λ q. g)
 
   module _ (y n : Unit {0} → Reader A) where
     based_or_not : (base_starts (place L T) c.at ≡ true → Told f Q (y tt) L T D D' c v r)
         → (base_starts (place L T) c.at ≡ false → Told f Q (n tt) L T D D' c v r)
-        → Told f Q (starts_aBase y n) L T D D' c v r
-    unfolding starts_aBase base_starts
+        → Told f Q (starts_a_base y n) L T D D' c v r
+    unfolding starts_a_base base_starts
     based_or_not g h =
         forked c.at (omega arith)
         (λ a. forked (c.at + 1) refl (λ b. forked (c.at + 1) refl (λ d. g (rw (a, b, d))) (λ d. h (rw (a, b, d)))) (λ b. g (rw (a, b))))
         (λ a. h (rw a))
 
-    pub base_starts_lem : base_starts (place L T) c.at ≡ true → Told f Q (y tt) L T D D' c v r → Told f Q (starts_aBase y n) L T D D' c v r
+    pub base_starts_lem : base_starts (place L T) c.at ≡ true → Told f Q (y tt) L T D D' c v r → Told f Q (starts_a_base y n) L T D D' c v r
     base_starts_lem e g = based_or_not (λ q. g) (λ q. absurd (true_false (sym e ∙ q)))
 
-    pub base_not : base_starts (place L T) c.at ≡ false → Told f Q (n tt) L T D D' c v r → Told f Q (starts_aBase y n) L T D D' c v r
+    pub base_not : base_starts (place L T) c.at ≡ false → Told f Q (n tt) L T D D' c v r → Told f Q (starts_a_base y n) L T D D' c v r
     base_not e g = based_or_not (λ q. absurd (true_false (sym q ∙ e))) (λ q. g)
 
 module _ {E : Type 0} {f : Maybe Registers → E} {Q : Maybe Registers → Counters → Type 0} {L T D D' : List ℕ} {c : Counters} {v : E} {r : Counters} (s : Setting) (shape : ℕ) where
