@@ -68,7 +68,7 @@ fn close_group(
 }
 
 // A term, with at most `room` terms open in it.
-#[cycle(parse_expression_parse_expression_from_parse_group_parse_operated_parse_plus_parse_prefix_parse_unary)]
+#[cycle(terms)]
 fn parse_prefix(
     line: &[u8],
     tokens: &[u16],
@@ -107,7 +107,7 @@ fn parse_prefix(
 }
 
 // Behind a minus or a tilde.
-#[cycle(parse_expression_parse_expression_from_parse_group_parse_operated_parse_plus_parse_prefix_parse_unary)]
+#[cycle(terms)]
 fn parse_unary(
     line: &[u8],
     tokens: &[u16],
@@ -142,7 +142,7 @@ fn parse_unary(
 }
 
 // Behind a plus, which is no unary operator: the term is read all the same.
-#[cycle(parse_expression_parse_expression_from_parse_group_parse_operated_parse_plus_parse_prefix_parse_unary)]
+#[cycle(terms)]
 fn parse_plus(
     line: &[u8],
     tokens: &[u16],
@@ -183,7 +183,7 @@ fn parse_plus(
 }
 
 // Behind the parenthesis of a group.
-#[cycle(parse_expression_parse_expression_from_parse_group_parse_operated_parse_plus_parse_prefix_parse_unary)]
+#[cycle(terms)]
 fn parse_group(
     line: &[u8],
     tokens: &[u16],
@@ -207,7 +207,7 @@ fn parse_group(
 }
 
 // An expression: a term, and the climb from it.
-#[cycle(parse_expression_parse_expression_from_parse_group_parse_operated_parse_plus_parse_prefix_parse_unary)]
+#[cycle(terms)]
 pub(crate) fn parse_expression(
     line: &[u8],
     tokens: &[u16],
@@ -238,7 +238,7 @@ pub(crate) fn parse_expression(
 }
 
 // The climb from a left side, the tree of the last records, over operators of at least a level.
-#[cycle(parse_expression_parse_expression_from_parse_group_parse_operated_parse_plus_parse_prefix_parse_unary)]
+#[cycle(terms)]
 pub(crate) fn parse_expression_from(
     line: &[u8],
     tokens: &[u16],
@@ -278,7 +278,7 @@ pub(crate) fn parse_expression_from(
 }
 
 // One operator of the climb, which stands at the cursor: the longer left side; or no term is read behind the operator, and the climb ends.
-#[cycle(parse_expression_parse_expression_from_parse_group_parse_operated_parse_plus_parse_prefix_parse_unary)]
+#[cycle(terms)]
 fn parse_operated(
     line: &[u8],
     tokens: &[u16],

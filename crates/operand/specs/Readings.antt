@@ -11,7 +11,7 @@ use Rattle.names.specs.Choice.{pick}
 use Rattle.names.specs.Kinds
 use Rattle.names.specs.Places.{Place, nothing, stands}
 use Rattle.names.specs.declared.tokens.Token.{Token}
-use Rattle.expressions.specs.Reader.{any, reading, run}
+use Rattle.expressions.specs.Reader.{answer, any, reading, run}
 use Rattle.expressions.specs.Laws as L
 use Rattle.expressions.specs.Laws.{holds, All, Law, call, law_run, Every, Fine, all_fine, met_yes, met_no}
 use Rattle.expressions.specs.Costs.{Clean, all_clean, true_false}
@@ -80,12 +80,12 @@ from_same i at j h = rw (le-ltb j i h)
 -- at the end there is no operand
 pub ended : (limit mark : ℕ) (at : ℕ → Place) (i : ℕ) → at i ≡ nothing → reading_of limit mark at i ≡ reading i 0 [] none
 unfolding reading_of run parse_operand holds
-ended limit mark at i there = let e : i + 0 ≡ i = omega arith in met_no any _ _ (at (i + 0)) (rw (e, there))
+ended limit mark at i there = let e : i + 0 ≡ i = omega arith in met_no any (λ k x. run (operand_from (setting_from limit mark k)) at i 0) (λ u. run (answer none) at i 0) (at (i + 0)) (rw (e, there))
 
 -- from a token on, the reading is that of `operand_from`
 pub started : (limit mark : ℕ) (at : ℕ → Place) (i : ℕ) (k : Token) (x : List ℕ) → at i ≡ stands k x → reading_of limit mark at i ≡ run (operand_from (setting_from limit mark k)) at i 0
 unfolding reading_of run parse_operand
-started limit mark at i k x there = let e : i + 0 ≡ i = omega arith in met_yes any _ _ (at (i + 0)) k x (rw e there) refl
+started limit mark at i k x there = let e : i + 0 ≡ i = omega arith in met_yes any (λ k x. run (operand_from (setting_from limit mark k)) at i 0) (λ u. run (answer none) at i 0) (at (i + 0)) k x (rw e there) refl
 
 module _ (limit : ℕ) (lim : 1 ≤ limit) (mark : ℕ) (at : ℕ → Place) (i : ℕ) (k : Token) (x : List ℕ) (there : at i ≡ stands k x)
     (quiet : (j : ℕ) (t : Token) (y : List ℕ) → i ≤ j → at j ≡ stands t y → eqb t.kind Kinds.error ≡ false) where

@@ -22,8 +22,8 @@ use Rattle.operand.specs.Costs.Absolutes.{finish_cost}
 
 module _ (at : ℕ → Place) (w : ℕ) (clean : Clean at w) where
   -- a reader that may start a full index has looked at the place behind the cursor
-  near : {v : Reader (Maybe Operand)} {m i l d s : ℕ} (r : ℕ) → s ≤ max r (i + 1) → Law v at (Left at w clean size_o 1 m 0 i d s) i l d s → All v at (Left at w clean size_o 1 m 0 i d r) i l d s
-  near r b h = call h λ j e s. elim [ some x ↦ omega arith | none ↦ omega arith ]
+  near : {v : Reader (Maybe Operand)} (m i l d s : ℕ) (r : ℕ) → s ≤ max r (i + 1) → Law v at (Left at w clean size_o 1 m 0 i d s) i l d s → All v at (Left at w clean size_o 1 m 0 i d r) i l d s
+  near m i l d s r b h = call h λ j e s. elim [ some x ↦ omega arith | none ↦ omega arith ]
 
   starts_cost : (z : Setting) (p q : Unit {0} → Reader (Maybe Operand)) (m i l d r : ℕ)
       → ((s : ℕ) → Law (p tt) at (Left at w clean size_o 1 m 0 i d s) i l d s) → ((s : ℕ) → Law (q tt) at (Left at w clean size_o 1 m 0 i d s) i l d s)
@@ -31,10 +31,10 @@ module _ (at : ℕ → Place) (w : ℕ) (clean : Clean at w) where
   unfolding All Operand.starts_a_full_index
   starts_cost z p q m i l d r f g = record {
     all = (
-      (λ t x h k. ((λ u y h₂ k₂. near r (omega arith) (f _)), λ n. near r (omega arith) (g _))),
+      (λ t x h k. ((λ u y h₂ k₂. near m i l d _ r (omega arith) (f _)), λ n. near m i l d _ r (omega arith) (g _))),
       λ n. (
-        (λ t x h k. ((λ u y h₂ k₂. near r (omega arith) (f _)), λ n₂. near r (omega arith) (g _))),
-        λ n₂. ((λ t x h k. ((λ u y h₂ k₂. near r (omega arith) (f _)), λ n₃. near r (omega arith) (g _))), λ n₃. near r (omega arith) (g _)),
+        (λ t x h k. ((λ u y h₂ k₂. near m i l d _ r (omega arith) (f _)), λ n₂. near m i l d _ r (omega arith) (g _))),
+        λ n₂. ((λ t x h k. ((λ u y h₂ k₂. near m i l d _ r (omega arith) (f _)), λ n₃. near m i l d _ r (omega arith) (g _))), λ n₃. near m i l d _ r (omega arith) (g _)),
       ),
     );
   }
@@ -46,10 +46,10 @@ module _ (at : ℕ → Place) (w : ℕ) (clean : Clean at w) where
   starts_base_cost p q m i l d r f g = record {
     all = (
       (λ t x h k. (
-        (λ u y h₂ k₂. ((λ v b h₃ k₃. near r (omega arith) (f _)), λ n. near r (omega arith) (g _))),
-        λ n. near r (omega arith) (f _),
+        (λ u y h₂ k₂. ((λ v b h₃ k₃. near m i l d _ r (omega arith) (f _)), λ n. near m i l d _ r (omega arith) (g _))),
+        λ n. near m i l d _ r (omega arith) (f _),
       )),
-      λ n. near r (omega arith) (g _),
+      λ n. near m i l d _ r (omega arith) (g _),
     );
   }
 

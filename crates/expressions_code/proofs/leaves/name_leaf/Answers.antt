@@ -1,0 +1,25 @@
+-- `expressions_code::leaves::name_leaf` meets its contract.
+-- Assumes nothing.
+use mathlib.Core.Path.{sym, ◌∙◌, ap}
+use mathlib.Core.List.{[]}
+use native.Mathlib.Omega.{arith}
+use Rattle.names.specs.Registers.{reserved}
+use Rattle.expressions_code.proofs.leaves.Returns.{name_reserved, name_read}
+use borrow.Author.Rules.{rules}
+use Rattle.expressions_code.proofs.leaves.name_leaf.Goals as goal
+
+pub report-requires : goal.report-requires
+report-requires c =
+    omega (arith, c.requires)
+
+pub returns-then-is_reserved_name : goal.returns-then-is_reserved_name
+returns-then-is_reserved_name c =
+    name_reserved _ _ _ _ [] (sym (c.is_reserved_name.ensures ∙ ap reserved c.text_of-text.ensures) ∙ c.if-is_reserved_name.true) c.span_of-span.ensures c.plain.ensures c.report.ensures
+
+pub read_leaf-requires : goal.read_leaf-requires
+read_leaf-requires c =
+    omega (arith, c.requires)
+
+pub returns : goal.returns
+returns c =
+    name_read _ _ _ _ [] (sym (c.is_reserved_name.ensures ∙ ap reserved c.text_of-text.ensures) ∙ c.if-is_reserved_name.false) c.span_of-span.ensures c.own.ensures c.read_leaf.ensures

@@ -1,0 +1,55 @@
+-- `expressions_code::leaves::parse_leaf` meets its contract.
+-- Assumes nothing.
+use mathlib.Core.Path.{refl}
+use native.Mathlib.Omega.{arith}
+use Rattle.expressions_code.proofs.leaves.Returns.{star_told, number_told, string_told, name_told, local_told, error_told, other_told}
+use borrow.Author.Rules.{rules}
+use Rattle.expressions_code.proofs.leaves.parse_leaf.Goals as goal
+
+pub read_leaf-requires : goal.read_leaf-requires
+read_leaf-requires c =
+    let h = c.step_over-e.ensures in rw h (omega (arith, c.requires.0))
+
+pub number_leaf-requires : goal.number_leaf-requires
+number_leaf-requires c =
+    let h = c.step_over-e.ensures in rw h (omega (arith, c.requires.0))
+
+pub read_leaf-requires-in-3 : goal.read_leaf-requires-in-3
+read_leaf-requires-in-3 c =
+    let h = c.step_over-e.ensures in rw h (omega (arith, c.requires.0))
+
+pub name_leaf-requires : goal.name_leaf-requires
+name_leaf-requires c =
+    let h = c.step_over-e.ensures in rw h (omega (arith, c.requires.0))
+
+pub read_leaf-requires-in-1 : goal.read_leaf-requires-in-1
+read_leaf-requires-in-1 c =
+    let h = c.step_over-e.ensures in rw h (omega (arith, c.requires.0))
+
+pub returns-in-16 : goal.returns-in-16
+returns-in-16 c =
+    star_told _ _ _ _ _ c.step_over-e.ensures c.span_of-span.ensures c.in-16.is c.read_leaf.ensures
+
+pub returns-in-2 : goal.returns-in-2
+returns-in-2 c =
+    number_told _ _ _ _ _ c.step_over-e.ensures c.in-2.is c.number_leaf.ensures
+
+pub returns-in-3 : goal.returns-in-3
+returns-in-3 c =
+    string_told _ _ _ _ _ c.step_over-e.ensures c.span_of-span.ensures c.own.ensures c.in-3.is refl c.read_leaf-in-3.ensures
+
+pub returns-in-0 : goal.returns-in-0
+returns-in-0 c =
+    name_told _ _ _ _ _ c.step_over-e.ensures c.in-0.is c.name_leaf.ensures
+
+pub returns-in-1 : goal.returns-in-1
+returns-in-1 c =
+    local_told _ _ _ _ _ c.step_over-e.ensures c.span_of-span.ensures c.own-in-1.ensures c.in-1.is refl c.read_leaf-in-1.ensures
+
+pub returns-in-29 : goal.returns-in-29
+returns-in-29 c =
+    error_told _ _ _ _ _ c.step_over-e.ensures c.in-29.is
+
+pub returns-in_default : goal.returns-in_default
+returns-in_default c =
+    other_told _ _ _ _ _ c.in_default.in_default-own.rest.0.0.0.0.0.1 c.in_default.in_default-own.rest.0.0.0.0.1 c.in_default.in_default-own.rest.0.0.0.1 c.in_default.in_default-own.rest.0.0.1 c.in_default.in_default-own.rest.0.1 c.in_default.in_default-own.rest.1

@@ -1,0 +1,12 @@
+-- `expressions_code::leaves::put_operator` meets its contract.
+-- Assumes nothing.
+use mathlib.Core.Path.{refl}
+use Rattle.records.specs.Nodes.{words}
+use Rattle.records.specs.Written.{put_told}
+use borrow.Author.Rules.{rules}
+use Rattle.expressions_code.proofs.leaves.put_operator.Goals as goal
+
+pub returns : goal.returns
+unfolding words
+returns c =
+    record { at = refl; end = refl; seen = refl; put = put_told _ _ _ _ c.requires refl c.put_node.ensures }
