@@ -1,0 +1,33 @@
+-- `decoding::tokens::good_tokens` meets its contract. The loop's invariant: the tokens looked at and those left together are good just where all are.
+-- Assumes nothing.
+use mathlib.Core.Path.{◌≡◌, refl, sym, ◌∙◌}
+use Prim.Native.Nat.{◌-◌, ◌*◌}
+use native.Mathlib.Omega.{arith}
+use lib.ListN.{drop}
+use Rattle.names.specs.Choice.{both}
+use Rattle.names.specs.Tokens.{count}
+use Rattle.operand.specs.Entry.{good_tokens}
+use Rattle.operand.specs.Listed.{token_below}
+use Rattle.decoding.proofs.tokens.Decoding.{one_good, all_good}
+use borrow.Author.Rules.{rules}
+use Rattle.decoding.proofs.tokens.good_tokens.Goals as goal
+
+pub loop-token-init : goal.loop-token-init
+loop-token-init c =
+    refl
+
+pub overflow_add-i : goal.overflow_add-i
+overflow_add-i c =
+    omega (arith, (token_below _ _ _ (sym c.token_at.ensures ∙ c.in-Is.is)).0)
+
+pub loop-token-smaller : goal.loop-token-smaller
+loop-token-smaller c =
+    omega (arith, (token_below _ _ _ (sym c.token_at.ensures ∙ c.in-Is.is)).0)
+
+pub loop-token-preserved : goal.loop-token-preserved
+loop-token-preserved c =
+    one_good c.args.line.now c.args.numbers.now c.loop-token.i _ (sym c.token_at.ensures ∙ c.in-Is.is) c.loop-token.good c.good_token.result c.both-good.result c.loop-token.last c.good_token.ensures c.both-good.ensures ∙ c.loop-token.invariant
+
+pub returns : goal.returns
+returns c =
+    all_good c.args.line.now c.args.numbers.now c.loop-token.i _ c.loop-token.last (sym c.token_at.ensures ∙ c.in_default.is) c.loop-token.invariant

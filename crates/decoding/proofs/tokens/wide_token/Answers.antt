@@ -1,0 +1,11 @@
+-- `decoding::tokens::wide_token` meets its contract.
+-- Assumes nothing.
+use Prim.Native.Nat.{◌+◌, ◌*◌}
+use native.Mathlib.Omega.{arith}
+use Rattle.decoding.proofs.tokens.Decoding.{wide_token}
+use borrow.Author.Rules.{rules}
+use Rattle.decoding.proofs.tokens.wide_token.Goals as goal
+
+pub returns : goal.returns
+returns c =
+    rw (c.joined-start.ensures, c.joined-end.ensures) (wide_token c.args.tokens.now c.args.i (omega arith))

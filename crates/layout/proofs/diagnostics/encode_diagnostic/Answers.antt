@@ -1,0 +1,12 @@
+-- `layout::diagnostics::encode_diagnostic` meets its contract.
+-- Assumes nothing.
+use borrow.Author.Rules.{rules}
+use Rattle.layout.proofs.diagnostics.encode_diagnostic.Goals as goal
+
+pub returns-in-Narrow : goal.returns-in-Narrow
+returns-in-Narrow c =
+    rw (c.in-Narrow.is, ← c.narrow_record-record.ensures) c.write.ensures
+
+pub returns-in-Wide : goal.returns-in-Wide
+returns-in-Wide c =
+    rw (c.in-Wide.is, ← c.wide_record-record.ensures) c.write-in-Wide.ensures

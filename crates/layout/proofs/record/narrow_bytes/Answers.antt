@@ -1,0 +1,9 @@
+-- `layout::record::narrow_bytes` meets its contract.
+-- Assumes nothing.
+use Rattle.layout.proofs.record.Parts.{narrow_record}
+use borrow.Author.Rules.{rules}
+use Rattle.layout.proofs.record.narrow_bytes.Goals as goal
+
+pub returns : goal.returns
+returns c =
+    narrow_record _ _ c.requires

@@ -1,0 +1,18 @@
+-- `refusals::refusals::crowded` meets its contract.
+-- Assumes nothing.
+use mathlib.Core.Path.{sym}
+use Prim.Native.Nat.{◌+◌, ◌-◌, ◌/◌}
+use native.Mathlib.Omega.{arith}
+use borrow.Author.Tests.{lt-ltb}
+use Rattle.operand.specs.Layouts.{diagnostic_size, free_records}
+use Rattle.refusals.proofs.refusals.Checks.{as_less}
+use borrow.Author.Rules.{rules}
+use Rattle.refusals.proofs.refusals.crowded.Goals as goal
+
+pub returns-then-records-free : goal.returns-then-records-free
+returns-then-records-free c =
+    sym (lt-ltb (c.args.bytes / diagnostic_size c.args.layout) (c.args.used + free_records c.args.layout) (omega (arith, c.diagnostic_count-records.ensures, c.free_records-free.ensures)))
+
+pub returns : goal.returns
+returns c =
+    as_less (c.diagnostic_count-records.result - c.free_records-free.result) c.args.used (c.args.bytes / diagnostic_size c.args.layout) (c.args.used + free_records c.args.layout) (λ h. omega (arith, c.diagnostic_count-records.ensures, c.free_records-free.ensures)) (λ h. omega (arith, c.diagnostic_count-records.ensures, c.free_records-free.ensures))

@@ -1,0 +1,16 @@
+-- `refusals::refusals::out_of_range` meets its contract.
+-- Assumes nothing.
+use native.Mathlib.Omega.{arith}
+use borrow.Author.Tests.{lt-ltb, le-ltb}
+use Rattle.operand.specs.Entry.{highest_limit}
+use Rattle.refusals.proofs.refusals.out_of_range.Goals as goal
+
+pub returns-then-limit-lt1 : goal.returns-then-limit-lt1
+unfolding highest_limit
+returns-then-limit-lt1 c =
+    rw (lt-ltb c.args.limit 1 (omega (arith, c.if-limit-lt1.true)))
+
+pub returns : goal.returns
+unfolding highest_limit
+returns c =
+    rw (le-ltb c.args.limit 1 (omega (arith, c.if-limit-lt1.false)))
