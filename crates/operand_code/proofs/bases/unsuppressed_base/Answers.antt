@@ -1,0 +1,23 @@
+-- `operand_code::bases::unsuppressed_base` meets its contract.
+-- Assumes nothing.
+use mathlib.Core.Path.{sym, ◌∙◌, ap}
+use Rattle.operand.specs.declared.forms.BaseRegister.{BaseRegister}
+use Rattle.operand_code.specs.Bases.{unsuppressed_base}
+use Rattle.operand_code.proofs.lookahead.Names.{address_hit, address_miss}
+use borrow.Author.Rules.{rules}
+use Rattle.operand_code.proofs.bases.unsuppressed_base.Goals as goal
+
+pub returns-in-Is : goal.returns-in-Is
+unfolding unsuppressed_base
+returns-in-Is c =
+    let h = address_hit _ _ (sym c.address_register_at-r.ensures ∙ c.in-Is.is) in rw h.0 (ap BaseRegister.Address (c.register_of.ensures ∙ sym h.1))
+
+pub returns-then-program_counter_at : goal.returns-then-program_counter_at
+unfolding unsuppressed_base
+returns-then-program_counter_at c =
+    rw (address_miss _ _ (sym c.address_register_at-r.ensures ∙ c.in_default.is), sym c.program_counter_at.ensures ∙ c.if-program_counter_at.true)
+
+pub returns : goal.returns
+unfolding unsuppressed_base
+returns c =
+    rw (address_miss _ _ (sym c.address_register_at-r.ensures ∙ c.in_default.is), sym c.program_counter_at.ensures ∙ c.if-program_counter_at.false)

@@ -1,0 +1,61 @@
+-- `operand_code::memory::parse_memory_indirect` meets its contract.
+-- Assumes nothing.
+use mathlib.Core.Path.{sym, ◌∙◌, ap}
+use native.Mathlib.Omega.{arith}
+use borrow.Author.Tests.{eq-eqb, ne_eqb}
+use Rattle.names.specs.Kinds
+use Rattle.operand.specs.Operand.{parse_memory_indirect, or_none}
+use Rattle.operand.specs.Forms.{operand_read}
+use Rattle.operand_code.specs.Operands.{HeldBy}
+use Rattle.operand_code.specs.Memory.{inner_of}
+use Rattle.names.specs.Places.{live}
+use Rattle.records.specs.Problems
+use Rattle.records.specs.Shapes
+use Rattle.expressions.specs.Paths.{held_as, answered, bound, hit, miss, done}
+use Rattle.operand_code.proofs.malformed.Failures.{failed_unclosed}
+use Rattle.operand_code.proofs.memory.Inners.{node_step, inner_room, inner_is, inner_not, stored_on, stored_first}
+use borrow.Author.Rules.{rules}
+use Rattle.operand_code.proofs.memory.parse_memory_indirect.Goals as goal
+
+pub returns-in_default : goal.returns-in_default
+unfolding parse_memory_indirect or_none operand_read HeldBy
+returns-in_default c =
+    record { told = bound c.parse_inner-r.ensures.told (inner_not _ _ (sym c.parse_inner-r.ensures.told.what ∙ c.in_default.is)) (answered c.no_operand.ensures.0 c.no_operand.ensures.1 tt) }
+
+pub unclosed-requires : goal.unclosed-requires
+unclosed-requires c =
+    let c_read = c.before.before.before.before.before.before.read in
+    omega (arith, (inner_room _ c.requires.0 c.parse_inner-r.ensures (inner_is _ _ (sym c.parse_inner-r.ensures.told.what ∙ c_read.given.1)).is (omega (arith, c.parse_inner-r.auto))).room)
+
+pub unclosed-requires-then-t-ne-RIGHT_BRACKET : goal.unclosed-requires-then-t-ne-RIGHT_BRACKET
+unclosed-requires-then-t-ne-RIGHT_BRACKET c =
+    let c_read = c.before.before.before.before.before.before.before.before.before.read in
+    omega (arith, (inner_room _ c.requires.0 c.parse_inner-r.ensures (inner_is _ _ (sym c.parse_inner-r.ensures.told.what ∙ c_read.given.1)).is (omega (arith, c.parse_inner-r.auto))).room)
+
+pub returns-then-t-ne-RIGHT_BRACKET : goal.returns-then-t-ne-RIGHT_BRACKET
+unfolding parse_memory_indirect or_none operand_read HeldBy
+returns-then-t-ne-RIGHT_BRACKET c =
+    let c_read = c.before.before.before.before.before.before.before.before.before.before.before.before.before.read in
+    record { told = bound c.parse_inner-r.ensures.told (inner_is _ _ (sym c.parse_inner-r.ensures.told.what ∙ c_read.given.1)).is (miss (sym c.token_at-p.ensures ∙ c.in-Is-p.is) (ne_eqb _ Kinds.right_bracket c.if-t-ne-RIGHT_BRACKET.true) (failed_unclosed _ _ Shapes.memory_indirect Problems.bracket_missing c.unclosed-then-t-ne-RIGHT_BRACKET.ensures c.no_operand-then-t-ne-RIGHT_BRACKET.ensures.0 c.no_operand-then-t-ne-RIGHT_BRACKET.ensures.1 tt)) }
+
+pub step_over-f-requires : goal.step_over-f-requires
+step_over-f-requires c =
+    let c_read = c.before.before.before.before.before.before.before.before.read in
+    omega (arith, (inner_room _ c.requires.0 c.parse_inner-r.ensures (inner_is _ _ (sym c.parse_inner-r.ensures.told.what ∙ c_read.given.1)).is (omega (arith, c.parse_inner-r.auto))).room, live _ _ _ (sym c.token_at-p.ensures ∙ c.in-Is-p.is))
+
+pub after_inner-requires : goal.after_inner-requires
+after_inner-requires c =
+    let c_read = c.before.before.before.before.before.before.before.before.before.before.before.read in
+    node_step (inner_room _ c.requires.0 c.parse_inner-r.ensures (inner_is _ _ (sym c.parse_inner-r.ensures.told.what ∙ c_read.given.1)).is (omega (arith, c.parse_inner-r.auto))) (sym c.token_at-p.ensures ∙ c.in-Is-p.is) c.step_over-f.ensures
+
+pub returns-in-End : goal.returns-in-End
+unfolding parse_memory_indirect or_none operand_read HeldBy
+returns-in-End c =
+    let c_read = c.before.before.before.before.before.before.before.before.before.before.read in
+    record { told = bound c.parse_inner-r.ensures.told (inner_is _ _ (sym c.parse_inner-r.ensures.told.what ∙ c_read.given.1)).is (done (sym c.token_at-p.ensures ∙ c.in-End.is) (failed_unclosed _ _ Shapes.memory_indirect Problems.bracket_missing c.unclosed.ensures c.no_operand-in-End.ensures.0 c.no_operand-in-End.ensures.1 tt)) }
+
+pub returns-else-t-ne-RIGHT_BRACKET : goal.returns-else-t-ne-RIGHT_BRACKET
+unfolding parse_memory_indirect or_none operand_read HeldBy
+returns-else-t-ne-RIGHT_BRACKET c =
+    let c_read = c.before.before.before.before.before.before.before.before.before.before.before.before.before.before.before.before.read in
+    record { told = bound c.parse_inner-r.ensures.told (inner_is _ _ (sym c.parse_inner-r.ensures.told.what ∙ c_read.given.1)).is (hit (sym c.token_at-p.ensures ∙ c.in-Is-p.is) (eq-eqb _ Kinds.right_bracket c.if-t-ne-RIGHT_BRACKET.false) c.step_over-f.ensures (c.after_inner.ensures.told (inner_is _ _ (sym c.parse_inner-r.ensures.told.what ∙ c_read.given.1)).part (ap (λ m. inner_of m (inner_is _ _ (sym c.parse_inner-r.ensures.told.what ∙ c_read.given.1)).part) (sym c.requires.1) ∙ (inner_is _ _ (sym c.parse_inner-r.ensures.told.what ∙ c_read.given.1)).form) (stored_on (stored_first c.requires.1 (held_as c.parse_inner-r.ensures.told (inner_is _ _ (sym c.parse_inner-r.ensures.told.what ∙ c_read.given.1)).is)) (ap (λ z. z.nodes) c.step_over-f.ensures)))) }
