@@ -2,12 +2,8 @@
 -- Assumes nothing.
 use mathlib.Core.Path.{◌≡◌, refl, sym, ◌∙◌, ap}
 use mathlib.Core.Bool.{Bool, true, false}
-use mathlib.Core.Logic.{inl, inr}
 use mathlib.Core.List.{List, [], ◌∷◌}
 use Prim.Native.Nat.{ℕ}
-use native.Mathlib.Omega.{arith}
-use denote.Enum.Declared
-use types.Run.{OneOf}
 use Rattle.names.specs.Places.{text_of}
 use Rattle.names.specs.Choice.{pick}
 use Rattle.names.specs.Tokens.{token_at}
@@ -22,7 +18,6 @@ use Rattle.operand.specs.Operand.{an_address_register, a_program_counter, regist
 use Rattle.operand.specs.Forms.{sized_of}
 use Rattle.operand.specs.declared.forms.Register.{Register}
 use Rattle.operand.specs.declared.forms.BaseRegister.{BaseRegister}
-use Rattle.operand.specs.contracts.forms.BaseRegister as bases
 use Rattle.operand.specs.declared.forms.SizedDisplacement.{SizedDisplacement}
 use Rattle.expressions.specs.Told.{Told}
 use Rattle.operand_code.specs.Operands.{Plain}
@@ -31,15 +26,12 @@ use Rattle.operand_code.specs.Bases.{address_or, unsuppressed_base, is_unsuppres
 use Rattle.expressions.specs.Paths.{hit, miss}
 use Rattle.operand_code.proofs.bases.Tails.{index_plain, counter_plain}
 
--- a base that is no address register, by its variant's place
+-- a base that is no address register
 abbrev Other : BaseRegister → Type 0
-Other b = OneOf (1 ∷ 2 ∷ 3 ∷ 4 ∷ []) (Declared.tag_of bases.the_type b)
+Other b = (r : Register) → b ≡ BaseRegister.Address r → ⊥
 
 no_other : (r : Register) → Other (BaseRegister.Address r) → ⊥
-no_other r (inl e) = omega (arith, e)
-no_other r (inr (inl e)) = omega (arith, e)
-no_other r (inr (inr (inl e))) = omega (arith, e)
-no_other r (inr (inr (inr e))) = omega (arith, e)
+no_other r h = h r refl
 
 pub other_is : {A : Type 0} (a c : A) (b : BaseRegister) → Other b → c ≡ address_or a c b
 other_is a c (BaseRegister.Address r) h = absurd (no_other r h)

@@ -101,7 +101,7 @@ unfolding run take_size_suffix
 size_passed from {L = L} {T = T} {c = c} {k = k} h t =
     let x = text_of L k.start k.end in
     t.at
-    ∙ ap (λ (r : Reading Suffix). r.cursor) (met_yes (is Kinds.size_suffix) _ _ (place L T c.at) k x (there L T c.at k h.stands) (eq-eqb _ Kinds.size_suffix h.kind))
+    ∙ ap (λ (r : Reading Suffix). r.cursor) (met_yes (is Kinds.size_suffix) (λ k x. run (suffix_run from k (run_of x)) (place L T) (c.at + 1) k.end) (λ u. run (answer bare) (place L T) c.at c.end) (place L T c.at) k x (there L T c.at k h.stands) (eq-eqb _ Kinds.size_suffix h.kind))
     ∙ run_stays from k (run_of x) (place L T) (c.at + 1) k.end
 
 -- ---- an immediate or an absolute address: the tree that the last records hold

@@ -49,8 +49,7 @@ unclosed-requires-in_default-kind c =
 pub returns-in-8 : goal.returns-in-8
 unfolding behind_base operand_read
 returns-in-8 c =
-    let c_Closed = c.before.before.closed in
-    record { told = λ y e z. hit (sym c.token_at-p.ensures ∙ c.in-Is.is) (eq-eqb _ Kinds.right_paren c.in-8.is) c.step_over.ensures (kept_from y (ap (λ w. w.nodes) c.step_over.ensures) ((c_Closed.ensures _).told y e z)) }
+    record { told = λ y e z. hit (sym c.token_at-p.ensures ∙ c.in-Is.is) (eq-eqb _ Kinds.right_paren c.in-8.is) c.step_over.ensures (kept_from y (ap (λ w. w.nodes) c.step_over.ensures) ((c.closed.ensures _).told y e z)) }
 
 pub returns-in-6 : goal.returns-in-6
 unfolding behind_base operand_read

@@ -22,4 +22,4 @@ closed_counter-requires c =
 
 pub returns : goal.returns
 returns c =
-    λ L. record { told = λ y e z. renamed (other_closed _ _ y _ c.in_default.in_default-own.keys2) ((c.closed_counter.ensures _ _).told y e z) }
+    λ L. record { told = λ y e z. renamed (other_closed _ _ y _ c.in_default.not-Address) ((c.closed_counter.ensures _ _).told y e z) }

@@ -13,4 +13,4 @@ returns-in-Address c =
 pub returns : goal.returns
 unfolding index_shape
 returns c =
-    other_is 6 8 c.args.base c.in_default.in_default-own.keys2
+    other_is 6 8 c.args.base c.in_default.not-Address

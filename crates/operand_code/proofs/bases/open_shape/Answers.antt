@@ -14,4 +14,4 @@ returns-in-Address c =
 pub returns : goal.returns
 unfolding open_shape
 returns c =
-    λ y e. other_is (base_shape y) 7 c.args.base c.in_default.in_default-own.keys2
+    λ y e. other_is (base_shape y) 7 c.args.base c.in_default.not-Address

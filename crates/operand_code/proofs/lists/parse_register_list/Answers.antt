@@ -23,40 +23,32 @@ returns-in_default c =
 
 pub range_bits-mask-requires : goal.range_bits-mask-requires
 range_bits-mask-requires c =
-    let c_read = c.before.read in
-    omega (arith, item_behind c.loop-item.r c.list_item-i.ensures c_read.given.1)
+    omega (arith, item_behind c.loop-item.r c.list_item-i.ensures c.in-Is.is)
 
 pub put_item-e-requires : goal.put_item-e-requires
 put_item-e-requires c =
-    let c_read = c.before.before.before.read in
-    omega (arith, item_behind c.loop-item.r c.list_item-i.ensures c_read.given.1, c.loop-item.invariant, c.requires)
+    omega (arith, item_behind c.loop-item.r c.list_item-i.ensures c.in-Is.is, c.loop-item.invariant, c.requires)
 
 pub step_over-requires : goal.step_over-requires
 step_over-requires c =
-    let c_read = c.before.before.before.before.before.before.before.before.before.before.before.before.read in
-    omega (arith, (reached c.loop-item.invariant c.list_item-i.ensures c_read.given.1 (omega (arith, c.list_item-i.auto)) c.put_item-e.ensures c.range_bits-mask.ensures).room)
+    omega (arith, (reached c.loop-item.invariant c.list_item-i.ensures c.in-Is.is (omega (arith, c.list_item-i.auto)) c.put_item-e.ensures c.range_bits-mask.ensures).room)
 
 pub expect_register-q-requires : goal.expect_register-q-requires
 expect_register-q-requires c =
-    let c_read = c.before.before.before.before.before.before.before.before.before.before.before.before.before.read in
-    room_behind (reached c.loop-item.invariant c.list_item-i.ensures c_read.given.1 (omega (arith, c.list_item-i.auto)) c.put_item-e.ensures c.range_bits-mask.ensures).room (slash_is _ _ (sym c.in-Is-slash_at.is ∙ c.slash_at.ensures)).0 c.step_over.ensures
+    room_behind (reached c.loop-item.invariant c.list_item-i.ensures c.in-Is.is (omega (arith, c.list_item-i.auto)) c.put_item-e.ensures c.range_bits-mask.ensures).room (slash_is _ _ (sym c.in-Is-slash_at.is ∙ c.slash_at.ensures)).0 c.step_over.ensures
 
 pub returns-in_default-register : goal.returns-in_default-register
 returns-in_default-register c =
-    let c_read = c.before.before.before.before.before.before.before.before.before.before.before.before.before.before.before.before.before.before.before.before.read in
-    ends_expected (reached c.loop-item.invariant c.list_item-i.ensures c_read.given.1 (omega (arith, c.list_item-i.auto)) c.put_item-e.ensures c.range_bits-mask.ensures) (sym c.in-Is-slash_at.is ∙ c.slash_at.ensures) c.step_over.ensures c.expect_register-q.ensures c.in_default-register.is c.no_operand-in_default-register.ensures
+    ends_expected (reached c.loop-item.invariant c.list_item-i.ensures c.in-Is.is (omega (arith, c.list_item-i.auto)) c.put_item-e.ensures c.range_bits-mask.ensures) (sym c.in-Is-slash_at.is ∙ c.slash_at.ensures) c.step_over.ensures c.expect_register-q.ensures c.in_default-register.is c.no_operand-in_default-register.ensures
 
 pub loop-item-smaller : goal.loop-item-smaller
 loop-item-smaller c =
-    let c_read = c.before.before.before.before.before.before.before.before.before.before.before.before.before.before.before.before.before.before.before.before.read in
-    omega (arith, item_behind c.loop-item.r c.list_item-i.ensures c_read.given.1, c.put_item-e.ensures, ap (λ z. z.at) c.step_over.ensures, found_at c.expect_register-q.ensures c.in-Is-register.is)
+    omega (arith, item_behind c.loop-item.r c.list_item-i.ensures c.in-Is.is, c.put_item-e.ensures, ap (λ z. z.at) c.step_over.ensures, found_at c.expect_register-q.ensures c.in-Is-register.is)
 
 pub loop-item-preserved : goal.loop-item-preserved
 loop-item-preserved c =
-    let c_read = c.before.before.before.before.before.before.before.before.before.before.before.before.before.before.before.before.before.before.before.before.read in
-    again (reached c.loop-item.invariant c.list_item-i.ensures c_read.given.1 (omega (arith, c.list_item-i.auto)) c.put_item-e.ensures c.range_bits-mask.ensures) (sym c.in-Is-slash_at.is ∙ c.slash_at.ensures) c.step_over.ensures c.expect_register-q.ensures c.in-Is-register.is (omega (arith, c.put_item-e.auto, c.loop-item.invariant)) (omega (arith, c.list_item-i.auto, c.expect_register-q.auto, c.loop-item.invariant))
+    again (reached c.loop-item.invariant c.list_item-i.ensures c.in-Is.is (omega (arith, c.list_item-i.auto)) c.put_item-e.ensures c.range_bits-mask.ensures) (sym c.in-Is-slash_at.is ∙ c.slash_at.ensures) c.step_over.ensures c.expect_register-q.ensures c.in-Is-register.is (omega (arith, c.put_item-e.auto, c.loop-item.invariant)) (omega (arith, c.list_item-i.auto, c.expect_register-q.auto, c.loop-item.invariant))
 
 pub returns : goal.returns
 returns c =
-    let c_read = c.before.before.before.before.before.before.before.before.before.before.before.read in
-    ends (reached c.loop-item.invariant c.list_item-i.ensures c_read.given.1 (omega (arith, c.list_item-i.auto)) c.put_item-e.ensures c.range_bits-mask.ensures) (sym c.in_default-slash_at.is ∙ c.slash_at.ensures) c.listed.ensures
+    ends (reached c.loop-item.invariant c.list_item-i.ensures c.in-Is.is (omega (arith, c.list_item-i.auto)) c.put_item-e.ensures c.range_bits-mask.ensures) (sym c.in_default-slash_at.is ∙ c.slash_at.ensures) c.listed.ensures

@@ -12,8 +12,7 @@ use Rattle.operand_code.proofs.memory.after_inner.Goals as goal
 
 pub close_indirect-requires : goal.close_indirect-requires
 close_indirect-requires c =
-    let c_read = c.before.before.read in
-    (outer_room _ _ c.requires c.parse_outer-u.ensures (outer_is _ _ (sym c.parse_outer-u.ensures.told.what ∙ c_read.given.1)).is (omega (arith, c.parse_outer-u.auto))).room
+    (outer_room _ _ c.requires c.parse_outer-u.ensures (outer_is _ _ (sym c.parse_outer-u.ensures.told.what ∙ c.in-Is.is)).is (omega (arith, c.parse_outer-u.auto))).room
 
 pub returns-in-Not : goal.returns-in-Not
 unfolding or_none operand_read HeldBy
@@ -23,5 +22,4 @@ returns-in-Not c =
 pub returns-in-Is : goal.returns-in-Is
 unfolding or_none operand_read HeldBy
 returns-in-Is c =
-    let c_read = c.before.before.before.before.before.read in
-    record { told = λ x a st. bound (outer_of_lem _ x a c.parse_outer-u.ensures).told (outer_is _ _ (sym (outer_of_lem _ x a c.parse_outer-u.ensures).told.what ∙ c_read.given.1)).is (operand_behind x (outer_is _ _ (sym (outer_of_lem _ x a c.parse_outer-u.ensures).told.what ∙ c_read.given.1)).part a (outer_is _ _ (sym (outer_of_lem _ x a c.parse_outer-u.ensures).told.what ∙ c_read.given.1)).form st (held_as (outer_of_lem _ x a c.parse_outer-u.ensures).told (outer_is _ _ (sym (outer_of_lem _ x a c.parse_outer-u.ensures).told.what ∙ c_read.given.1)).is) c.close_indirect.ensures) }
+    record { told = λ x a st. bound (outer_of_lem _ x a c.parse_outer-u.ensures).told (outer_is _ _ (sym (outer_of_lem _ x a c.parse_outer-u.ensures).told.what ∙ c.in-Is.is)).is (operand_behind x (outer_is _ _ (sym (outer_of_lem _ x a c.parse_outer-u.ensures).told.what ∙ c.in-Is.is)).part a (outer_is _ _ (sym (outer_of_lem _ x a c.parse_outer-u.ensures).told.what ∙ c.in-Is.is)).form st (held_as (outer_of_lem _ x a c.parse_outer-u.ensures).told (outer_is _ _ (sym (outer_of_lem _ x a c.parse_outer-u.ensures).told.what ∙ c.in-Is.is)).is) c.close_indirect.ensures) }

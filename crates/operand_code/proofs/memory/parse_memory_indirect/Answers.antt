@@ -24,38 +24,31 @@ returns-in_default c =
 
 pub unclosed-requires : goal.unclosed-requires
 unclosed-requires c =
-    let c_read = c.before.before.before.before.before.before.read in
-    omega (arith, (inner_room _ c.requires.0 c.parse_inner-r.ensures (inner_is _ _ (sym c.parse_inner-r.ensures.told.what ∙ c_read.given.1)).is (omega (arith, c.parse_inner-r.auto))).room)
+    omega (arith, (inner_room _ c.requires.0 c.parse_inner-r.ensures (inner_is _ _ (sym c.parse_inner-r.ensures.told.what ∙ c.in-Is.is)).is (omega (arith, c.parse_inner-r.auto))).room)
 
 pub unclosed-requires-then-t-ne-RIGHT_BRACKET : goal.unclosed-requires-then-t-ne-RIGHT_BRACKET
 unclosed-requires-then-t-ne-RIGHT_BRACKET c =
-    let c_read = c.before.before.before.before.before.before.before.before.before.read in
-    omega (arith, (inner_room _ c.requires.0 c.parse_inner-r.ensures (inner_is _ _ (sym c.parse_inner-r.ensures.told.what ∙ c_read.given.1)).is (omega (arith, c.parse_inner-r.auto))).room)
+    omega (arith, (inner_room _ c.requires.0 c.parse_inner-r.ensures (inner_is _ _ (sym c.parse_inner-r.ensures.told.what ∙ c.in-Is.is)).is (omega (arith, c.parse_inner-r.auto))).room)
 
 pub returns-then-t-ne-RIGHT_BRACKET : goal.returns-then-t-ne-RIGHT_BRACKET
 unfolding parse_memory_indirect or_none operand_read HeldBy
 returns-then-t-ne-RIGHT_BRACKET c =
-    let c_read = c.before.before.before.before.before.before.before.before.before.before.before.before.before.read in
-    record { told = bound c.parse_inner-r.ensures.told (inner_is _ _ (sym c.parse_inner-r.ensures.told.what ∙ c_read.given.1)).is (miss (sym c.token_at-p.ensures ∙ c.in-Is-p.is) (ne_eqb _ Kinds.right_bracket c.if-t-ne-RIGHT_BRACKET.true) (failed_unclosed _ _ Shapes.memory_indirect Problems.bracket_missing c.unclosed-then-t-ne-RIGHT_BRACKET.ensures c.no_operand-then-t-ne-RIGHT_BRACKET.ensures.0 c.no_operand-then-t-ne-RIGHT_BRACKET.ensures.1 tt)) }
+    record { told = bound c.parse_inner-r.ensures.told (inner_is _ _ (sym c.parse_inner-r.ensures.told.what ∙ c.in-Is.is)).is (miss (sym c.token_at-p.ensures ∙ c.in-Is-p.is) (ne_eqb _ Kinds.right_bracket c.if-t-ne-RIGHT_BRACKET.true) (failed_unclosed _ _ Shapes.memory_indirect Problems.bracket_missing c.unclosed-then-t-ne-RIGHT_BRACKET.ensures c.no_operand-then-t-ne-RIGHT_BRACKET.ensures.0 c.no_operand-then-t-ne-RIGHT_BRACKET.ensures.1 tt)) }
 
 pub step_over-f-requires : goal.step_over-f-requires
 step_over-f-requires c =
-    let c_read = c.before.before.before.before.before.before.before.before.read in
-    omega (arith, (inner_room _ c.requires.0 c.parse_inner-r.ensures (inner_is _ _ (sym c.parse_inner-r.ensures.told.what ∙ c_read.given.1)).is (omega (arith, c.parse_inner-r.auto))).room, live _ _ _ (sym c.token_at-p.ensures ∙ c.in-Is-p.is))
+    omega (arith, (inner_room _ c.requires.0 c.parse_inner-r.ensures (inner_is _ _ (sym c.parse_inner-r.ensures.told.what ∙ c.in-Is.is)).is (omega (arith, c.parse_inner-r.auto))).room, live _ _ _ (sym c.token_at-p.ensures ∙ c.in-Is-p.is))
 
 pub after_inner-requires : goal.after_inner-requires
 after_inner-requires c =
-    let c_read = c.before.before.before.before.before.before.before.before.before.before.before.read in
-    node_step (inner_room _ c.requires.0 c.parse_inner-r.ensures (inner_is _ _ (sym c.parse_inner-r.ensures.told.what ∙ c_read.given.1)).is (omega (arith, c.parse_inner-r.auto))) (sym c.token_at-p.ensures ∙ c.in-Is-p.is) c.step_over-f.ensures
+    node_step (inner_room _ c.requires.0 c.parse_inner-r.ensures (inner_is _ _ (sym c.parse_inner-r.ensures.told.what ∙ c.in-Is.is)).is (omega (arith, c.parse_inner-r.auto))) (sym c.token_at-p.ensures ∙ c.in-Is-p.is) c.step_over-f.ensures
 
 pub returns-in-End : goal.returns-in-End
 unfolding parse_memory_indirect or_none operand_read HeldBy
 returns-in-End c =
-    let c_read = c.before.before.before.before.before.before.before.before.before.before.read in
-    record { told = bound c.parse_inner-r.ensures.told (inner_is _ _ (sym c.parse_inner-r.ensures.told.what ∙ c_read.given.1)).is (done (sym c.token_at-p.ensures ∙ c.in-End.is) (failed_unclosed _ _ Shapes.memory_indirect Problems.bracket_missing c.unclosed.ensures c.no_operand-in-End.ensures.0 c.no_operand-in-End.ensures.1 tt)) }
+    record { told = bound c.parse_inner-r.ensures.told (inner_is _ _ (sym c.parse_inner-r.ensures.told.what ∙ c.in-Is.is)).is (done (sym c.token_at-p.ensures ∙ c.in-End.is) (failed_unclosed _ _ Shapes.memory_indirect Problems.bracket_missing c.unclosed.ensures c.no_operand-in-End.ensures.0 c.no_operand-in-End.ensures.1 tt)) }
 
 pub returns-else-t-ne-RIGHT_BRACKET : goal.returns-else-t-ne-RIGHT_BRACKET
 unfolding parse_memory_indirect or_none operand_read HeldBy
 returns-else-t-ne-RIGHT_BRACKET c =
-    let c_read = c.before.before.before.before.before.before.before.before.before.before.before.before.before.before.before.before.read in
-    record { told = bound c.parse_inner-r.ensures.told (inner_is _ _ (sym c.parse_inner-r.ensures.told.what ∙ c_read.given.1)).is (hit (sym c.token_at-p.ensures ∙ c.in-Is-p.is) (eq-eqb _ Kinds.right_bracket c.if-t-ne-RIGHT_BRACKET.false) c.step_over-f.ensures (c.after_inner.ensures.told (inner_is _ _ (sym c.parse_inner-r.ensures.told.what ∙ c_read.given.1)).part (ap (λ m. inner_of m (inner_is _ _ (sym c.parse_inner-r.ensures.told.what ∙ c_read.given.1)).part) (sym c.requires.1) ∙ (inner_is _ _ (sym c.parse_inner-r.ensures.told.what ∙ c_read.given.1)).form) (stored_on (stored_first c.requires.1 (held_as c.parse_inner-r.ensures.told (inner_is _ _ (sym c.parse_inner-r.ensures.told.what ∙ c_read.given.1)).is)) (ap (λ z. z.nodes) c.step_over-f.ensures)))) }
+    record { told = bound c.parse_inner-r.ensures.told (inner_is _ _ (sym c.parse_inner-r.ensures.told.what ∙ c.in-Is.is)).is (hit (sym c.token_at-p.ensures ∙ c.in-Is-p.is) (eq-eqb _ Kinds.right_bracket c.if-t-ne-RIGHT_BRACKET.false) c.step_over-f.ensures (c.after_inner.ensures.told (inner_is _ _ (sym c.parse_inner-r.ensures.told.what ∙ c.in-Is.is)).part (ap (λ m. inner_of m (inner_is _ _ (sym c.parse_inner-r.ensures.told.what ∙ c.in-Is.is)).part) (sym c.requires.1) ∙ (inner_is _ _ (sym c.parse_inner-r.ensures.told.what ∙ c.in-Is.is)).form) (stored_on (stored_first c.requires.1 (held_as c.parse_inner-r.ensures.told (inner_is _ _ (sym c.parse_inner-r.ensures.told.what ∙ c.in-Is.is)).is)) (ap (λ z. z.nodes) c.step_over-f.ensures)))) }

@@ -27,8 +27,7 @@ parse_index_register-i-requires c =
 
 pub outer_indexed-requires : goal.outer_indexed-requires
 outer_indexed-requires c =
-    let c_read = c.before.before.before.read in
-    same_room c.requires c.parse_index_register-i.ensures (index_room _ _ c.requires.room c.parse_index_register-i.ensures c_read.given.1)
+    same_room c.requires c.parse_index_register-i.ensures (index_room _ _ c.requires.room c.parse_index_register-i.ensures c.in-Is.is)
 
 pub returns-in-Not : goal.returns-in-Not
 unfolding or_none outer_read
@@ -38,5 +37,4 @@ returns-in-Not c =
 pub returns-in-Is : goal.returns-in-Is
 unfolding or_none outer_read
 returns-in-Is c =
-    let c_read = c.before.before.before.before.before.before.before.before.read in
-    record { told = outer_once _ c.in_default.is (bound c.parse_index_register-i.ensures (index_is _ (sym c.parse_index_register-i.ensures.what ∙ c_read.given.1)) (outer_from c.parse_index_register-i.ensures.held c.outer_indexed.ensures)) }
+    record { told = outer_once _ c.in_default.is (bound c.parse_index_register-i.ensures (index_is _ (sym c.parse_index_register-i.ensures.what ∙ c.in-Is.is)) (outer_from c.parse_index_register-i.ensures.held c.outer_indexed.ensures)) }

@@ -38,8 +38,7 @@ first-requires c =
 
 pub returns-in-Is : goal.returns-in-Is
 returns-in-Is c =
-    let c_read = c.before.before.before.before.read in
-    let asks : OperandAsks c.args.tokens.now c.args.nodes.now c.args.start c.args.limit = omega (arith, c.if-count-gt-MOST_TOKENS.false, c.if-count-start.false, c.if-nodes-count.false, c.if-limit-eq0.false) in read _ refl asks (rw (mark_within c.args.line.now c.args.tokens.now asks.few _ c.args.mark _ c.args.start c.mark_within-near.ensures) at c_read.ensures)
+    let asks : OperandAsks c.args.tokens.now c.args.nodes.now c.args.start c.args.limit = omega (arith, c.if-count-gt-MOST_TOKENS.false, c.if-count-start.false, c.if-nodes-count.false, c.if-limit-eq0.false) in read _ refl asks (rw (mark_within c.args.line.now c.args.tokens.now asks.few _ c.args.mark _ c.args.start c.mark_within-near.ensures) at c.read.ensures)
 
 pub returns-in-End : goal.returns-in-End
 returns-in-End c =
