@@ -162,3 +162,8 @@ bounds-numbers-from-10 c =
 pub overflow_cast-result-10 : goal.overflow_cast-result-10
 overflow_cast-result-10 c =
     omega (arith, c.requires)
+
+pub returns : goal.returns
+unfolding diagnostic_from number low_first
+returns c =
+    search rules
