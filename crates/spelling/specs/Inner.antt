@@ -12,7 +12,8 @@ use Rattle.records.specs.Shapes
 use Rattle.records.specs.Spans.{span}
 use Rattle.expressions.specs.Trees.{Expr}
 use Rattle.expressions.specs.declared.reading.Setting.{Setting}
-use Rattle.expressions.specs.Reader.{is, reading, run}
+use Rattle.records.specs.Problems
+use Rattle.expressions.specs.Reader.{is, reading, run, Reader, answer, bump}
 use Rattle.expressions.specs.Expressions.{read, precedence, fuel, parse_expression}
 use Rattle.expressions.specs.Laws.{holds, met_yes, met_no}
 use Rattle.operand.specs.Operands.{Displacement, displaced, RegisterListItem, single, range, Operand, some}
@@ -133,16 +134,20 @@ module _ (s : Setting) (at : ℕ → Place) (count : ℕ) (ends : (j : ℕ) (k :
       → Reads (Operand.list_item r >>=? Operand.next_item (Operand.list_loop fuel s) s items) at i l j (some y) → Reads (Operand.list_loop fuel s items r) at i l j (some y)
   turned {i} {l} items r h = record { end = h.end; same = list_equation at count ends few s items r i l ∙ h.same }
 
+  -- behind the minus of a range
+  abbrev ranging : Register → Reader (Maybe RegisterListItem)
+  ranging r = bump a_register (λ k x. Operand.ranged r (Operand.register_from k x)) λ u. Operand.register_expected Problems.after_minus
+
   single_item : (i l : ℕ) (r : Register) → holds (is Kinds.minus) (at i) ≡ false → run (Operand.list_item r) at i l ≡ reading i l [] (some (single r))
   unfolding run Operand.list_item
-  single_item i l r q = met_no (is Kinds.minus) _ _ (at i) q
+  single_item i l r q = met_no (is Kinds.minus) (λ k x. run (ranging r) at (i + 1) k.end) (λ u. run (answer (some (single r))) at i l) (at i) q
 
   range_item_lem : {i : ℕ} (l : ℕ) (r : Register) {q : Register} → Sign at Kinds.minus i → RegisterAt at (i + 1) q → r.index ≤ q.index
       → run (Operand.list_item r) at i l ≡ reading (i + 1 + 1) q.span.end [] (some (range r q (span r.span.start q.span.end)))
   unfolding run Operand.list_item Operand.ranged
   range_item_lem {i} l r m (a_register_lem {r = n} t e) low =
-      met_yes (is Kinds.minus) _ _ (at i) m.token m.text m.there (kinded m Kinds.minus refl)
-      ∙ met_yes a_register _ _ (at (i + 1)) t.token t.text t.there (held a_register t (looks_register {s = s} (a_register_lem t e)).registers)
+      met_yes (is Kinds.minus) (λ k x. run (ranging r) at (i + 1) k.end) (λ u. run (answer (some (single r))) at i l) (at i) m.token m.text m.there (kinded m Kinds.minus refl)
+      ∙ met_yes a_register (λ k x. run (Operand.ranged r (Operand.register_from k x)) at (i + 1 + 1) k.end) (λ u. run (Operand.register_expected Problems.after_minus) at (i + 1) m.token.end) (at (i + 1)) t.token t.text t.there (held a_register t (looks_register {s = s} (a_register_lem t e)).registers)
       ∙ rw (registered t.token t.text n e, le-ltb n r.index low) refl
 
   -- behind the last item

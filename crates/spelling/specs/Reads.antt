@@ -45,27 +45,27 @@ module _ {A : Type 0} {at : ℕ → Place} {i l j : ℕ} {a : A} where
   module _ {t : Test} {y : Token → List ℕ → Reader A} {n : Unit {0} → Reader A} where
     pub steps : {k : Token} {x : List ℕ} → at i ≡ stands k x → t k x ≡ true → Reads (y k x) at (i + 1) k.end j a → Reads (bump t y n) at i l j a
     unfolding run
-    steps {k = k} {x = x} h q g = record { end = g.end; same = met_yes t _ _ (at i) k x h q ∙ g.same }
+    steps {k = k} {x = x} h q g = record { end = g.end; same = met_yes t (λ k x. run (y k x) at (i + 1) k.end) (λ u. run (n u) at i l) (at i) k x h q ∙ g.same }
 
     pub passes : holds t (at i) ≡ false → Reads (n tt) at i l j a → Reads (bump t y n) at i l j a
     unfolding run
-    passes q g = record { end = g.end; same = met_no t _ _ (at i) q ∙ g.same }
+    passes q g = record { end = g.end; same = met_no t (λ k x. run (y k x) at (i + 1) k.end) (λ u. run (n u) at i l) (at i) q ∙ g.same }
 
     pub sees : {c m : ℕ} {k : Token} {x : List ℕ} → i + c ≡ m → at m ≡ stands k x → t k x ≡ true → Reads (y k x) at i l j a
         → Reads (peek c t y n) at i l j a
     unfolding run
-    sees {c = c} {k = k} {x = x} e h q g = record { end = g.end; same = met_yes t _ _ (at (i + c)) k x (ap at e ∙ h) q ∙ g.same }
+    sees {c = c} {k = k} {x = x} e h q g = record { end = g.end; same = met_yes t (λ k x. run (y k x) at i l) (λ u. run (n u) at i l) (at (i + c)) k x (ap at e ∙ h) q ∙ g.same }
 
     pub misses : {c m : ℕ} → i + c ≡ m → holds t (at m) ≡ false → Reads (n tt) at i l j a → Reads (peek c t y n) at i l j a
     unfolding run
-    misses {c = c} e q g = record { end = g.end; same = met_no t _ _ (at (i + c)) (ap (λ m. holds t (at m)) e ∙ q) ∙ g.same }
+    misses {c = c} e q g = record { end = g.end; same = met_no t (λ k x. run (y k x) at i l) (λ u. run (n u) at i l) (at (i + c)) (ap (λ m. holds t (at m)) e ∙ q) ∙ g.same }
 
     -- whatever is seen
     pub either_way : {c m : ℕ} → i + c ≡ m → ((k : Token) (x : List ℕ) → at m ≡ stands k x → t k x ≡ true → Reads (y k x) at i l j a)
         → (holds t (at m) ≡ false → Reads (n tt) at i l j a) → Reads (peek c t y n) at i l j a
     unfolding run
     either_way {c = c} p f g =
-        let r = met_one (λ (r : Reading A). Comes r j a) t _ _ (at (i + c))
+        let r = met_one (λ (r : Reading A). Comes r j a) t (λ k x. run (y k x) at i l) (λ u. run (n u) at i l) (at (i + c))
         (λ k x e q. let h = f k x (sym (ap at p) ∙ e) q in record { end = h.end; same = h.same })
         (λ q. let h = g (sym (ap (λ m. holds t (at m)) p) ∙ q) in record { end = h.end; same = h.same }) in
         record { end = r.end; same = r.same }

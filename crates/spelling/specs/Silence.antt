@@ -50,13 +50,13 @@ silent_run (bind p f) at Q i l h e u =
 silent_run (here f) at Q i l h e u = silent_run (f i l) at Q i l h e u
 silent_run (raise d p) at Q i l h e u = let z = ap length e in absurd (omega arith)
 silent_run {A} (bump t y n) at Q i l h e u =
-    (met_one (λ (r : Reading A). r.raised ≡ [] → Unerring at i r.cursor → Q r.cursor r.end r.value) t _ _ (at i)
+    (met_one (λ (r : Reading A). r.raised ≡ [] → Unerring at i r.cursor → Q r.cursor r.end r.value) t (λ k x. run (y k x) at (i + 1) k.end) (λ u. run (n u) at i l) (at i)
     (λ k x c q e u.
     let a = forward (y k x) at (i + 1) k.end in
     silent_run (y k x) at Q (i + 1) k.end (h.0 k x c q (u.none i k x (omega arith) (omega arith) c)) e (narrower (omega arith) (omega arith) u))
     (λ q e u. silent_run (n tt) at Q i l (h.1 q) e u)) e u
 silent_run {A} (peek a t y n) at Q i l h e u =
-    (met_one (λ (r : Reading A). r.raised ≡ [] → Unerring at i r.cursor → Q r.cursor r.end r.value) t _ _ (at (i + a))
+    (met_one (λ (r : Reading A). r.raised ≡ [] → Unerring at i r.cursor → Q r.cursor r.end r.value) t (λ k x. run (y k x) at i l) (λ u. run (n u) at i l) (at (i + a))
     (λ k x c q e u. silent_run (y k x) at Q i l (h.0 k x c q) e u)
     (λ q e u. silent_run (n tt) at Q i l (h.1 q) e u)) e u
 

@@ -172,7 +172,7 @@ module _ (s : Setting) (at : ℕ → Place) (count : ℕ) (ends : (j : ℕ) (k :
   absolute_open no_size c = (stops_closed c).parenthesis
   absolute_open (a_size t) c = other t.sign Kinds.left_paren refl
 
-  finish_read : {j n size z : ℕ} (e : Expr) → Sized at (span_e e).end j n size z → Closed at n → (l : ℕ)
+  finish_read : {j n size : ℕ} (e : Expr) {z : ℕ} → Sized at (span_e e).end j n size z → Closed at n → (l : ℕ)
       → Reads (Operand.finish_expression_operand s e) at j l n (some (O.absolute e size (span s.start z)))
   unfolding Operand.finish_expression_operand Operand.absolute_size
   finish_read e no_size c l = then (no_letter _ _ (stops_closed c).size) λ l₂. answers

@@ -1,0 +1,17 @@
+-- `frames::hex::digit` meets its contract.
+-- Assumes nothing.
+use borrow.Author.Tests.{lt-ltb, le-ltb}
+use native.Mathlib.Omega.{arith}
+use Rattle.frames.specs.Hex.{digit}
+use borrow.Author.Rules.{rules}
+use Rattle.frames.proofs.hex.digit.Goals as goal
+
+pub returns-then-n-lt10 : goal.returns-then-n-lt10
+unfolding digit
+returns-then-n-lt10 c =
+    rw (lt-ltb c.args.n 10 (omega (arith, c.if-n-lt10.true)))
+
+pub returns : goal.returns
+unfolding digit
+returns c =
+    rw (le-ltb c.args.n 10 (omega (arith, c.if-n-lt10.false)))

@@ -1,0 +1,42 @@
+-- `frames::reply::answer_digits` meets its contract.
+-- Assumes nothing.
+use mathlib.Core.Path.{sym}
+use native.Mathlib.Omega.{arith}
+use lib.Seq.{length-take-le}
+use Rattle.frames.specs.Inner.{DecodedAs}
+use Rattle.frames.proofs.reply.Replies.{line_of}
+use Rattle.frames.proofs.batches.Turns.{digits_bad, digits_frame, digits_fit}
+use borrow.Author.Rules.{rules}
+use Rattle.frames.proofs.reply.answer_digits.Goals as goal
+
+pub decode-d-requires : goal.decode-d-requires
+decode-d-requires c =
+    c.requires.fits
+
+pub slice_bounds-answer_frame-end : goal.slice_bounds-answer_frame-end
+unfolding DecodedAs
+slice_bounds-answer_frame-end c =
+    omega (arith, digits_fit c.args.layout c.args.line.now _ _ (rw c.in-Is.is at c.decode-d.ensures) (omega (arith, c.requires.fits, c.decode-d.auto)))
+
+pub slice_bounds-answer_frame-end-in-Is : goal.slice_bounds-answer_frame-end-in-Is
+unfolding DecodedAs
+slice_bounds-answer_frame-end-in-Is c =
+    sym (length-take-le _ _ (omega (arith, digits_fit c.args.layout c.args.line.now _ _ (rw c.in-Is.is at c.decode-d.ensures) (omega (arith, c.requires.fits, c.decode-d.auto)))))
+
+pub answer_frame-requires : goal.answer_frame-requires
+answer_frame-requires c =
+    c.requires.stores
+
+pub refuse-requires : goal.refuse-requires
+refuse-requires c =
+    omega (arith, c.requires.stores)
+
+pub returns-in-Is : goal.returns-in-Is
+unfolding DecodedAs
+returns-in-Is c =
+    line_of c.args.layout _ _ (digits_frame c.args.layout c.args.line.now _ _ (rw c.in-Is.is at c.decode-d.ensures)) c.answer_frame.ensures
+
+pub returns-in-Not : goal.returns-in-Not
+unfolding DecodedAs
+returns-in-Not c =
+    line_of c.args.layout _ _ (digits_bad c.args.layout c.args.line.now (rw c.in-Not.is at c.decode-d.ensures)) c.refuse.ensures

@@ -1,0 +1,10 @@
+-- `frames::reply::answer_wide` meets its contract.
+-- Assumes nothing.
+use native.Mathlib.Omega.{arith}
+use Rattle.frames.proofs.batches.Turns.{wide_stores}
+use borrow.Author.Rules.{rules}
+use Rattle.frames.proofs.reply.answer_wide.Goals as goal
+
+pub answer_digits-requires : goal.answer_digits-requires
+answer_digits-requires c =
+    let s = wide_stores in record { fits = omega (arith, c.requires.0); stores = record { nodes_long_lem = omega (arith, s.0); diagnostics_long = omega (arith, s.1); room = c.requires.1 } }
