@@ -16,7 +16,7 @@ use Rattle.records.specs.Problems
 use Rattle.expressions.specs.Reader.{is, reading, run, Reader, answer, bump}
 use Rattle.expressions.specs.Expressions.{read, precedence, fuel, parse_expression}
 use Rattle.expressions.specs.Laws.{holds, met_yes, met_no}
-use Rattle.operand.specs.Operands.{Displacement, displaced, RegisterListItem, single, range, Operand, some}
+use Rattle.operand.specs.Operands.{Displacement, displaced, RegisterListItem, single, range, Operand, Maybe, some}
 use Rattle.operand.specs.Operands as O
 use Rattle.operand.specs.Operand
 use Rattle.operand.specs.Operand.{◌>>=?◌, a_register, an_index, a_base_or_an_index, is_suppressed, is_suppressed_register, inner, outer}
