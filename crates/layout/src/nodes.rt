@@ -6,7 +6,7 @@ ghost use Rattle.operand.specs.Layout.{four_words, last_eight, node_from};
 ghost use Rattle.operand.specs.declared.layouts.Layout.TheVariants as layouts;
 ghost use Rattle.layout.specs.Nodes.{head_from, nodes_encoded};
 
-use crate::store::{clear_before, write};
+use crate::store::{clear, write};
 use operand::Layout;
 use operand::layouts::{most_tokens, node_size, node_store};
 
@@ -137,7 +137,7 @@ pub fn encode_nodes(layout: Layout, numbers: &[u16], n: usize, nodes: &mut [u8])
     if nodes.len() < store {
         return;
     }
-    clear_before(nodes, store);
+    clear(nodes, 0, store);
     let size = node_size(layout);
     let mut at = 0;
     let mut i = 0;

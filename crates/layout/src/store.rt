@@ -23,7 +23,7 @@ pub fn write(store: &mut [u8], at: usize, bytes: &[u8])
 }
 
 // Sets the bytes from one place up to another to 0.
-fn clear(store: &mut [u8], from: usize, to: usize)
+fn clear_part(store: &mut [u8], from: usize, to: usize)
     requires { (from ≤ to) × (to ≤ length store.old) }
     ensures { store.new ≡ cleared store.old from to }
 {
@@ -34,16 +34,16 @@ fn clear(store: &mut [u8], from: usize, to: usize)
     }
 }
 
-// Sets the bytes before a place to 0, in parts.
-pub(crate) fn clear_before(store: &mut [u8], to: usize)
-    requires { to ≤ length store.old }
-    ensures { store.new ≡ cleared store.old 0 to }
+// The same, in parts.
+pub(crate) fn clear(store: &mut [u8], from: usize, to: usize)
+    requires { (from ≤ to) × (to ≤ length store.old) }
+    ensures { store.new ≡ cleared store.old from to }
 {
-    let mut at = 0;
+    let mut at = from;
     while PART < to - at {
         let end = at + PART;
-        clear(store, at, end);
+        clear_part(store, at, end);
         at = end;
     }
-    clear(store, at, to);
+    clear_part(store, at, to);
 }

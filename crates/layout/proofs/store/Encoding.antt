@@ -88,20 +88,20 @@ zeros_written N f i l h =
     let end : i ≡ f + length z = omega (arith, length-replicate {A = ℕ} (i - f) 0) in
     cleared_fits N f i l h ∙ ap (λ j. (take f N ++ z) ++ drop j N) end ∙ sym (written_fits N f z (omega arith))
 
--- what stands before b, cleared in two parts
-pub cleared_on : (N N₁ N₂ : List ℕ) (a b : ℕ) → a ≤ b → b ≤ length N → N₁ ≡ cleared N 0 a → N₂ ≡ cleared N₁ a b → N₂ ≡ cleared N 0 b
-cleared_on N N₁ N₂ a b l h e g =
-    let x : List ℕ = replicate (a - 0) 0 in
+-- what stands from f up to b, cleared in two parts
+pub cleared_on : (N N₁ N₂ : List ℕ) (f a b : ℕ) → f ≤ a → a ≤ b → b ≤ length N → N₁ ≡ cleared N f a → N₂ ≡ cleared N₁ a b → N₂ ≡ cleared N f b
+cleared_on N N₁ N₂ f a b low l h e g =
+    let x : List ℕ = replicate (a - f) 0 in
     let y : List ℕ = replicate (b - a) 0 in
-    let first : N₁ ≡ written N 0 x = e ∙ zeros_written N 0 a (omega arith) (omega arith) in
-    let long : length N₁ ≡ length N = cleared_long N N₁ 0 a (omega arith) (omega arith) e in
-    let from : a ≡ 0 + length x = omega (arith, length-replicate {A = ℕ} (a - 0) 0) in
-    let all : a - 0 + (b - a) ≡ b - 0 = omega arith in
+    let first : N₁ ≡ written N f x = e ∙ zeros_written N f a low (omega arith) in
+    let long : length N₁ ≡ length N = cleared_long N N₁ f a low (omega arith) e in
+    let from : a ≡ f + length x = omega (arith, length-replicate {A = ℕ} (a - f) 0) in
+    let all : a - f + (b - a) ≡ b - f = omega arith in
     g ∙ zeros_written N₁ a b l (omega arith)
     ∙ ap₂ (λ n j. written n j y) first from
-    ∙ written_more N 0 x y (omega (arith, length-replicate {A = ℕ} (b - a) 0))
-    ∙ ap (written N 0) (replicate-append-replicate (a - 0) (b - a) 0 ∙ ap (λ k. replicate k 0) all)
-    ∙ sym (zeros_written N 0 b (omega arith) h)
+    ∙ written_more N f x y (omega (arith, length-replicate {A = ℕ} (a - f) 0, length-replicate {A = ℕ} (b - a) 0))
+    ∙ ap (written N f) (replicate-append-replicate (a - f) (b - a) 0 ∙ ap (λ k. replicate k 0) all)
+    ∙ sym (zeros_written N f b (omega arith) h)
 
 module _ (w : Layout) (M N : List ℕ) where
   -- over zeros

@@ -1,26 +1,31 @@
--- `layout::store::clear` meets its contract. The loop's invariant: what stands from the first place up to i is 0, and the rest is as it was.
+-- `layout::store::clear` meets its contract. The loop's invariant: what stands before `at` and behind the first place is 0, and the rest is as it was.
 -- Assumes nothing.
-use mathlib.Core.Path.{◌≡◌, ap, ◌∙◌}
+use mathlib.Core.Path.{◌≡◌}
 use Prim.Native.Nat.{◌≤◌, ◌-◌}
 use native.Mathlib.Omega.{arith}
-use lib.ListN.{length, set, length-set}
+use lib.ListN.{length}
 use Rattle.records.specs.Stores.{cleared}
-use Rattle.records.specs.Written.{cleared_none, cleared_more}
+use Rattle.records.specs.Written.{cleared_none}
+use Rattle.layout.proofs.store.Encoding.{cleared_long, cleared_on}
 use borrow.Author.Rules.{rules}
 use Rattle.layout.proofs.store.clear.Goals as goal
 
-pub loop-i-init : goal.loop-i-init
-loop-i-init c =
-    (cleared_none _ _ (omega arith), omega arith, omega arith, omega arith)
+pub loop-at-init : goal.loop-at-init
+loop-at-init c =
+    (omega arith, omega arith, omega arith, cleared_none _ _ (omega arith))
 
-pub bounds-store-i : goal.bounds-store-i
-bounds-store-i c =
-    omega arith
+pub clear_part-requires : goal.clear_part-requires
+clear_part-requires c =
+    (omega arith, omega (arith, cleared_long c.args.store.now _ c.args.from c.loop-at.at (omega arith) (omega arith) c.loop-at.invariant.3))
 
-pub loop-i-preserved : goal.loop-i-preserved
-loop-i-preserved c =
-    (ap (λ x. set x c.loop-i.i 0) c.loop-i.invariant.0 ∙ cleared_more c.args.store.now c.args.from c.loop-i.i (omega arith) (omega arith), omega arith, omega arith, simp length-set (omega arith))
+pub loop-at-preserved : goal.loop-at-preserved
+loop-at-preserved c =
+    (omega arith, omega arith, omega arith, cleared_on c.args.store.now _ _ c.args.from c.loop-at.at _ (omega arith) (omega arith) (omega arith) c.loop-at.invariant.3 c.clear_part.ensures)
+
+pub clear_part-requires-2 : goal.clear_part-requires-2
+clear_part-requires-2 c =
+    (omega arith, omega (arith, cleared_long c.args.store.now _ c.args.from c.loop-at.at (omega arith) (omega arith) c.loop-at.invariant.3))
 
 pub returns : goal.returns
 returns c =
-    c.loop-i.invariant.0 ∙ ap (cleared c.args.store.now c.args.from) (omega arith)
+    cleared_on c.args.store.now _ _ c.args.from c.loop-at.at c.args.to (omega arith) (omega arith) (omega arith) c.loop-at.invariant.3 c.clear_part-2.ensures
