@@ -1,10 +1,15 @@
 -- What a part of the input leaves for the next one. No contract can say what is read or written.
 -- Assumes nothing.
-use Rattle.std.specs.Prelude.{◌≡◌, true, false, List, ℕ, zero, suc, ℤ, pos, negsuc, length, take}
+use Rattle.std.specs.Prelude.{◌≡◌, true, false, List, ℕ, zero, suc, ◌≤◌, ℤ, pos, negsuc, length, take}
 use Rattle.frames.specs.Machine.{last_line}
 use Rattle.frames.specs.Batches.{FinishTold}
 use Rattle.frames.specs.Program.{drained, Leaves}
 use Rattle.operands.specs.declared.Passed.{Passed}
+
+-- what a read of at most n bytes may answer: how many, or -1
+abbrev pub Moved : ℕ → ℤ → Type 0
+Moved n (pos k) = k ≤ n
+Moved n (negsuc k) = k ≡ 0
 
 -- where the program goes on, the part I was answered as a run of `batch` answers it
 abbrev pub PartTold : List ℕ → ℕ → List ℕ → List ℕ → List ℕ → List ℕ → Passed → Type 0

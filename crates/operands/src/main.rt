@@ -2,11 +2,10 @@
 #![tactic(auto)]
 
 ghost use Rattle.std.specs.Prelude.{◌≤◌, length};
-ghost use Rattle.libc.specs.Io.{Moved};
-ghost use Rattle.operands.specs.Passing.{PartTold, LastTold, ReadTold};
+ghost use Rattle.operands.specs.Passing.{Moved, PartTold, LastTold, ReadTold};
 
 use frames::{batch, finish};
-use libc::{STDIN_FILENO, STDOUT_FILENO};
+use std::io::{Read, Stdin};
 
 // How much of the unfinished line is held, and whether to go on.
 #[derive(Clone, Copy)]
@@ -16,14 +15,25 @@ struct Passed {
 }
 
 // Writes the first n bytes of the output, and answers whether that went well.
-fn write(out: &[u8], n: usize) -> bool
+fn write(rt: &impl Print, out: &[u8], n: usize) -> bool
     requires { n ≤ length out.now }
 {
-    io::write_all(STDOUT_FILENO, &out[..n])
+    rt.write_all(&out[..n]).is_ok()
+}
+
+// How many bytes a read put at the beginning of the store, none at the input's end, -1 where it failed.
+fn read(stdin: &mut Stdin, input: &mut [u8]) -> isize
+    ensures { Moved (length input.new) result }
+{
+    match stdin.read(input) {
+        Ok(n) => n as isize,
+        Err(_) => -1,
+    }
 }
 
 // Answers a part of the input, in as many calls as the room for the output asks. A write that fails ends it.
 fn answer_part(
+    rt: &impl Print,
     input: &[u8],
     held: usize,
     carry: &mut [u8; 917507],
@@ -36,7 +46,7 @@ fn answer_part(
     while at < input.len() {
         let r = batch(&input[at..], h, carry, out);
         let n = r.written;
-        if write(out, n) {
+        if write(rt, out, n) {
             at += r.consumed;
             h = r.held;
         } else {
@@ -53,15 +63,16 @@ fn answer_part(
 }
 
 // Answers the last line, if it lacks its line feed.
-fn answer_last(held: usize, carry: &[u8; 917507], out: &mut [u8; 163840])
+fn answer_last(rt: &impl Print, held: usize, carry: &[u8; 917507], out: &mut [u8; 163840])
     ensures { LastTold held carry.now out.old out.new }
 {
     let n = finish(held, carry, out);
-    write(out, n);
+    write(rt, out, n);
 }
 
 // Answers what a read gave: so many bytes at the beginning of the store that it was lent, none at the input's end, -1 where it failed.
 fn answer_read(
+    rt: &impl Print,
     got: isize,
     input: &[u8],
     held: usize,
@@ -77,29 +88,30 @@ fn answer_read(
             more: false,
         };
     }
-    let n = io::count(got, input);
+    let n = got as usize;
     if n == 0 {
-        answer_last(held, carry, out);
+        answer_last(rt, held, carry, out);
         return Passed {
             held: 0,
             more: false,
         };
     }
-    answer_part(&input[..n], held, carry, out)
+    answer_part(rt, &input[..n], held, carry, out)
 }
 
 // Which bytes a read puts into the store, and which a write takes from one, no contract says: that they are the input's and the output's is
 // read here and in `write`. A proved loop has to end, and nothing says that the input does. So it counts its turns down, from a number that
 // no run uses up.
-fn main() {
-    let mut input = io::large_buffer();
+fn main(rt: HostRuntime) {
+    let mut stdin = rt.stdin();
+    let mut input = [0u8; 65536];
     let mut out = [0u8; 163840];
     let mut carry = [0u8; 917507];
     let mut held = 0;
     let mut turns = u64::MAX;
     while turns > 0 {
-        let got = libc::read(STDIN_FILENO, &mut input);
-        let p = answer_read(got, &input, held, &mut carry, &mut out);
+        let got = read(&mut stdin, &mut input);
+        let p = answer_read(&rt, got, &input, held, &mut carry, &mut out);
         if p.more {
             held = p.held;
             turns -= 1;

@@ -1,5 +1,4 @@
-// The entry with C's calling convention: a slice is a pointer and a length. One that is lent anew (`&*line`) is handed on in registers,
-// not through memory.
+// The entry as `terminal_c` exports it with C's calling convention.
 ghost use Rattle.std.specs.Prelude.{◌≡◌, ◌≤◌, length};
 ghost use Rattle.operand.specs.Entry.{call};
 ghost use Rattle.operand.specs.declared.layouts.Layout.TheVariants as layouts;
@@ -19,8 +18,7 @@ const SHORT_ANSWER: u8 = 255;
 
 // Reads the operand that begins at the token `start`, with at most `limit` terms open in each other, and writes the answer into `out`.
 // Returns 0, or the number of a refusal, which writes nothing.
-#[unsafe(no_mangle)]
-pub extern "C" fn sagdrif_parse_operand(
+pub fn sagdrif_parse_operand(
     line: &[u8],
     tokens: &[u8],
     start: usize,
@@ -33,11 +31,8 @@ pub extern "C" fn sagdrif_parse_operand(
 ) -> u8
     ensures { told result nodes.new diagnostics.new out.new ≡ exported (call layouts.Narrow line.now tokens.now start mark limit nodes.old diagnostics.old used) out.old }
 {
-    let layout = Layout::Narrow;
-    if out.len() < answer_bytes(layout) {
-        return SHORT_ANSWER;
-    }
     answer(
+        Layout::Narrow,
         line,
         tokens,
         start,
@@ -47,13 +42,11 @@ pub extern "C" fn sagdrif_parse_operand(
         diagnostics,
         used,
         out,
-        layout,
     )
 }
 
 // The same in the wide layout.
-#[unsafe(no_mangle)]
-pub extern "C" fn sagdrif_parse_operand_wide(
+pub fn sagdrif_parse_operand_wide(
     line: &[u8],
     tokens: &[u8],
     start: usize,
@@ -66,11 +59,8 @@ pub extern "C" fn sagdrif_parse_operand_wide(
 ) -> u8
     ensures { told result nodes.new diagnostics.new out.new ≡ exported (call layouts.Wide line.now tokens.now start mark limit nodes.old diagnostics.old used) out.old }
 {
-    let layout = Layout::Wide;
-    if out.len() < answer_bytes(layout) {
-        return SHORT_ANSWER;
-    }
     answer(
+        Layout::Wide,
         line,
         tokens,
         start,
@@ -80,7 +70,6 @@ pub extern "C" fn sagdrif_parse_operand_wide(
         diagnostics,
         used,
         out,
-        layout,
     )
 }
 
@@ -94,8 +83,8 @@ fn answer_bytes(layout: Layout) -> usize
     }
 }
 
-// The call in a layout, where the answer has room. The layout stands last, so that what is lent stays in its registers.
 fn answer(
+    layout: Layout,
     line: &[u8],
     tokens: &[u8],
     start: usize,
@@ -105,15 +94,16 @@ fn answer(
     diagnostics: &mut [u8],
     used: usize,
     out: &mut [u8],
-    layout: Layout,
 ) -> u8
-    requires { answer_bytes layout ≤ length out.old }
     ensures { told result nodes.new diagnostics.new out.new ≡ exported (call layout line.now tokens.now start mark limit nodes.old diagnostics.old used) out.old }
 {
+    if out.len() < answer_bytes(layout) {
+        return SHORT_ANSWER;
+    }
     let r = parse_operand(
         layout,
-        &*line,
-        &*tokens,
+        line,
+        tokens,
         start,
         mark,
         limit,

@@ -24,8 +24,8 @@ pub returns-then-nodes-store : goal.returns-then-nodes-store
 returns-then-nodes-store c =
     nodes_short c.args.layout c.args.numbers.now c.args.nodes.now c.args.n (omega (arith, c.most_tokens.ensures)) (omega arith) (omega (arith, c.node_store-store.ensures))
 
-pub clear_before-requires : goal.clear_before-requires
-clear_before-requires c =
+pub clear-requires : goal.clear-requires
+clear-requires c =
     omega arith
 
 pub loop-i-init : goal.loop-i-init
@@ -38,11 +38,11 @@ overflow_mul-i c =
 
 pub encode_node-requires : goal.encode_node-requires
 encode_node-requires c =
-    (omega arith, omega (arith, cleared_long _ _ _ _ (omega arith) (omega arith) c.clear_before.ensures, c.node_store-store.ensures, c.loop-i.invariant.2, c.loop-i.invariant.3, place_within (node_size c.args.layout) c.loop-i.i c.args.n (omega arith), nodes_within c.args.layout c.args.n c.loop-i.invariant.1, records_long (node_from c.args.layout) (node_size c.args.layout) c.args.numbers.now (length_node c.args.layout c.args.numbers.now) _ 0 _ c.loop-i.i (omega (arith, cleared_long _ _ _ _ (omega arith) (omega arith) c.clear_before.ensures, c.node_store-store.ensures, c.loop-i.invariant.2, c.loop-i.invariant.3, place_within (node_size c.args.layout) c.loop-i.i c.args.n (omega arith), nodes_within c.args.layout c.args.n c.loop-i.invariant.1)) c.loop-i.invariant.4 ∙ cleared_long _ _ _ _ (omega arith) (omega arith) c.clear_before.ensures))
+    (omega arith, omega (arith, cleared_long _ _ _ _ (omega arith) (omega arith) c.clear.ensures, c.node_store-store.ensures, c.loop-i.invariant.2, c.loop-i.invariant.3, place_within (node_size c.args.layout) c.loop-i.i c.args.n (omega arith), nodes_within c.args.layout c.args.n c.loop-i.invariant.1, records_long (node_from c.args.layout) (node_size c.args.layout) c.args.numbers.now (length_node c.args.layout c.args.numbers.now) _ 0 _ c.loop-i.i (omega (arith, cleared_long _ _ _ _ (omega arith) (omega arith) c.clear.ensures, c.node_store-store.ensures, c.loop-i.invariant.2, c.loop-i.invariant.3, place_within (node_size c.args.layout) c.loop-i.i c.args.n (omega arith), nodes_within c.args.layout c.args.n c.loop-i.invariant.1)) c.loop-i.invariant.4 ∙ cleared_long _ _ _ _ (omega arith) (omega arith) c.clear.ensures))
 
 pub overflow_add-at : goal.overflow_add-at
 overflow_add-at c =
-    omega (arith, cleared_long _ _ _ _ (omega arith) (omega arith) c.clear_before.ensures, c.node_store-store.ensures, c.loop-i.invariant.2, c.loop-i.invariant.3, place_within (node_size c.args.layout) c.loop-i.i c.args.n (omega arith), nodes_within c.args.layout c.args.n c.loop-i.invariant.1)
+    omega (arith, cleared_long _ _ _ _ (omega arith) (omega arith) c.clear.ensures, c.node_store-store.ensures, c.loop-i.invariant.2, c.loop-i.invariant.3, place_within (node_size c.args.layout) c.loop-i.i c.args.n (omega arith), nodes_within c.args.layout c.args.n c.loop-i.invariant.1)
 
 pub overflow_add-i : goal.overflow_add-i
 overflow_add-i c =
@@ -54,8 +54,8 @@ loop-i-smaller c =
 
 pub loop-i-preserved : goal.loop-i-preserved
 loop-i-preserved c =
-    (omega arith, c.loop-i.invariant.1, c.loop-i.invariant.2, omega (arith, next_place_lem (node_size c.args.layout) c.loop-i.at c.loop-i.i 0 c.loop-i.invariant.3, c.loop-i.invariant.2), records_on (node_from c.args.layout) (node_size c.args.layout) c.args.numbers.now (length_node c.args.layout c.args.numbers.now) _ 0 _ _ c.loop-i.i c.loop-i.at c.loop-i.invariant.3 (omega (arith, cleared_long _ _ _ _ (omega arith) (omega arith) c.clear_before.ensures, c.node_store-store.ensures, c.loop-i.invariant.2, c.loop-i.invariant.3, place_within (node_size c.args.layout) c.loop-i.i c.args.n (omega arith), nodes_within c.args.layout c.args.n c.loop-i.invariant.1)) c.loop-i.invariant.4 c.encode_node.ensures)
+    (omega arith, c.loop-i.invariant.1, c.loop-i.invariant.2, omega (arith, next_place_lem (node_size c.args.layout) c.loop-i.at c.loop-i.i 0 c.loop-i.invariant.3, c.loop-i.invariant.2), records_on (node_from c.args.layout) (node_size c.args.layout) c.args.numbers.now (length_node c.args.layout c.args.numbers.now) _ 0 _ _ c.loop-i.i c.loop-i.at c.loop-i.invariant.3 (omega (arith, cleared_long _ _ _ _ (omega arith) (omega arith) c.clear.ensures, c.node_store-store.ensures, c.loop-i.invariant.2, c.loop-i.invariant.3, place_within (node_size c.args.layout) c.loop-i.i c.args.n (omega arith), nodes_within c.args.layout c.args.n c.loop-i.invariant.1)) c.loop-i.invariant.4 c.encode_node.ensures)
 
 pub returns : goal.returns
 returns c =
-    nodes_all c.args.layout c.args.numbers.now c.args.nodes.now _ _ c.args.n c.loop-i.i c.node_store-store.result (omega arith) c.loop-i.invariant.1 (omega arith) (omega (arith, c.node_store-store.ensures)) (omega arith) c.clear_before.ensures c.loop-i.invariant.4
+    nodes_all c.args.layout c.args.numbers.now c.args.nodes.now _ _ c.args.n c.loop-i.i c.node_store-store.result (omega arith) c.loop-i.invariant.1 (omega arith) (omega (arith, c.node_store-store.ensures)) (omega arith) c.clear.ensures c.loop-i.invariant.4

@@ -1,0 +1,64 @@
+// The library that a terminal's firmware links: what `terminal` has, with C's calling convention. A slice is a pointer and a length.
+#![tactic(auto)]
+
+ghost use Rattle.std.specs.Prelude.{◌≡◌};
+ghost use Rattle.operand.specs.Entry.{call};
+ghost use Rattle.operand.specs.declared.layouts.Layout.TheVariants as layouts;
+ghost use Rattle.terminal.specs.Exported.{exported, told};
+
+// Reads the operand that begins at the token `start`, with at most `limit` terms open in each other, and writes the answer into `out`.
+// Returns 0, or the number of a refusal, which writes nothing.
+#[unsafe(no_mangle)]
+pub extern "C" fn sagdrif_parse_operand(
+    line: &[u8],
+    tokens: &[u8],
+    start: usize,
+    mark: usize,
+    limit: usize,
+    nodes: &mut [u8],
+    diagnostics: &mut [u8],
+    used: usize,
+    out: &mut [u8],
+) -> u8
+    ensures { told result nodes.new diagnostics.new out.new ≡ exported (call layouts.Narrow line.now tokens.now start mark limit nodes.old diagnostics.old used) out.old }
+{
+    terminal::sagdrif_parse_operand(
+        line,
+        tokens,
+        start,
+        mark,
+        limit,
+        nodes,
+        diagnostics,
+        used,
+        out,
+    )
+}
+
+// The same in the wide layout.
+#[unsafe(no_mangle)]
+pub extern "C" fn sagdrif_parse_operand_wide(
+    line: &[u8],
+    tokens: &[u8],
+    start: usize,
+    mark: usize,
+    limit: usize,
+    nodes: &mut [u8],
+    diagnostics: &mut [u8],
+    used: usize,
+    out: &mut [u8],
+) -> u8
+    ensures { told result nodes.new diagnostics.new out.new ≡ exported (call layouts.Wide line.now tokens.now start mark limit nodes.old diagnostics.old used) out.old }
+{
+    terminal::sagdrif_parse_operand_wide(
+        line,
+        tokens,
+        start,
+        mark,
+        limit,
+        nodes,
+        diagnostics,
+        used,
+        out,
+    )
+}
