@@ -10,10 +10,7 @@ pub mod Told
 pub mod Examples
 pub mod Laws
 pub mod Levels
-pub mod Costs
 pub mod Alike
 pub mod Fuel
 pub mod Limits
-pub mod Grown
-pub mod Offsets
 pub mod Paths

@@ -8,10 +8,10 @@ use Prim.Native.Nat.{ℕ, ◌+◌, ◌*◌, ◌≤◌, ◌<◌}
 use Rattle.std.proofs.Math.ListN.{drop}
 use Rattle.names.specs.Places.{place}
 use Rattle.expressions.specs.Trees.{Expr, with_span, size}
-use Rattle.expressions.specs.Costs.{size_with_span}
+use Rattle.expressions.proofs.Costs.{size_with_span}
 use Rattle.expressions.specs.Reader.{Reading, run}
 use Rattle.expressions.specs.Expressions.{parse_prefix, expression_from, fuel}
-use Rattle.expressions.specs.Grown.{grown_is, climb_grows}
+use Rattle.expressions.proofs.Grown.{grown_is, climb_grows}
 use Rattle.expressions.specs.Records.{nodes, length_nodes}
 use Rattle.records.specs.declared.spans.Span.{Span}
 use Rattle.records.specs.declared.counters.Counters.{Counters}

@@ -5,7 +5,7 @@ use Rattle.std.proofs.Common.{sym, ap, arith, ltb-true, eqb-true, length-append,
 use Rattle.names.specs.Choice.{pick, both}
 use Rattle.names.specs.Laws.{both_first, both_second}
 use Rattle.expressions.specs.Reader.{Reading}
-use Rattle.expressions.specs.Costs.{true_false}
+use Rattle.expressions.proofs.Costs.{true_false}
 use Rattle.operand.specs.RefusalNumbers
 use Rattle.operand.specs.Operands.{Operand, Maybe, some, none}
 use Rattle.operand.specs.Records.{size_o, size_m, nodes_m}
@@ -14,7 +14,7 @@ use Rattle.operand.specs.declared.layouts.Layout as L
 use Rattle.operand.specs.Layouts.{width, number_at, numbers_end, token_size, node_size, diagnostic_size, operand_size, most_tokens, free_records}
 use Rattle.operand.specs.Layout as Layout
 use Rattle.operand.specs.Entry.{Input, refusal}
-use Rattle.operand.specs.Conditions as Conditions
+use Rattle.operand.proofs.Conditions as Conditions
 use Rattle.operand.specs.Lengths.{length_node_bytes, length_laid, length_bytes}
 use Rattle.frames.specs.Hex.{digits, value, is_digit, spells, spelled}
 use Rattle.layout.specs.Head.{head_size, length_head}

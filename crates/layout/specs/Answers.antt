@@ -19,16 +19,22 @@ use Rattle.operand.specs.Records.{size_m}
 use Rattle.operand.specs.declared.layouts.Layout.{Layout}
 use Rattle.operand.specs.Layouts.{number, number_at, number_read, node_size, diagnostic_size, most_tokens, node_store, free_records, nodes_within, numbers_fit}
 use Rattle.operand.specs.Layout.{records_laid, nodes_laid, diagnostics_laid}
-use Rattle.operand.specs.Widened.{SameGiven, Satisfies, reading_same, refusal_same}
+use Rattle.operand.specs.Widened.{SameGiven, Satisfies}
+use Rattle.operand.proofs.Widened.{reading_same, refusal_same}
 use Rattle.operand.specs.Entry.{Input, tokens_of, place_of, refusal, reading_at, nodes_after, diagnostics_after, outcome, outcome_of}
 use Rattle.layout.specs.Promise.{result_of, result_at, EntryPromise}
-use Rattle.operand.specs.Readings.{gap, ended}
-use Rattle.operand.specs.Settings.{with_setting, outcome_alike}
-use Rattle.operand.specs.Marks.{remarked, MarksAgree, MarksPast, marks_agree, reading_remarked}
-use Rattle.operand.specs.Marks as M
-use Rattle.operand.specs.Limits.{limited, Higher, refusal_limited, reading_limited, NoneTooDeep, none_too_deep}
-use Rattle.operand.specs.Conditions.{Valid, Refuses, refusal_number, valid_bounds, valid_limit, AlikeThrough, record_at, SameButPlus}
-use Rattle.operand.specs.Conditions as C
+use Rattle.operand.specs.Readings.{gap}
+use Rattle.operand.proofs.Readings.{ended}
+use Rattle.operand.specs.Settings.{with_setting}
+use Rattle.operand.proofs.Settings.{outcome_alike}
+use Rattle.operand.specs.Marks.{remarked, MarksAgree, MarksPast}
+use Rattle.operand.proofs.Marks.{marks_agree, reading_remarked}
+use Rattle.operand.proofs.Marks as M
+use Rattle.operand.specs.Limits.{limited, Higher, NoneTooDeep}
+use Rattle.operand.proofs.Limits.{refusal_limited, reading_limited, none_too_deep}
+use Rattle.operand.specs.Conditions.{Valid, Refuses, AlikeThrough, record_at, SameButPlus}
+use Rattle.operand.proofs.Conditions.{refusal_number, valid_bounds, valid_limit}
+use Rattle.operand.proofs.Conditions as C
 use Rattle.operand.specs.Lengths.{length_node_bytes, length_laid}
 use Rattle.layout.specs.declared.answer.Answer.{Answer}
 use Rattle.layout.specs.declared.answer.Found.{Found}

@@ -15,12 +15,10 @@ pub mod Conditions
 pub mod Trials
 pub mod Readings
 pub mod Listed
-pub mod Costs
 pub mod Fuel
 pub mod Settings
 pub mod Marks
 pub mod Limits
-pub mod Offsets
 pub mod Numbering
 pub mod Lengths
 pub mod Widened

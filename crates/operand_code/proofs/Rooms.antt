@@ -11,7 +11,7 @@ use Rattle.names.specs.declared.tokens.Token.{Token}
 use Rattle.names.specs.declared.tokens.Peeked.TheVariants as peeked
 use Rattle.records.specs.declared.counters.Counters.{Counters}
 use Rattle.expressions.specs.declared.reading.Setting.{Setting}
-use Rattle.expressions.specs.Costs.{all_clean, suffix_cost}
+use Rattle.expressions.proofs.Costs.{all_clean, suffix_cost}
 use Rattle.expressions.specs.Expressions.{Suffix, suffixed, bare, take_size_suffix}
 use Rattle.expressions.specs.Laws as laws
 use Rattle.expressions.specs.Laws.{Law, law_run}
@@ -19,8 +19,8 @@ use Rattle.expressions.specs.Reader.{Reader, run}
 use Rattle.records.specs.Counters.{stepped}
 use Rattle.operand.specs.Operands.{Maybe, some, none}
 use Rattle.operand.specs.Operand.{parse_index_register, parse_base_and_index_registers}
-use Rattle.operand.specs.Costs.{Left}
-use Rattle.operand.specs.Costs as cost
+use Rattle.operand.proofs.Costs.{Left}
+use Rattle.operand.proofs.Costs as cost
 use Rattle.operand.specs.Forms.{index_read, registers_read, close_read, suffix_read}
 use Rattle.records.specs.Rooms.{Room}
 use Rattle.expressions.specs.Told.{Told}

@@ -20,15 +20,18 @@ use Rattle.operand.specs.Forms.{record_of, mask_o}
 use Rattle.operand.specs.declared.layouts.Layout.{Layout}
 use Rattle.operand.specs.Layouts.{width, number, joined, number_at, numbers_end, node_size, diagnostic_size, operand_size, node_store, free_records, free_records_lem, most_tokens_lem, numbers_fit}
 use Rattle.operand.specs.Layout.{operand_record, head_laid, operand_number, no_operand_number}
-use Rattle.operand.specs.Widened.{SameGiven, Satisfies, refusal_same}
+use Rattle.operand.specs.Widened.{SameGiven, Satisfies}
+use Rattle.operand.proofs.Widened.{refusal_same}
 use Rattle.operand.specs.Lengths.{length_bytes}
 use Rattle.operand.specs.Entry.{Input, tokens_of, place_of, refusal, reading_at, nodes_after, outcome, outcome_of, answer_number, outcome_number_lem}
 use Rattle.operand.specs.Settings.{with_setting}
-use Rattle.operand.specs.Marks.{remarked, MarksAgree, MarksPast, marks_agree, outcome_same}
-use Rattle.operand.specs.Limits as L
+use Rattle.operand.specs.Marks.{remarked, MarksAgree, MarksPast}
+use Rattle.operand.proofs.Marks.{marks_agree, outcome_same}
+use Rattle.operand.proofs.Limits as L
 use Rattle.operand.specs.Limits.{limited, Higher, NoneTooDeep}
-use Rattle.operand.specs.Conditions as Conditions
-use Rattle.operand.specs.Conditions.{Valid, Refuses, refuses_bounds, valid_bounds, valid_limit, records_enough, AlikeThrough, alike_before, record_at, SameButPlus}
+use Rattle.operand.proofs.Conditions as Conditions
+use Rattle.operand.specs.Conditions.{Valid, Refuses, AlikeThrough, record_at, SameButPlus}
+use Rattle.operand.proofs.Conditions.{refuses_bounds, valid_bounds, valid_limit, records_enough, alike_before}
 use Rattle.layout.specs.Promise.{given, result_of, result_at, given_result, EntryPromise}
 use Rattle.layout.specs.Head.{length_head}
 use Rattle.layout.specs.Answers as Answers
@@ -37,7 +40,7 @@ use Rattle.layout.specs.declared.answer.Missed.{Missed}
 use Rattle.spelling.specs.Signs.{unreserved, ordinary}
 use Rattle.spelling.specs.Spelling.{Closed, Spelled}
 use Rattle.spelling.specs.Silence.{Unerring}
-use Rattle.spelling.specs.Answers as Spellings
+use Rattle.spelling.proofs.Answers as Spellings
 use Rattle.terminal.specs.Exported.{Exported, told, answer_laid, out_after, answered, answer_bytes, answer_bytes_lem, short_answer, exported}
 use Rattle.terminal.specs.Stays.{number_roomy, number_short, stays}
 

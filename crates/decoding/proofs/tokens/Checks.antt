@@ -12,7 +12,7 @@ use lib.ListN.{length, get_or}
 use Rattle.names.specs.Choice.{pick, both}
 use Rattle.names.specs.Letters.{bytes, same}
 use Rattle.names.specs.Laws.{both_true, same_true}
-use Rattle.expressions.specs.Costs.{true_false}
+use Rattle.expressions.proofs.Costs.{true_false}
 use Rattle.operand.specs.Entry.{signs, spelled_as, prefixed}
 
 -- ---- a sign's text

@@ -12,8 +12,9 @@ use Rattle.operand.specs.Operands.{Operand, Maybe, some, none}
 use Rattle.operand.specs.Records.{size_m}
 use Rattle.operand.specs.Forms.{record_of, operand_read}
 use Rattle.operand.specs.Entry.{Input, tokens_of, place_of, reading_at, nodes_after, diagnostics_after, answer_number, outcome, outcome_of, outcome_number_lem}
-use Rattle.operand.specs.Readings.{raised_few}
-use Rattle.operand.specs.Conditions.{Valid, valid_bounds, valid_count, valid_stores, valid_limit, cursor_bounds, nodes_bound, added_within}
+use Rattle.operand.proofs.Readings.{raised_few}
+use Rattle.operand.specs.Conditions.{Valid}
+use Rattle.operand.proofs.Conditions.{valid_bounds, valid_count, valid_stores, valid_limit, cursor_bounds, nodes_bound, added_within}
 use Rattle.operand.specs.declared.forms.OperandStep.{OperandStep}
 use Rattle.decoding.specs.Tokens.{decoded, tokens_stored}
 use Rattle.layout.specs.Nodes.{nodes_encoded}

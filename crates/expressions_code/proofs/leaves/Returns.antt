@@ -29,7 +29,7 @@ use Rattle.expressions.specs.Reader.{Reader, answer, raise, ◌>>=◌}
 use Rattle.expressions.specs.Told.{Raised, Told, Same}
 use Rattle.expressions.specs.Paths.{raised_as, renamed, counted, answered, hereby, raised, bound_as, hit, miss, seen, beyond}
 use Rattle.expressions.specs.Expressions.{Term, read, reported, absent, valued, number_term, named, leaf_term, too_deep}
-use Rattle.expressions.specs.Costs.{size_pos}
+use Rattle.expressions.proofs.Costs.{size_pos}
 use Rattle.records.specs.Nodes.{node_record, words, own}
 use Rattle.expressions.specs.Records.{nodes}
 use Rattle.records.specs.Counters.{stepped, counters_are}

@@ -8,7 +8,7 @@ use borrow.Author.Tests.{eqb-true, eqb-false, ne_eqb, le-ltb}
 use lib.Dec.{eqb, ltb}
 use Rattle.names.specs.Choice.{both, either}
 use Rattle.expressions.specs.Levels.{precedence_most}
-use Rattle.expressions.specs.Costs.{true_false}
+use Rattle.expressions.proofs.Costs.{true_false}
 use Rattle.expressions.specs.Expressions.{precedence, binary_operator}
 
 -- a test passes at each number below n

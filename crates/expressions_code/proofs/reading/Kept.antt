@@ -23,7 +23,7 @@ use Rattle.expressions.specs.Told.{Told}
 use Rattle.expressions_code.specs.Roots.{rooted, span_e_with_span}
 use Rattle.expressions_code.specs.Reading.{filled, spent, RoomTold, enough, lacking, ExpressionFits, FromFits}
 use Rattle.expressions.specs.Fuel.{fuel_enough}
-use Rattle.expressions.specs.Costs.{size_with_span}
+use Rattle.expressions.proofs.Costs.{size_with_span}
 
 -- a store whose first n records are b, cleared behind them
 filled_is : (N N₁ N₂ b : List ℕ) (n i m : ℕ) → take (10 * n) N₁ ≡ b → n ≡ i → drop (10 * m) N₁ ≡ drop (10 * m) N → n ≤ m → 10 * m ≤ length N₁

@@ -28,7 +28,7 @@ use Rattle.expressions.specs.Paths.{fails, fails_end, raised_as, held_as, reheld
 use Rattle.expressions.specs.Expressions.{Term, read, precedence, binary_operator, operator, operated, parse_prefix, parse_expression_from, fuel}
 use Rattle.records.specs.Nodes.{node_record, words, zeros}
 use Rattle.expressions.specs.Records.{nodes, length_nodes}
-use Rattle.expressions.specs.Grown.{Grown, grown_is, grown_none, grown_behind, climb_grows}
+use Rattle.expressions.proofs.Grown.{Grown, grown_is, grown_none, grown_behind, climb_grows}
 use Rattle.records.specs.Counters.{stepped}
 use Rattle.expressions_code.specs.Terms.{NodeTold, size_t, nodes_t, Held, DeepTold, PrefixTold, Joined, ClimbTold, OperatedTold, longer, ended}
 use Rattle.expressions_code.proofs.leaves.Returns.{deep_raised}

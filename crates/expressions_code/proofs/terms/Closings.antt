@@ -26,7 +26,7 @@ use Rattle.expressions.specs.Expressions.{read, reported, absent, grouped}
 use Rattle.records.specs.Stores.{written}
 use Rattle.records.specs.Counters.{stepped}
 use Rattle.expressions_code.specs.Terms.{parsed_of, size_t, nodes_t, Held, DeepTold, ExpressionTold, group_term, BehindTold, with_nodes, CloseTold, closed, unclosed}
-use Rattle.expressions.specs.Costs.{size_with_span, size_pos}
+use Rattle.expressions.proofs.Costs.{size_with_span, size_pos}
 use Rattle.expressions_code.specs.Roots.{span_e_with_span, widened}
 use Rattle.expressions_code.proofs.leaves.Returns.{held_none, deep_raised}
 use Rattle.expressions_code.proofs.terms.Returns.{kept, is_read, is_absent, behind, fails_on, told_more}

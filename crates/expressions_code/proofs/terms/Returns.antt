@@ -33,9 +33,9 @@ use Rattle.records.specs.Counters.{stepped}
 use Rattle.expressions_code.specs.Terms.{NodeTold, parsed_of, size_t, nodes_t, Held, Said, DeepTold, TokenTold, DepthTold, TermTold, PrefixTold, ExpressionTold, unary_term, plus_term, group_term, BehindTold, ClimbTold, Spared}
 use Rattle.expressions.specs.Laws as laws
 use Rattle.expressions.specs.Laws.{law_run}
-use Rattle.expressions.specs.Costs.{Cost, prefix_cost, expression_cost, size_pos, all_clean}
+use Rattle.expressions.proofs.Costs.{Cost, prefix_cost, expression_cost, size_pos, all_clean}
 use Rattle.expressions.specs.Fuel.{fuel_enough}
-use Rattle.expressions.specs.Grown.{grown_behind, climb_grows}
+use Rattle.expressions.proofs.Grown.{grown_behind, climb_grows}
 use Rattle.expressions_code.specs.Answers.{what_read, what_reported, what_absent}
 use Rattle.expressions_code.proofs.leaves.Returns.{held_none, deep_raised, absent_told}
 

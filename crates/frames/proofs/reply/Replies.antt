@@ -17,7 +17,8 @@ use Rattle.operand.specs.Layouts.{width, number_at, token_size, diagnostic_size,
 use Rattle.operand.specs.Layout.{nodes_laid, diagnostics_laid, bytes_of, operand_number, no_operand_number, head_laid, answer_line}
 use Rattle.operand.specs.Entry.{Input, refusal, reading_at}
 use Rattle.layout.specs.Promise.{result_of, result_at, EntryPromise}
-use Rattle.operand.specs.Conditions.{Valid, refuses_bounds}
+use Rattle.operand.specs.Conditions.{Valid}
+use Rattle.operand.proofs.Conditions.{refuses_bounds}
 use Rattle.layout.specs.Answers as Answers
 use Rattle.layout.specs.Answers.{Total, operand_valid, missed_valid}
 use Rattle.layout.specs.declared.answer.Answer.{Answer}

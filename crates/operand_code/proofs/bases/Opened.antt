@@ -11,7 +11,7 @@ use Rattle.names.specs.declared.tokens.Token.{Token}
 use Rattle.names.specs.declared.tokens.Peeked.TheVariants as peeked
 use Rattle.records.specs.Counters.{stepped}
 use Rattle.records.specs.declared.counters.Counters.{Counters}
-use Rattle.expressions.specs.Costs.{true_false}
+use Rattle.expressions.proofs.Costs.{true_false}
 use Rattle.expressions.specs.declared.reading.Setting.{Setting}
 use Rattle.operand.specs.Operands.{Maybe, Operand, Displacement}
 use Rattle.operand.specs.Operand.{an_address_register, a_program_counter, register_from, closed_counter, after_base, after_counter, parse_base_and_index}

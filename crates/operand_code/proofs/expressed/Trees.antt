@@ -12,7 +12,7 @@ use Rattle.records.specs.declared.counters.Counters.{Counters}
 use Rattle.expressions_code.specs.declared.terms.Parsed.TheVariants as parsed
 use Rattle.expressions_code.specs.declared.terms.Step.{Step}
 use Rattle.expressions_code.specs.declared.terms.Chain.{Chain}
-use Rattle.expressions.specs.Costs.{expression_cost, all_clean, size_pos}
+use Rattle.expressions.proofs.Costs.{expression_cost, all_clean, size_pos}
 use Rattle.expressions.specs.Expressions.{Term, read, reported, absent, parse_expression, expression_from}
 use Rattle.expressions.specs.Laws.{law_run}
 use Rattle.expressions_code.specs.Answers.{what_read, what_absent}

@@ -19,7 +19,7 @@ use Rattle.names.specs.declared.tokens.Token.{Token}
 use Rattle.names.specs.declared.tokens.Peeked.TheVariants as peeked
 use Rattle.names.specs.declared.registers.Reg.{Reg}
 use Rattle.names.specs.declared.registers.Suppressed.{Suppressed}
-use Rattle.expressions.specs.Costs.{true_false}
+use Rattle.expressions.proofs.Costs.{true_false}
 use Rattle.expressions.specs.Laws.{holds}
 use Rattle.expressions.specs.Reader.{Test}
 use Rattle.records.specs.Spans.{span_of}

@@ -17,7 +17,7 @@ use Rattle.records.specs.Spans.{span}
 use Rattle.records.specs.declared.spans.Span.{Span}
 use Rattle.expressions.specs.declared.reading.Setting.{Setting}
 use Rattle.expressions.specs.Expressions.{take_size_suffix}
-use Rattle.expressions.specs.Costs.{all_clean}
+use Rattle.expressions.proofs.Costs.{all_clean}
 use Rattle.expressions.specs.Reader.{Test, Reader, answer, here, bump, peek, run, ◌>>=◌}
 use Rattle.expressions.specs.Laws as laws
 use Rattle.expressions.specs.Laws.{Law, law_run, holds}
@@ -31,8 +31,8 @@ use Rattle.operand.specs.Forms.{sized_of, displacement_read, record_of, operand_
 use Rattle.records.specs.Rooms.{Room, NodeRoom}
 use Rattle.expressions.specs.Told.{Told, Same}
 use Rattle.operand_code.specs.Operands.{HeldBy, Stored}
-use Rattle.operand.specs.Costs.{Left}
-use Rattle.operand.specs.Costs as cost
+use Rattle.operand.proofs.Costs.{Left}
+use Rattle.operand.proofs.Costs as cost
 use Rattle.operand_code.specs.Memory.{indirect_record, StoredD, StoredPart, SizedTold, DisplacementTold, inner_of, inner_read, inner_d, InnerTold, outer_of, outer_read, outer_d, OuterTold, StoredBoth, ClosedTold}
 use Rattle.operand.specs.declared.forms.Registers.{Registers}
 use Rattle.operand.specs.declared.forms.Index.{Index}

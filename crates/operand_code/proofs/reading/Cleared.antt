@@ -19,7 +19,7 @@ use Rattle.expressions.specs.Reader.{Reading, run}
 use Rattle.operand.specs.Operands.{Operand, Maybe, some, none}
 use Rattle.operand.specs.Operand.{setting_from, operand_from, reading_of}
 use Rattle.operand.specs.Records.{size_m, nodes_m}
-use Rattle.operand.specs.Readings.{nodes_few, within, started, ended}
+use Rattle.operand.proofs.Readings.{nodes_few, within, started, ended}
 use Rattle.operand.specs.Forms.{operand_read}
 use Rattle.operand.specs.declared.forms.OperandRecord.{OperandRecord}
 use Rattle.operand.specs.declared.forms.OperandRead.{OperandRead}

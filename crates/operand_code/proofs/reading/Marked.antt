@@ -10,7 +10,7 @@ use lib.Dec.{eqb}
 use Rattle.names.specs.Tokens.{count}
 use Rattle.names.specs.Places.{place, below}
 use Rattle.operand.specs.Operand.{reading_of}
-use Rattle.operand.specs.Marks.{reading_same}
+use Rattle.operand.proofs.Marks.{reading_same}
 
 module _ (L T : List ℕ) (few : count T ≤ 1023) (limit mark : ℕ) where
   pub mark_within : (m start : ℕ) → m ≡ min mark 1023 → reading_of limit m (place L T) start ≡ reading_of limit mark (place L T) start

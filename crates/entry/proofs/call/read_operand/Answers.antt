@@ -6,7 +6,7 @@ use native.Mathlib.Omega.{arith}
 use borrow.Author.Tests.{not-true, not-false}
 use Rattle.operand.specs.Layouts.{numbers_count}
 use Rattle.operand.specs.Entry.{Input, call}
-use Rattle.operand.specs.Conditions.{valid_limit}
+use Rattle.operand.proofs.Conditions.{valid_limit}
 use Rattle.entry.proofs.call.Refusals.{whole_list, decoded_good, token_refused, store_refused, valid}
 use Rattle.entry.proofs.call.Outcomes.{never_unfit, is_read}
 use borrow.Author.Rules.{rules}

@@ -31,15 +31,14 @@ returns-then-low-gt15 c =
     low_bad c.args.line.now c.loop-i.i (omega arith) _ _ c.value-high.ensures c.value-low.ensures c.loop-i.invariant.4 (omega (arith, c.if-high-gt15.false)) (omega (arith, c.if-low-gt15.true))
 
 pub loop-i-preserved : goal.loop-i-preserved
-loop-i-preserved c =
-    (
-      omega arith,
-      c.loop-i.invariant.1,
-      simp length-set (omega arith),
-      simp length-set (omega arith),
-      good_on c.args.line.now c.loop-i.i (omega arith) _ _ c.value-high.ensures c.value-low.ensures c.loop-i.invariant.4 (omega (arith, c.if-high-gt15.false)) (omega (arith, c.if-low-gt15.false)),
-      bytes_on c.args.line.now c.loop-i.i (omega arith) _ _ c.value-high.ensures c.value-low.ensures c.loop-i.invariant.4 _ (omega arith) c.loop-i.invariant.5,
-    )
+loop-i-preserved c = (
+  omega arith,
+  c.loop-i.invariant.1,
+  simp length-set (omega arith),
+  simp length-set (omega arith),
+  good_on c.args.line.now c.loop-i.i (omega arith) _ _ c.value-high.ensures c.value-low.ensures c.loop-i.invariant.4 (omega (arith, c.if-high-gt15.false)) (omega (arith, c.if-low-gt15.false)),
+  bytes_on c.args.line.now c.loop-i.i (omega arith) _ _ c.value-high.ensures c.value-low.ensures c.loop-i.invariant.4 _ (omega arith) c.loop-i.invariant.5,
+)
 
 pub returns : goal.returns
 unfolding DecodedAs

@@ -5,7 +5,7 @@ use native.Mathlib.Omega.{arith}
 use borrow.Author.Tests.{le-leb, lt-leb}
 use lib.Dec.{leb}
 use Rattle.records.specs.Shapes
-use Rattle.expressions.specs.Costs.{true_false}
+use Rattle.expressions.proofs.Costs.{true_false}
 use Rattle.operand.specs.Operand.{predecrement_close, or_none}
 use Rattle.operand.specs.Operands.{undisplaced}
 use Rattle.operand.specs.Records.{size_d, nodes_d, size_o, nodes_o}

@@ -1,0 +1,5 @@
+-- The laws.
+pub mod Limits
+pub mod Costs
+pub mod Grown
+pub mod Offsets

@@ -1,0 +1,11 @@
+-- The laws.
+pub mod Conditions
+pub mod Limits
+pub mod Marks
+pub mod Widened
+pub mod Settings
+pub mod Numbering
+pub mod MaskRule
+pub mod Readings
+pub mod Offsets
+pub mod Costs
