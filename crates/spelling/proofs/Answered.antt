@@ -32,7 +32,7 @@ use Rattle.operand.specs.declared.forms.Register.{Register}
 use Rattle.spelling.specs.Signs.{Sign, RegisterAt, unreserved}
 use Rattle.spelling.specs.Spelling
 use Rattle.spelling.specs.Spelling.{Letter, AddressAt, an_address, Spelling}
-use Rattle.spelling.proofs.Reads.{comes}
+use Rattle.spelling.proofs.Readings.{comes}
 use Rattle.spelling.proofs.Names
 use Rattle.spelling.specs.Silence.{Silent, Quiet}
 use Rattle.spelling.proofs.Silence.{call, silent_choose}

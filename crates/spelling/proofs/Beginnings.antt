@@ -18,7 +18,7 @@ use Rattle.spelling.specs.Signs.{Sign, Name, ordinary}
 use Rattle.spelling.specs.Expressions.{Spells, a_number, a_literal, a_name, a_local, a_unary, a_group, own_group, tighter, joined}
 use Rattle.spelling.specs.Expressions as E
 use Rattle.spelling.specs.Spelling.{Expression}
-use Rattle.spelling.proofs.Reads.{Reads, steps, passes, misses, either_way, other, kinded, same_sign}
+use Rattle.spelling.proofs.Readings.{Reads, steps, passes, misses, either_way, other, kinded, same_sign}
 use Rattle.spelling.proofs.Climbs.{unary_sign}
 use Rattle.spelling.proofs.Looks.{starts}
 

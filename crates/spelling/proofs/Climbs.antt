@@ -24,7 +24,7 @@ use Rattle.expressions.specs.Fuel.{turn, climb_equation}
 use Rattle.spelling.specs.Signs.{Sign, Name}
 use Rattle.spelling.specs.Expressions.{Worth, value, invalid, Unary, Binary, Spells, a_number, a_literal, a_name, a_local, an_address, a_unary, a_group, own_group, tighter, joined}
 use Rattle.spelling.specs.Expressions as E
-use Rattle.spelling.proofs.Reads.{Reads, answers, then, steps, passes, comes, other, kinded, unique, same_sign}
+use Rattle.spelling.proofs.Readings.{Reads, answers, then, steps, passes, comes, other, kinded, unique, same_sign}
 
 -- ---- the signs
 

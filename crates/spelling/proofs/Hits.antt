@@ -17,7 +17,7 @@ use Rattle.operand.specs.declared.forms.Registers.{Registers}
 use Rattle.spelling.specs.Signs.{Sign, RegisterAt, SuppressedAt}
 use Rattle.spelling.specs.Spelling
 use Rattle.spelling.specs.Spelling.{AddressAt, an_address, Indexes, an_index_lem, plain, suppressed, BaseAndIndex, Full, by_suppressed, by_data, by_tail, Spelling}
-use Rattle.spelling.proofs.Reads.{comes}
+use Rattle.spelling.proofs.Readings.{comes}
 use Rattle.spelling.proofs.Looks.{looks_register, data_no_address, suppressed_no_register}
 use Rattle.spelling.specs.Silence.{Silent}
 use Rattle.spelling.proofs.Found.{found_register, found_address, found_suppressed, suppressed_passes}

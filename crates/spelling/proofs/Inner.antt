@@ -27,7 +27,7 @@ use Rattle.operand.specs.declared.forms.Registers.{Registers}
 use Rattle.spelling.specs.Signs.{Sign, RegisterAt, a_register_lem, ordinary}
 use Rattle.spelling.specs.Spelling
 use Rattle.spelling.specs.Spelling.{Letter, Sized, no_size, a_size, Expression, BaseAndIndex, Inside, Behind, a_single, a_range, Items, last, more}
-use Rattle.spelling.proofs.Reads.{Reads, answers, from_here, then, then_at, steps, passes, sees, misses, other, kinded}
+use Rattle.spelling.proofs.Readings.{Reads, answers, from_here, then, then_at, steps, passes, sees, misses, other, kinded}
 use Rattle.spelling.proofs.Climbs.{Ends, ends_by, expression_read, rises}
 use Rattle.spelling.proofs.Names
 use Rattle.spelling.proofs.Looks.{held, looks_register, starts, Stops, stops_comma, stops_close, stops_bracket}

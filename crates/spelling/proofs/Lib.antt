@@ -14,7 +14,7 @@ pub mod Looks
 pub mod Names
 pub mod Openings
 pub mod Parts
-pub mod Reads
+pub mod Readings
 pub mod Sound
 pub mod Spelled
 pub mod Wider

@@ -28,7 +28,7 @@ use Rattle.spelling.specs.Signs.{Sign, Name, RegisterAt, a_register_lem, Counter
 use Rattle.spelling.specs.Expressions.{Unary, Spells, a_number, a_literal, a_name, a_local, an_address, a_unary, a_group, own_group, tighter, joined}
 use Rattle.spelling.specs.Expressions as E
 use Rattle.spelling.specs.Spelling.{Closed}
-use Rattle.spelling.proofs.Reads.{comes, other}
+use Rattle.spelling.proofs.Readings.{comes, other}
 use Rattle.spelling.proofs.Climbs.{Ends, ends_by}
 use Rattle.spelling.proofs.Names
 

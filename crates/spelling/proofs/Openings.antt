@@ -22,7 +22,7 @@ use Rattle.operand.specs.declared.forms.Registers.{Registers}
 use Rattle.spelling.specs.Signs.{Sign, Name, RegisterAt, a_register_lem, SuppressedAt, CounterAt}
 use Rattle.spelling.specs.Spelling
 use Rattle.spelling.specs.Spelling.{AddressAt, an_address, plain, suppressed, Sized, no_size, a_size, Scaled, no_scale, a_scale, Indexes, an_index_lem, BaseAndIndex, Full, by_suppressed, by_data, by_tail}
-use Rattle.spelling.proofs.Reads.{Reads, from_here, sees, misses, either_way, comes}
+use Rattle.spelling.proofs.Readings.{Reads, from_here, sees, misses, either_way, comes}
 use Rattle.spelling.proofs.Looks.{held, Looks, looks_register, looks_suppressed, suppressed_no_register, suppressed_no_counter, register_no_counter, data_no_address}
 use Rattle.spelling.proofs.Parts.{first_of_lem, holds_either, Seen}
 

@@ -32,7 +32,7 @@ use Rattle.operand.specs.declared.forms.Registers.{Registers}
 use Rattle.spelling.specs.Signs.{Sign, Name, a_register_lem}
 use Rattle.spelling.specs.Spelling
 use Rattle.spelling.specs.Spelling.{Letter, Sized, no_size, a_size, Factor, Scaled, no_scale, a_scale, IndexAt, plain, suppressed, Indexes, an_index_lem, Bases, BaseAndIndex}
-use Rattle.spelling.proofs.Reads.{Reads, answers, from_here, then, steps, passes, sees, misses, either_way, other, kinded}
+use Rattle.spelling.proofs.Readings.{Reads, answers, from_here, then, steps, passes, sees, misses, either_way, other, kinded}
 use Rattle.spelling.proofs.Looks.{held, Looks, looks_register, looks_counter, looks_suppressed, Stops, stops_comma}
 
 pub first_of_lem : {A B : Type 0} → A ⊎ B → (B → ⊥) → A

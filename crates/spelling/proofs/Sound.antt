@@ -25,7 +25,7 @@ use Rattle.expressions.proofs.Costs.{true_false}
 use Rattle.spelling.specs.Signs.{Sign, unreserved}
 use Rattle.spelling.specs.Expressions.{Worth, value, invalid, Unary, Binary, Spells, a_number, a_literal, a_name, a_local, an_address, a_unary, a_group, tighter, joined}
 use Rattle.spelling.specs.Expressions as E
-use Rattle.spelling.proofs.Reads.{comes}
+use Rattle.spelling.proofs.Readings.{comes}
 use Rattle.spelling.proofs.Climbs.{Ends}
 use Rattle.spelling.specs.Silence.{Silent, Quiet}
 use Rattle.spelling.proofs.Silence.{call}

@@ -31,7 +31,7 @@ use Rattle.operand.specs.declared.forms.Registers.{Registers}
 use Rattle.spelling.specs.Signs.{Sign, Name, RegisterAt, a_register_lem, CounterAt, ordinary}
 use Rattle.spelling.specs.Spelling
 use Rattle.spelling.specs.Spelling.{Closed, Letter, Sized, no_size, a_size, AddressAt, an_address, Indexes, BaseAndIndex, Full, Expression, Opening, Inside, Behind, Items, last, more, a_single, a_range, Spelling}
-use Rattle.spelling.proofs.Reads.{Reads, answers, then, steps, passes, sees, misses, comes, other, kinded, same_sign}
+use Rattle.spelling.proofs.Readings.{Reads, answers, then, steps, passes, sees, misses, comes, other, kinded, same_sign}
 use Rattle.spelling.proofs.Climbs.{Ends, ends_by, leads, climb_stop, First, a_term, the_own, expression_read, looser}
 use Rattle.spelling.proofs.Names
 use Rattle.spelling.proofs.Looks.{held, looks_register, looks_counter, starts, stops_close, stops_comma, stops_closed, closed_kind, closed_fails}
