@@ -40,6 +40,7 @@ use Rattle.layout.specs.declared.answer.Missed.{Missed}
 use Rattle.spelling.specs.Signs.{unreserved, ordinary}
 use Rattle.spelling.specs.Spelling.{Closed, Spelled}
 use Rattle.spelling.specs.Silence.{Unerring}
+use Rattle.spelling.specs.Answers as Answered
 use Rattle.spelling.proofs.Answers as Spellings
 use Rattle.terminal.specs.Exported.{Exported, told, answer_laid, out_after, answered, answer_bytes, answer_bytes_lem, short_answer, exported}
 use Rattle.terminal.specs.Stays.{number_roomy, number_short, stays}
@@ -236,7 +237,7 @@ module _ (a : Input) (O : List ℕ) (v : Valid a) (room : answer_bytes a.layout 
     pub nodes : N' ≡ nodes_after w (some y) a.nodes
     pub diagnostics : D' ≡ a.diagnostics
 
-  returned : {y : Operand} {j : ℕ} → Spellings.Returns a N' D' r y j → Returns y j
+  returned : {y : Operand} {j : ℕ} → Answered.Returns a N' D' r y j → Returns y j
   unfolding answer_laid given
   returned h = record {
     number = number_roomy a O room ∙ v;
