@@ -1,37 +1,17 @@
 -- What is left of a part of the input.
 -- Assumes nothing.
-use mathlib.Core.Path.{◌≡◌, refl, sym, ◌∙◌, ap, ap₂, subst}
-use mathlib.Core.Bool.{Bool, true, false}
+use mathlib.Core.Path.{◌≡◌, refl, sym, ◌∙◌, ap, ap₂}
 use mathlib.Core.List.{List, [], ◌∷◌}
 use Prim.Native.Nat.{ℕ, zero, suc, ◌+◌, ◌-◌, ◌≤◌, ◌<◌}
-use native.Mathlib.Nat.{sub-zero, min-eq_left}
+use native.Mathlib.Nat.{sub-zero}
 use native.Mathlib.Omega.{arith}
-use borrow.Author.Tests.{ltb-true}
-use lib.IntN.{ℤ, pos, negsuc}
-use lib.Signed.{lt_z}
-use mir.Syntax.{w64}
-use mir.Val.{of_z, to_z, SFits}
-use mir.Facts.{to_z-of_z}
-use lib.ListN.{length, take, drop, length-take, length-drop, drop_of_length-le}
+use lib.ListN.{length, take, drop, length-drop, drop_of_length-le}
 use lib.Seq.{take_all, drop-drop}
 use Rattle.frames.specs.Machine.{State, steps, fresh}
 use Rattle.frames.specs.Batches.{BatchTold}
 use Rattle.frames.specs.Program.{Run, drained, Leaves}
-use Rattle.frames.specs.Bounds.{progress, batch_bounds, batch_progress}
+use Rattle.frames.specs.Bounds.{progress, batch_progress}
 use Rattle.frames.specs.declared.batches.Batched.{Batched}
-use Rattle.libc.specs.Io.{Moved}
-use Rattle.io.specs.Counts.{clamp_len}
-use Rattle.operands.specs.Passing.{PartTold, LastTold, ReadTold}
-use Rattle.operands.specs.declared.Passed.{Passed}
-
-length_rest : (l : List ℕ) (k : ℕ) → length (take (length l - k) (drop k l)) ≡ length l - k
-length_rest l k = simp (length-take, length-drop) (omega arith)
-
--- a call on the rest consumes some of it
-pub consumes : (I : List ℕ) (at h : ℕ) (C O C' O' : List ℕ) (r : Batched) → at < length I → BatchTold (take (length I - at) (drop at I)) h C O C' O' r
-    → (1 ≤ r.consumed) × (at + r.consumed ≤ length I)
-consumes I at h C O C' O' r on p =
-    (batch_progress _ h C O C' O' r p (omega (arith, length_rest I at)), omega (arith, (batch_bounds _ h C O C' O' r p).0, length_rest I at))
 
 -- ---- two runs that leave the same
 
@@ -110,42 +90,3 @@ rest_end I at h C O h₀ C₀ O₀ on q =
       carry = sym (ap (λ (u : Run). u.carry) e) ∙ q.carry;
       out = sym (ap (λ (u : Run). u.out) e) ∙ q.out;
     }
-
--- a call that goes on leaves it
-pub nothing_said : {b : Bool} {A : Type 0} → b ≡ false → b ≡ true → A
-nothing_said e f = let z : ◌≡◌ {A = ℕ} 0 1 = cc in absurd (omega arith)
-
--- ---- by what a read gave
-
--- a number is handed on through its bits
-through : (got : ℤ) → SFits w64 got → to_z w64 (of_z w64 got) ≡ got
-through got f = to_z-of_z {w = w64} {z = got} f
-
-pub moved_on : (got : ℤ) (n m : ℕ) → SFits w64 got → n ≡ m → Moved n got → Moved m (to_z w64 (of_z w64 got))
-moved_on got n m f e h = subst (λ k. Moved k (to_z w64 (of_z w64 got))) e (subst (λ z. Moved n z) (sym (through got f)) h)
-
-pub tested : (got : ℤ) (b : Bool) → SFits w64 got → lt_z (to_z w64 (of_z w64 got)) (pos 0) ≡ b → lt_z got (pos 0) ≡ b
-tested got b f e = ap (λ z. lt_z z (pos 0)) (sym (through got f)) ∙ e
-
-pub counted_by : (got : ℤ) (n m : ℕ) → SFits w64 got → n ≡ clamp_len (to_z w64 (of_z w64 got)) m → n ≡ clamp_len got m
-counted_by got n m f e = e ∙ ap (λ z. clamp_len z m) (through got f)
-
-pub read_failed : (got : ℤ) (I : List ℕ) (h : ℕ) (C O : List ℕ) (r : Passed) → lt_z got (pos 0) ≡ true → r.more ≡ false → ReadTold got I h C O C O r
-read_failed (pos k) I h C O r t e = absurd (omega (arith, ltb-true k 0 t))
-read_failed (negsuc k) I h C O r t e = (e, refl, refl)
-
--- a read that gave k bytes has room for them
-counted : (k n : ℕ) (I : List ℕ) → k ≤ length I → n ≡ clamp_len (pos k) (length I) → n ≡ k
-counted k n I h e = e ∙ min-eq_left h
-
-pub read_ended : (got : ℤ) (I : List ℕ) (n h : ℕ) (C O O' : List ℕ) (r : Passed) → lt_z got (pos 0) ≡ false → Moved (length I) got
-    → n ≡ clamp_len got (length I) → n ≡ 0 → r.more ≡ false → LastTold h C O O' → ReadTold got I h C O C O' r
-read_ended (pos zero) I n h C O O' r t m e z f l = (f, refl, l)
-read_ended (pos (suc k)) I n h C O O' r t m e z f l = absurd (omega (arith, counted (suc k) n I m e))
-read_ended (negsuc k) I n h C O O' r t m e z f l = nothing_said refl (sym t)
-
-pub read_part : (got : ℤ) (I : List ℕ) (n h : ℕ) (C O C' O' : List ℕ) (r : Passed) → lt_z got (pos 0) ≡ false → Moved (length I) got
-    → n ≡ clamp_len got (length I) → (n ≡ 0 → ⊥) → PartTold (take n I) h C O C' O' r → ReadTold got I h C O C' O' r
-read_part (pos zero) I n h C O C' O' r t m e z p = absurd (z (counted 0 n I m e))
-read_part (pos (suc k)) I n h C O C' O' r t m e z p = subst (λ j. PartTold (take j I) h C O C' O' r) (counted (suc k) n I m e) p
-read_part (negsuc k) I n h C O C' O' r t m e z p = nothing_said refl (sym t)
