@@ -1,1 +1,4 @@
 -- What the proofs of a module share stands in the folder of that module.
+-- The laws.
+pub mod Conditions
+pub mod Stays

@@ -5,4 +5,3 @@ pub mod Exported
 pub mod Call
 -- the laws
 pub mod Conditions
-pub mod Stays

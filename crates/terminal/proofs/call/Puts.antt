@@ -20,7 +20,7 @@ use Rattle.layout.specs.declared.answer.Answer.{Answer}
 use Rattle.layout.specs.declared.answer.Found.{Found}
 use Rattle.layout.specs.declared.answer.Missed.{Missed}
 use Rattle.terminal.specs.Exported.{told, number_of, answer_laid, out_after, answered, answer_bytes, answer_bytes_lem, short_answer, exported}
-use Rattle.terminal.specs.Stays.{written_nothing}
+use Rattle.terminal.proofs.Stays.{written_nothing}
 use Rattle.terminal.specs.Call.{AnswerPut}
 
 -- one piece behind the other
