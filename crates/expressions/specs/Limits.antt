@@ -3,7 +3,6 @@
 use Rattle.std.specs.Prelude.{◌≡◌}
 use Rattle.records.specs.DiagnosticKinds
 use Rattle.records.specs.declared.diagnostics.Diagnostic.{Diagnostic}
-use Rattle.records.specs.Diagnostics.{nesting_too_deep}
 
 -- any diagnostic but NestingTooDeep
 abbrev pub NotTooDeep : Diagnostic → Type 0

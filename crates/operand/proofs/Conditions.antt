@@ -27,7 +27,7 @@ use Rattle.operand.specs.Entry.{Input, tokens_of, place_of, highest_limit, good_
 use Rattle.operand.proofs.Readings as R
 use Rattle.operand.specs.Readings.{gap}
 use Rattle.operand.specs.Fuel.{list_equation}
-use Rattle.operand.specs.Conditions.{Valid, Refuses, early, late, record_m, SameAnswer, AlikeThrough, record_at, SameButPlus, same, SameAnswerButPlus, further}
+use Rattle.operand.specs.Conditions.{Valid, Refuses, early, late, record_m, SameAnswer, AlikeThrough, record_at, SameButPlus, SameAnswerButPlus, further}
 
 -- ---- the numbers of the table
 

@@ -24,7 +24,7 @@ use Rattle.expressions.specs.Reader.{is}
 use Rattle.expressions.specs.Expressions.{Suffix, suffixed, bare, known, suffix_run, take_size_suffix}
 use Rattle.expressions.specs.Laws.{holds}
 use Rattle.expressions.proofs.Costs.{true_false}
-use Rattle.operand.specs.Operands.{Operand, Maybe, some, none}
+use Rattle.operand.specs.Operands.{Maybe, some, none}
 use Rattle.operand.specs.Operand
 use Rattle.operand.specs.Operand.{is_address, is_suppressed, is_suppressed_register, is_suppressed_address, a_register, an_address_register, a_program_counter, unmarked, size_or_scale, index_of, suppressed_index, register_from}
 use Rattle.operand.specs.declared.forms.Register.{Register}

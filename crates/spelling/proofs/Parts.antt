@@ -21,7 +21,7 @@ use Rattle.expressions.specs.Reader.{Test, is}
 use Rattle.expressions.specs.Expressions.{suffixed, bare, known, suffix_run, take_size_suffix, valued}
 use Rattle.expressions.specs.Laws.{holds}
 use Rattle.expressions.proofs.Costs.{true_false}
-use Rattle.operand.specs.Operands.{Operand, some}
+use Rattle.operand.specs.Operands.{some}
 use Rattle.operand.specs.Operand
 use Rattle.operand.specs.Operand.{is_address, is_suppressed, is_suppressed_register, is_suppressed_address, a_register, an_address_register, a_program_counter, unmarked, an_index, a_base_or_an_index, size_or_scale, index_of, suppressed_index, register_from, registers}
 use Rattle.operand.specs.declared.forms.Register.{Register}

@@ -10,7 +10,7 @@ use Rattle.expressions.specs.Reader.{any}
 use Rattle.expressions.specs.Expressions.{read, reported, absent, suffixed, bare, parse_expression}
 use Rattle.expressions.specs.Laws.{holds, All, Law, call}
 use Rattle.expressions.proofs.Costs.{Clean, true_false, Signed, suffix_cost, expression_cost, unary_expression}
-use Rattle.operand.specs.Operands.{displaced, Operand, some, none}
+use Rattle.operand.specs.Operands.{displaced, some, none}
 use Rattle.operand.specs.Operand
 use Rattle.expressions.specs.declared.reading.Setting.{Setting}
 use Rattle.operand.specs.Records.{size_d, size_o}

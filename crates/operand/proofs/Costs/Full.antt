@@ -8,7 +8,7 @@ use Rattle.records.specs.Problems
 use Rattle.records.specs.Shapes
 use Rattle.expressions.specs.Laws.{All, Law, call}
 use Rattle.expressions.proofs.Costs.{Clean}
-use Rattle.operand.specs.Operands.{Displacement, Operand, Maybe, some, none}
+use Rattle.operand.specs.Operands.{Displacement, Maybe, some, none}
 use Rattle.operand.specs.declared.forms.BaseRegister.{BaseRegister}
 use Rattle.operand.specs.declared.forms.Registers.{Registers}
 use Rattle.operand.specs.Operand

@@ -9,7 +9,7 @@ use Rattle.records.specs.Shapes
 use Rattle.expressions.specs.Expressions.{read, reported, absent, suffixed, bare}
 use Rattle.expressions.specs.Laws.{All, all_choose, Law, call}
 use Rattle.expressions.proofs.Costs.{Clean, suffix_cost, expression_cost}
-use Rattle.operand.specs.Operands.{Operand, some, none}
+use Rattle.operand.specs.Operands.{some, none}
 use Rattle.operand.specs.Operand
 use Rattle.expressions.specs.declared.reading.Setting.{Setting}
 use Rattle.operand.specs.Records.{size_o}

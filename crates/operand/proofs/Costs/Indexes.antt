@@ -7,7 +7,7 @@ use Rattle.records.specs.Problems
 use Rattle.expressions.specs.Expressions.{suffixed, bare}
 use Rattle.expressions.specs.Laws.{All, all_choose, Law, call}
 use Rattle.expressions.proofs.Costs.{Clean, suffix_cost, valued_cost}
-use Rattle.operand.specs.Operands.{Operand, some, none}
+use Rattle.operand.specs.Operands.{some, none}
 use Rattle.operand.specs.declared.forms.Register.{Register}
 use Rattle.operand.specs.declared.forms.IndexRegister.{IndexRegister}
 use Rattle.operand.specs.Operand

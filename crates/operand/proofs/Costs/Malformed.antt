@@ -8,7 +8,7 @@ use Rattle.records.specs.Problems
 use Rattle.expressions.specs.declared.reading.Setting.{Setting}
 use Rattle.expressions.specs.Laws.{All, Law, call}
 use Rattle.expressions.proofs.Costs.{Clean}
-use Rattle.operand.specs.Operands.{Operand, Maybe, some, none}
+use Rattle.operand.specs.Operands.{Maybe, some, none}
 use Rattle.operand.specs.Operand
 
 module _ (at : ℕ → Place) (w : ℕ) (clean : Clean at w) where

@@ -2,7 +2,6 @@
 -- Assumes nothing.
 use mathlib.Core.Path.{sym, ◌∙◌}
 use Rattle.reader.specs.Cursor.{text_there, text_nowhere}
-use borrow.Author.Rules.{rules}
 use Rattle.reader.proofs.text_at.Goals as goal
 
 pub returns-in-Is : goal.returns-in-Is

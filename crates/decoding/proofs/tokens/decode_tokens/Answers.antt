@@ -5,7 +5,6 @@ use Prim.Native.Nat.{◌-◌, ◌*◌}
 use native.Mathlib.Omega.{arith}
 use Rattle.operand.specs.Layouts.{token_numbers, numbers_count}
 use Rattle.decoding.proofs.tokens.Decoding.{all_told, unfit}
-use borrow.Author.Rules.{rules}
 use Rattle.decoding.proofs.tokens.decode_tokens.Goals as goal
 
 pub returns-then-numbers-n : goal.returns-then-numbers-n

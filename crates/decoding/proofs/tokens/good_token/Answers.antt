@@ -5,7 +5,6 @@ use native.Mathlib.Omega.{arith}
 use borrow.Author.Tests.{not-true, not-false, le-leb, lt-leb}
 use lib.ListN.{length}
 use Rattle.operand.specs.Entry.{good_token}
-use borrow.Author.Rules.{rules}
 use Rattle.decoding.proofs.tokens.good_token.Goals as goal
 
 pub returns-then-not-detail_defined : goal.returns-then-not-detail_defined

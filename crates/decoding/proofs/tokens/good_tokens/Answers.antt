@@ -1,15 +1,9 @@
 -- `decoding::tokens::good_tokens` meets its contract. The loop's invariant: the tokens looked at and those left together are good just where all are.
 -- Assumes nothing.
-use mathlib.Core.Path.{◌≡◌, refl, sym, ◌∙◌}
-use Prim.Native.Nat.{◌-◌, ◌*◌}
+use mathlib.Core.Path.{refl, sym, ◌∙◌}
 use native.Mathlib.Omega.{arith}
-use lib.ListN.{drop}
-use Rattle.names.specs.Choice.{both}
-use Rattle.names.specs.Tokens.{count}
-use Rattle.operand.specs.Entry.{good_tokens}
 use Rattle.operand.specs.Listed.{token_below}
 use Rattle.decoding.proofs.tokens.Decoding.{one_good, all_good}
-use borrow.Author.Rules.{rules}
 use Rattle.decoding.proofs.tokens.good_tokens.Goals as goal
 
 pub loop-token-init : goal.loop-token-init

@@ -3,7 +3,6 @@
 use mathlib.Core.Path.{sym}
 use Rattle.names.specs.Laws.{differ}
 use Rattle.decoding.proofs.tokens.Checks.{same_once}
-use borrow.Author.Rules.{rules}
 use Rattle.decoding.proofs.tokens.once.Goals as goal
 
 pub returns-then-text-ne1 : goal.returns-then-text-ne1

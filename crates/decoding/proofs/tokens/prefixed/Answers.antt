@@ -4,7 +4,6 @@ use mathlib.Core.Path.{sym, ◌∙◌}
 use native.Mathlib.Omega.{arith}
 use borrow.Author.Tests.{eq-eqb, ne_eqb}
 use Rattle.decoding.proofs.tokens.Checks.{prefixed_none, prefixed_empty, prefixed_first}
-use borrow.Author.Rules.{rules}
 use Rattle.decoding.proofs.tokens.prefixed.Goals as goal
 
 pub returns-then-base-eq0 : goal.returns-then-base-eq0

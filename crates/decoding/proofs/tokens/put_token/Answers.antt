@@ -3,7 +3,6 @@
 use native.Mathlib.Omega.{arith}
 use lib.ListN.{length-set}
 use Rattle.decoding.proofs.tokens.Decoding.{four_written}
-use borrow.Author.Rules.{rules}
 use Rattle.decoding.proofs.tokens.put_token.Goals as goal
 
 pub bounds-numbers-at-2 : goal.bounds-numbers-at-2

@@ -1,11 +1,7 @@
 -- `decoding::tokens::put_tokens` meets its contract. The loop's invariant: the first i tokens are decoded.
 -- Assumes nothing.
-use mathlib.Core.Path.{◌≡◌, refl}
-use Prim.Native.Nat.{◌≤◌, ◌-◌, ◌*◌}
+use mathlib.Core.Path.{refl}
 use native.Mathlib.Omega.{arith}
-use lib.ListN.{length, take}
-use Rattle.names.specs.Tokens.{count}
-use Rattle.records.specs.Stores.{written}
 use Rattle.operand.specs.Layouts.{token_numbers, numbers_count}
 use Rattle.decoding.proofs.tokens.Decoding.{none_decoded, decoded_long, one_decoded, all_decoded}
 use Rattle.decoding.proofs.tokens.put_tokens.Goals as goal

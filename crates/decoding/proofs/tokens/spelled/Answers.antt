@@ -3,7 +3,6 @@
 use mathlib.Core.Path.{sym, ◌∙◌}
 use native.Mathlib.Omega.{arith}
 use Rattle.decoding.proofs.tokens.Checks.{sign_any, sign_once, sign_twice}
-use borrow.Author.Rules.{rules}
 use Rattle.decoding.proofs.tokens.spelled.Goals as goal
 
 pub returns-then-kind-gt-SHIFT_RIGHT : goal.returns-then-kind-gt-SHIFT_RIGHT

@@ -1,7 +1,6 @@
 -- `decoding::tokens::token_from` meets its contract.
 -- Assumes nothing.
 use Rattle.operand.specs.Layouts.{token_numbers}
-use borrow.Author.Rules.{rules}
 use Rattle.decoding.proofs.tokens.token_from.Goals as goal
 
 pub narrow_token-requires : goal.narrow_token-requires

@@ -4,7 +4,6 @@ use mathlib.Core.Path.{sym, ◌∙◌}
 use borrow.Author.Tests.{eq-eqb, ne_eqb}
 use Rattle.names.specs.Laws.{differ}
 use Rattle.decoding.proofs.tokens.Checks.{same_twice}
-use borrow.Author.Rules.{rules}
 use Rattle.decoding.proofs.tokens.twice.Goals as goal
 
 pub returns-then-text-ne2 : goal.returns-then-text-ne2

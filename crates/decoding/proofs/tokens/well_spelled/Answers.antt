@@ -5,7 +5,6 @@ use native.Mathlib.Omega.{arith}
 use borrow.Author.Tests.{eq-eqb, ne_eqb, le-leb, lt-leb}
 use lib.ListN.{length}
 use Rattle.operand.specs.Entry.{well_spelled}
-use borrow.Author.Rules.{rules}
 use Rattle.decoding.proofs.tokens.well_spelled.Goals as goal
 
 pub returns-then-kind-gt-SIZE_SUFFIX : goal.returns-then-kind-gt-SIZE_SUFFIX

@@ -1,9 +1,7 @@
 -- `decoding::tokens::wide_token` meets its contract.
 -- Assumes nothing.
-use Prim.Native.Nat.{◌+◌, ◌*◌}
 use native.Mathlib.Omega.{arith}
 use Rattle.decoding.proofs.tokens.Decoding.{wide_token}
-use borrow.Author.Rules.{rules}
 use Rattle.decoding.proofs.tokens.wide_token.Goals as goal
 
 pub returns : goal.returns

@@ -5,7 +5,6 @@ use mathlib.Core.List.{[]}
 use native.Mathlib.Omega.{arith}
 use Rattle.names.specs.Registers.{reserved}
 use Rattle.expressions_code.proofs.leaves.Returns.{name_reserved, name_read}
-use borrow.Author.Rules.{rules}
 use Rattle.expressions_code.proofs.leaves.name_leaf.Goals as goal
 
 pub report-requires : goal.report-requires

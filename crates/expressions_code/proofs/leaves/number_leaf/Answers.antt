@@ -4,7 +4,6 @@ use mathlib.Core.Path.{refl, sym, ◌∙◌, ap}
 use native.Mathlib.Omega.{arith}
 use Rattle.names.specs.Numbers.{number_of}
 use Rattle.expressions_code.proofs.leaves.Returns.{number_value, number_large, number_invalid}
-use borrow.Author.Rules.{rules}
 use Rattle.expressions_code.proofs.leaves.number_leaf.Goals as goal
 
 pub read_leaf-requires : goal.read_leaf-requires

@@ -3,7 +3,6 @@
 use mathlib.Core.Path.{refl}
 use native.Mathlib.Omega.{arith}
 use Rattle.expressions_code.proofs.leaves.Returns.{star_told, number_told, string_told, name_told, local_told, error_told, other_told}
-use borrow.Author.Rules.{rules}
 use Rattle.expressions_code.proofs.leaves.parse_leaf.Goals as goal
 
 pub read_leaf-requires : goal.read_leaf-requires

@@ -3,7 +3,6 @@
 use mathlib.Core.Path.{refl}
 use Rattle.records.specs.Nodes.{words}
 use Rattle.records.specs.Written.{put_told}
-use borrow.Author.Rules.{rules}
 use Rattle.expressions_code.proofs.leaves.put_operator.Goals as goal
 
 pub returns : goal.returns

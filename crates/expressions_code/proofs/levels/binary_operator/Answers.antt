@@ -1,7 +1,6 @@
 -- `expressions_code::levels::binary_operator` meets its contract.
 -- Assumes nothing.
 use Rattle.expressions_code.proofs.levels.Operators.{operator_none, operator_first, operator_later, operator_shift, operator_past}
-use borrow.Author.Rules.{rules}
 use Rattle.expressions_code.proofs.levels.binary_operator.Goals as goal
 
 pub returns-then-kind-lt-PLUS : goal.returns-then-kind-lt-PLUS

@@ -4,7 +4,6 @@ use mathlib.Core.Path.{refl}
 use native.Mathlib.Omega.{arith}
 use Rattle.expressions_code.specs.Reading.{read, unread}
 use Rattle.expressions_code.proofs.reading.Kept.{expression_kept, room_fits, room_lacks}
-use borrow.Author.Rules.{rules}
 use Rattle.expressions_code.proofs.reading.expression.Goals as goal
 
 pub returns-then-not-has_room : goal.returns-then-not-has_room

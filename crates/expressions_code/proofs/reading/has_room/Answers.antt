@@ -3,7 +3,6 @@
 use native.Mathlib.Omega.{arith}
 use mathlib.Core.Path.{refl}
 use Rattle.expressions_code.specs.Reading.{enough, lacking}
-use borrow.Author.Rules.{rules}
 use Rattle.expressions_code.proofs.reading.has_room.Goals as goal
 
 pub returns-then-tokens-gt-MOST_TOKENS : goal.returns-then-tokens-gt-MOST_TOKENS

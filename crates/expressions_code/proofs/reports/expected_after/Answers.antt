@@ -3,7 +3,6 @@
 use mathlib.Core.Path.{◌∙◌, ap}
 use Rattle.records.specs.DiagnosticKinds
 use Rattle.records.specs.Diagnostics.{plain}
-use borrow.Author.Rules.{rules}
 use Rattle.expressions_code.proofs.reports.expected_after.Goals as goal
 
 pub returns : goal.returns

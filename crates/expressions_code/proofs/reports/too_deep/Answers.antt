@@ -2,7 +2,6 @@
 -- Assumes nothing.
 use mathlib.Core.Path.{sym, ◌∙◌}
 use Rattle.expressions_code.proofs.leaves.Returns.{deep_token, deep_past}
-use borrow.Author.Rules.{rules}
 use Rattle.expressions_code.proofs.reports.too_deep.Goals as goal
 
 pub returns-in-Is : goal.returns-in-Is

@@ -4,7 +4,6 @@ use mathlib.Core.Path.{◌∙◌, ap}
 use Rattle.records.specs.DiagnosticKinds
 use Rattle.records.specs.Spans.{no_span}
 use Rattle.records.specs.Diagnostics.{plain}
-use borrow.Author.Rules.{rules}
 use Rattle.expressions_code.proofs.reports.unclosed.Goals as goal
 
 pub returns : goal.returns

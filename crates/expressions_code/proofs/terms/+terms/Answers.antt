@@ -2,18 +2,14 @@
 -- The measure is four times the tokens left, and up to 3 more for one that calls another at the same place.
 -- The loop's invariant: what the rest of the climb tells, the whole tells (`Climbing`).
 -- Assumes nothing.
-use borrow.Author.Rules.{rules}
 use native.Mathlib.Omega.{arith}
 use mathlib.Core.Path.{sym, ◌∙◌, ap}
-use mathlib.Core.Logic.{inl, inr}
-use Prim.Native.Nat.{ℕ, ◌+◌, ◌-◌, ◌*◌, ◌<◌}
-use Rattle.names.specs.Tokens.{count}
 use Rattle.expressions_code.proofs.levels.Operators.{precedence_small}
 use Rattle.names.specs.Places.{live}
 use Rattle.expressions_code.proofs.terms.Returns.{read_some, absent_quiet, prefix_full, prefix_end, prefix_unary, prefix_plus, prefix_group, prefix_leaf, unary_reads, unary_reports, unary_absents, plus_reads, plus_reports, plus_absents, expression_reads, expression_reports, expression_absents}
 use Rattle.expressions_code.proofs.terms.Closings.{group_reports, group_absents, group_tells}
 use Rattle.expressions_code.proofs.terms.Climbs.{climb_ends, climb_lows, operated_reports, operated_absents, operated_reads}
-use Rattle.expressions_code.proofs.terms.Turns.{Climbing, started, is_longer, again, ends}
+use Rattle.expressions_code.proofs.terms.Turns.{started, is_longer, again, ends}
 use Rattle.expressions_code.proofs.terms.+terms.Goals as goal
 
 pub parse_expression-parse_expression_from-q-requires : goal.parse_expression-parse_expression_from-q-requires

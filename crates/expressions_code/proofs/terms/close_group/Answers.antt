@@ -7,7 +7,6 @@ use Rattle.names.specs.Kinds
 use Rattle.names.specs.Places.{there, nowhere}
 use Rattle.expressions.specs.Reader.{is}
 use Rattle.expressions.specs.Paths.{fails, fails_end}
-use borrow.Author.Rules.{rules}
 use Rattle.expressions_code.proofs.terms.close_group.Goals as goal
 
 pub returns-then-t-eq-RIGHT_PAREN : goal.returns-then-t-eq-RIGHT_PAREN

@@ -3,7 +3,6 @@
 use Rattle.records.specs.Nodes.{low_first}
 use Rattle.operand.specs.Layouts.{number}
 use Rattle.operand.specs.Layout.{head_laid}
-use borrow.Author.Rules.{rules}
 use Rattle.layout.proofs.answer.write_head.Goals as goal
 
 pub returns-in-Narrow : goal.returns-in-Narrow

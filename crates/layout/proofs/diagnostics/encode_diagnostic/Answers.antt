@@ -1,6 +1,5 @@
 -- `layout::diagnostics::encode_diagnostic` meets its contract.
 -- Assumes nothing.
-use borrow.Author.Rules.{rules}
 use Rattle.layout.proofs.diagnostics.encode_diagnostic.Goals as goal
 
 pub returns-in-Narrow : goal.returns-in-Narrow

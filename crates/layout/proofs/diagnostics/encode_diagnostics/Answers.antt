@@ -1,16 +1,11 @@
 -- `layout::diagnostics::encode_diagnostics` meets its contract. The loop's invariant: the first i records are written behind the used ones.
 -- Assumes nothing.
-use mathlib.Core.Path.{◌≡◌}
-use Prim.Native.Nat.{◌≤◌, ◌-◌, ◌+◌, ◌*◌}
+use Prim.Native.Nat.{◌*◌}
 use native.Mathlib.Nat.{mul-zero}
 use native.Mathlib.Omega.{arith}
-use lib.ListN.{length}
-use Rattle.records.specs.Stores.{written}
 use Rattle.operand.specs.Layouts.{diagnostic_size}
-use Rattle.operand.specs.Layout.{records_laid}
 use Rattle.layout.specs.Diagnostics.{diagnostic_from}
-use Rattle.layout.proofs.store.Encoding.{records_none, records_on, records_long, next_place_lem, place_within, mul_le, length_diagnostic_from, diagnostics_none, diagnostics_missing, records_together, diagnostics_short, diagnostics_all}
-use borrow.Author.Rules.{rules}
+use Rattle.layout.proofs.store.Encoding.{records_none, records_on, next_place_lem, place_within, length_diagnostic_from, diagnostics_none, diagnostics_missing, records_together, diagnostics_short, diagnostics_all}
 use Rattle.layout.proofs.diagnostics.encode_diagnostics.Goals as goal
 
 pub returns-then-n-eq0 : goal.returns-then-n-eq0

@@ -1,7 +1,6 @@
 -- `layout::diagnostics::place` meets its contract.
 -- Assumes nothing.
 use native.Mathlib.Omega.{arith}
-use borrow.Author.Rules.{rules}
 use Rattle.layout.proofs.diagnostics.place.Goals as goal
 
 pub overflow_mul-result : goal.overflow_mul-result

@@ -5,7 +5,6 @@ use native.Mathlib.Omega.{arith}
 use lib.ListN.{length}
 use Rattle.operand.specs.Lengths.{length_last}
 use Rattle.layout.proofs.store.Encoding.{node_written}
-use borrow.Author.Rules.{rules}
 use Rattle.layout.proofs.nodes.encode_node.Goals as goal
 
 pub write_parts-requires : goal.write_parts-requires

@@ -1,15 +1,12 @@
 -- `layout::nodes::encode_nodes` meets its contract. The loop's invariant: the first i records are written over the zeros.
 -- Assumes nothing.
-use mathlib.Core.Path.{◌≡◌, ◌∙◌}
-use Prim.Native.Nat.{◌≤◌, ◌-◌, ◌+◌, ◌*◌}
+use mathlib.Core.Path.{◌∙◌}
 use native.Mathlib.Nat.{mul-zero}
 use native.Mathlib.Omega.{arith}
-use Rattle.records.specs.Stores.{written}
-use Rattle.operand.specs.Layouts.{node_size, most_tokens, nodes_within}
-use Rattle.operand.specs.Layout.{node_from, node_bytes}
+use Rattle.operand.specs.Layouts.{node_size, nodes_within}
+use Rattle.operand.specs.Layout.{node_from}
 use Rattle.operand.specs.Lengths.{length_node}
 use Rattle.layout.proofs.store.Encoding.{records_none, records_on, records_long, next_place_lem, place_within, cleared_long, nodes_all, nodes_many, nodes_missing, nodes_short}
-use borrow.Author.Rules.{rules}
 use Rattle.layout.proofs.nodes.encode_nodes.Goals as goal
 
 pub returns-then-most_tokens-n : goal.returns-then-most_tokens-n

@@ -2,7 +2,6 @@
 -- Assumes nothing.
 use mathlib.Core.Path.{refl}
 use Rattle.records.specs.Nodes.{low_first}
-use borrow.Author.Rules.{rules}
 use Rattle.layout.proofs.nodes.four_words.Goals as goal
 
 pub returns : goal.returns

@@ -2,7 +2,6 @@
 -- Assumes nothing.
 use borrow.Author.Tests.{eq-eqb, ne_eqb}
 use Rattle.operand.specs.Layout.{last_eight}
-use borrow.Author.Rules.{rules}
 use Rattle.layout.proofs.nodes.last_eight.Goals as goal
 
 pub returns-then-kind-eq-NUMBER : goal.returns-then-kind-eq-NUMBER

@@ -6,7 +6,6 @@ use native.Mathlib.Omega.{arith}
 use lib.ListN.{length}
 use Rattle.records.specs.Stores.{written}
 use Rattle.records.specs.Written.{written_more}
-use borrow.Author.Rules.{rules}
 use Rattle.layout.proofs.nodes.write_parts.Goals as goal
 
 pub returns : goal.returns

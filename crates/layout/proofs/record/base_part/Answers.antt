@@ -1,7 +1,6 @@
 -- `layout::record::base_part` meets its contract.
 -- Assumes nothing.
 use Rattle.operand.specs.Layout.{base_part}
-use borrow.Author.Rules.{rules}
 use Rattle.layout.proofs.record.base_part.Goals as goal
 
 pub returns-in-Address : goal.returns-in-Address

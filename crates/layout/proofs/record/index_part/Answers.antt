@@ -2,7 +2,6 @@
 -- Assumes nothing.
 use Rattle.operand.specs.Records.{flag}
 use Rattle.operand.specs.Layout.{index_part}
-use borrow.Author.Rules.{rules}
 use Rattle.layout.proofs.record.index_part.Goals as goal
 
 pub returns-in-Indexed : goal.returns-in-Indexed

@@ -1,7 +1,6 @@
 -- `layout::record::narrow_bytes` meets its contract.
 -- Assumes nothing.
 use Rattle.layout.proofs.record.Parts.{narrow_record}
-use borrow.Author.Rules.{rules}
 use Rattle.layout.proofs.record.narrow_bytes.Goals as goal
 
 pub returns : goal.returns

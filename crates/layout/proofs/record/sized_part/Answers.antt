@@ -1,7 +1,6 @@
 -- `layout::record::sized_part` meets its contract.
 -- Assumes nothing.
 use Rattle.operand.specs.Layout.{sized_part}
-use borrow.Author.Rules.{rules}
 use Rattle.layout.proofs.record.sized_part.Goals as goal
 
 pub returns-in-Is : goal.returns-in-Is

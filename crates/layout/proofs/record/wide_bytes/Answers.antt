@@ -1,7 +1,6 @@
 -- `layout::record::wide_bytes` meets its contract.
 -- Assumes nothing.
 use Rattle.layout.proofs.record.Parts.{wide_record}
-use borrow.Author.Rules.{rules}
 use Rattle.layout.proofs.record.wide_bytes.Goals as goal
 
 pub returns : goal.returns

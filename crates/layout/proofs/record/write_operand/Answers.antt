@@ -1,6 +1,5 @@
 -- `layout::record::write_operand` meets its contract.
 -- Assumes nothing.
-use borrow.Author.Rules.{rules}
 use Rattle.layout.proofs.record.write_operand.Goals as goal
 
 pub narrow_bytes-bytes-requires : goal.narrow_bytes-bytes-requires

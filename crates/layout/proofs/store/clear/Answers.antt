@@ -1,13 +1,8 @@
 -- `layout::store::clear` meets its contract. The loop's invariant: what stands before `at` and behind the first place is 0, and the rest is as it was.
 -- Assumes nothing.
-use mathlib.Core.Path.{◌≡◌}
-use Prim.Native.Nat.{◌≤◌, ◌-◌}
 use native.Mathlib.Omega.{arith}
-use lib.ListN.{length}
-use Rattle.records.specs.Stores.{cleared}
 use Rattle.records.specs.Written.{cleared_none}
 use Rattle.layout.proofs.store.Encoding.{cleared_long, cleared_on}
-use borrow.Author.Rules.{rules}
 use Rattle.layout.proofs.store.clear.Goals as goal
 
 pub loop-at-init : goal.loop-at-init

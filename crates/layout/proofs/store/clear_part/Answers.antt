@@ -1,12 +1,10 @@
 -- `layout::store::clear_part` meets its contract. The loop's invariant: what stands from the first place up to i is 0, and the rest is as it was.
 -- Assumes nothing.
-use mathlib.Core.Path.{◌≡◌, ap, ◌∙◌}
-use Prim.Native.Nat.{◌≤◌, ◌-◌}
+use mathlib.Core.Path.{ap, ◌∙◌}
 use native.Mathlib.Omega.{arith}
-use lib.ListN.{length, set, length-set}
+use lib.ListN.{set, length-set}
 use Rattle.records.specs.Stores.{cleared}
 use Rattle.records.specs.Written.{cleared_none, cleared_more}
-use borrow.Author.Rules.{rules}
 use Rattle.layout.proofs.store.clear_part.Goals as goal
 
 pub loop-i-init : goal.loop-i-init

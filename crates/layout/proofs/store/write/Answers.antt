@@ -1,12 +1,11 @@
 -- `layout::store::write` meets its contract. The loop's invariant: the first i bytes are written.
 -- Assumes nothing.
-use mathlib.Core.Path.{◌≡◌, sym, ◌∙◌, ap}
-use Prim.Native.Nat.{◌≤◌, ◌+◌, ◌-◌}
+use mathlib.Core.Path.{sym, ◌∙◌, ap}
+use Prim.Native.Nat.{◌+◌}
 use native.Mathlib.Omega.{arith}
 use lib.ListN.{length, get_or, set}
-use lib.Seq.{paste, paste-zero, length-paste}
+use lib.Seq.{paste-zero, length-paste}
 use Rattle.records.specs.Written.{paste_on, paste_all, written_not}
-use borrow.Author.Rules.{rules}
 use Rattle.layout.proofs.store.write.Goals as goal
 
 pub returns-then-store-bytes : goal.returns-then-store-bytes

@@ -1,10 +1,7 @@
 -- `names::letters::spells` meets its contract. The loop's invariant: the rest of the name spells the rest of the word just where the whole does.
 -- Assumes nothing.
-use mathlib.Core.Path.{◌≡◌, refl, sym, ◌∙◌}
-use Prim.Native.Nat.{◌≤◌, ◌-◌}
+use mathlib.Core.Path.{refl, sym, ◌∙◌}
 use native.Mathlib.Omega.{arith}
-use lib.ListN.{length, drop}
-use Rattle.names.specs.Letters.{spelled}
 use Rattle.names.proofs.letters.Spelling.{spelled_differ, spelled_on, spelled_no, spelled_end}
 use Rattle.names.proofs.letters.spells.Goals as goal
 

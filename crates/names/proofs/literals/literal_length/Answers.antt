@@ -1,10 +1,9 @@
 -- `names::literals::literal_length` meets its contract. The loop's invariant: the bytes counted and those to come are all that the literal has.
 -- Assumes nothing.
-use mathlib.Core.Path.{◌≡◌, ap}
-use Prim.Native.Nat.{◌≤◌, ◌+◌, ◌-◌}
+use mathlib.Core.Path.{ap}
 use native.Mathlib.Omega.{arith}
 use lib.ListN.{length, drop}
-use Rattle.names.specs.Literals.{quoted, literal_bytes}
+use Rattle.names.specs.Literals.{quoted}
 use Rattle.names.proofs.literals.Quotes.{literal_from}
 use Rattle.names.proofs.literals.literal_length.Goals as goal
 

@@ -1,8 +1,7 @@
 -- `names::literals::string_literal_bytes` meets its contract. The loop's invariant: the first n bytes are stored, and the others are the literal from i on.
 -- Assumes nothing.
-use Prim.Native.Nat.{◌-◌}
 use native.Mathlib.Omega.{arith}
-use Rattle.names.proofs.literals.Quotes.{Storing, storing_first, storing_next, storing_not_end, storing_same, storing_last, stored_not}
+use Rattle.names.proofs.literals.Quotes.{storing_first, storing_next, storing_not_end, storing_same, storing_last, stored_not}
 use Rattle.names.proofs.literals.string_literal_bytes.Goals as goal
 
 pub returns-then-out-total : goal.returns-then-out-total

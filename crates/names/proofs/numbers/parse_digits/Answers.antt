@@ -1,9 +1,8 @@
 -- `names::numbers::parse_digits` meets its contract. The loop's invariant: the rest of the digits, read on from the value, give what all of them give.
 -- Assumes nothing.
-use mathlib.Core.Path.{◌≡◌, refl, sym, ◌∙◌, ap}
-use Prim.Native.Nat.{◌≤◌, ◌+◌, ◌-◌, ◌*◌, ◌^◌, min}
+use mathlib.Core.Path.{refl, sym, ◌∙◌, ap}
+use Prim.Native.Nat.{◌+◌, ◌*◌, ◌^◌, min}
 use native.Mathlib.Omega.{arith}
-use lib.ListN.{length, drop}
 use Rattle.names.specs.Numbers.{scan}
 use Rattle.names.proofs.numbers.Figures.{radix_small, scan_on, scan_stop, scan_value, scan_large, digits_none, digits_some}
 use Rattle.names.proofs.numbers.parse_digits.Goals as goal

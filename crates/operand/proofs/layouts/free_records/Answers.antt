@@ -1,7 +1,6 @@
 -- `operand::layouts::free_records` meets its contract.
 -- Assumes nothing.
 use Rattle.operand.specs.Layouts.{free_records}
-use borrow.Author.Rules.{rules}
 use Rattle.operand.proofs.layouts.free_records.Goals as goal
 
 pub returns-in-Narrow : goal.returns-in-Narrow

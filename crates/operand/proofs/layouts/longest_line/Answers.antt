@@ -1,7 +1,6 @@
 -- `operand::layouts::longest_line` meets its contract.
 -- Assumes nothing.
 use Rattle.operand.specs.Layouts.{longest_line}
-use borrow.Author.Rules.{rules}
 use Rattle.operand.proofs.layouts.longest_line.Goals as goal
 
 pub returns-in-Narrow : goal.returns-in-Narrow

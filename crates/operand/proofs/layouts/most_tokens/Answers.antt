@@ -1,7 +1,6 @@
 -- `operand::layouts::most_tokens` meets its contract.
 -- Assumes nothing.
 use Rattle.operand.specs.Layouts.{most_tokens}
-use borrow.Author.Rules.{rules}
 use Rattle.operand.proofs.layouts.most_tokens.Goals as goal
 
 pub returns-in-Narrow : goal.returns-in-Narrow

@@ -1,7 +1,6 @@
 -- `operand::layouts::node_store` meets its contract.
 -- Assumes nothing.
 use Rattle.operand.specs.Layouts.{node_store}
-use borrow.Author.Rules.{rules}
 use Rattle.operand.proofs.layouts.node_store.Goals as goal
 
 pub returns-in-Narrow : goal.returns-in-Narrow

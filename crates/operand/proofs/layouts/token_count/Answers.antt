@@ -1,6 +1,5 @@
 -- `operand::layouts::token_count` meets its contract.
 -- Assumes nothing.
-use borrow.Author.Rules.{rules}
 use Rattle.operand.proofs.layouts.token_count.Goals as goal
 
 pub returns-in-Narrow : goal.returns-in-Narrow

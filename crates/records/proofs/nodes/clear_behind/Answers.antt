@@ -1,9 +1,9 @@
 -- `records::nodes::clear_behind` meets its contract. The loop's invariant: what stands from the n-th record up to i is 0, and the rest is as it was.
 -- Assumes nothing.
-use mathlib.Core.Path.{◌≡◌, sym, ap, ◌∙◌}
-use Prim.Native.Nat.{◌≤◌, ◌-◌, ◌*◌}
+use mathlib.Core.Path.{sym, ap, ◌∙◌}
+use Prim.Native.Nat.{◌*◌}
 use native.Mathlib.Omega.{arith}
-use lib.ListN.{length, set, length-set}
+use lib.ListN.{set, length-set}
 use Rattle.records.specs.Stores.{cleared}
 use Rattle.records.specs.Written.{cleared_none, cleared_more, cleared_turned}
 use Rattle.records.proofs.nodes.clear_behind.Goals as goal

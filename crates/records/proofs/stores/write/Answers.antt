@@ -1,10 +1,10 @@
 -- `records::stores::write` meets its contract. The loop's invariant: the first i numbers are written.
 -- Assumes nothing.
-use mathlib.Core.Path.{◌≡◌, sym, ◌∙◌, ap}
-use Prim.Native.Nat.{◌≤◌, ◌+◌, ◌-◌}
+use mathlib.Core.Path.{sym, ◌∙◌, ap}
+use Prim.Native.Nat.{◌+◌}
 use native.Mathlib.Omega.{arith}
 use lib.ListN.{length, get_or, set}
-use lib.Seq.{paste, paste-zero, length-paste}
+use lib.Seq.{paste-zero, length-paste}
 use Rattle.records.specs.Written.{paste_on, paste_all, written_not}
 use Rattle.records.proofs.stores.write.Goals as goal
 

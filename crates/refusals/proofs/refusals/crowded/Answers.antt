@@ -6,7 +6,6 @@ use native.Mathlib.Omega.{arith}
 use borrow.Author.Tests.{lt-ltb}
 use Rattle.operand.specs.Layouts.{diagnostic_size, free_records}
 use Rattle.refusals.proofs.refusals.Checks.{as_less}
-use borrow.Author.Rules.{rules}
 use Rattle.refusals.proofs.refusals.crowded.Goals as goal
 
 pub returns-then-records-free : goal.returns-then-records-free

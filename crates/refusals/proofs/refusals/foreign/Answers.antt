@@ -1,14 +1,13 @@
 -- `refusals::refusals::foreign` meets its contract. The loop's invariant: what was seen and what is left together have a foreign byte just where the line has.
 -- Assumes nothing.
-use mathlib.Core.Path.{◌≡◌, refl, sym, ◌∙◌, ap}
-use Prim.Native.Nat.{◌≤◌, ◌-◌, ◌+◌}
+use mathlib.Core.Path.{refl, sym, ◌∙◌, ap}
+use Prim.Native.Nat.{◌+◌}
 use native.Mathlib.Omega.{arith}
-use lib.ListN.{length, drop}
+use lib.ListN.{drop}
 use Rattle.names.specs.Choice.{either}
 use Rattle.operand.specs.Entry.{foreign}
 use Rattle.names.specs.Laws.{either_false, either_assoc}
 use Rattle.refusals.proofs.refusals.Checks.{foreign_end, foreign_on, or_either}
-use borrow.Author.Rules.{rules}
 use Rattle.refusals.proofs.refusals.foreign.Goals as goal
 
 pub loop-i-init : goal.loop-i-init

@@ -1,6 +1,5 @@
 -- `refusals::refusals::has_rest` meets its contract.
 -- Assumes nothing.
-use borrow.Author.Rules.{rules}
 use Rattle.refusals.proofs.refusals.has_rest.Goals as goal
 
 pub returns-in-Narrow : goal.returns-in-Narrow

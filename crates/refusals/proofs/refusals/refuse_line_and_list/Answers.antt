@@ -7,7 +7,6 @@ use borrow.Author.Tests.{lt-ltb, le-ltb}
 use lib.ListN.{length}
 use Rattle.operand.specs.Layouts.{token_size, longest_line, most_tokens}
 use Rattle.operand.specs.Entry.{line_and_list, first_of}
-use borrow.Author.Rules.{rules}
 use Rattle.refusals.proofs.refusals.refuse_line_and_list.Goals as goal
 
 pub returns-then-longest_line-line : goal.returns-then-longest_line-line

@@ -5,7 +5,6 @@ use native.Mathlib.Omega.{arith}
 use borrow.Author.Tests.{lt-ltb, le-ltb}
 use Rattle.operand.specs.Layouts.{node_store}
 use Rattle.operand.specs.Entry.{start_stores_and_limit, first_of}
-use borrow.Author.Rules.{rules}
 use Rattle.refusals.proofs.refusals.refuse_start_stores_and_limit.Goals as goal
 
 pub returns-then-tokens-start : goal.returns-then-tokens-start
