@@ -5,8 +5,9 @@ from glob import glob
 from os.path import exists
 
 FN = re.compile(r'^( *)(pub(?:\(crate\))? )?(?:extern "C" )?fn (\w+)')
+CLAUSE = r"^ *{}(?: (\w+))? \{{"
 ITEM = re.compile(r"^(?:pub(?:\(crate\))? )?(?:const|static|struct|enum) (\w+)")
-USE = re.compile(r"use Rattle·(\w+?)(?:·specs)?\.specs\.((?!declared)[\w.]+)\.\{([^}]*)\}")
+USE = re.compile(r"use Rattle\.(\w+)\.specs\.((?!declared)[\w.]+)\.\{([^}]*)\}")
 DEFINED = re.compile(r"^( *)((?:(?:unfoldable|abbrev|pub|record|data) )*)([^\s:().]+)(?= [:(])")
 
 
@@ -14,9 +15,19 @@ class Item:  # a function, constant or type of crates/NAME/src, or a definition 
     def __init__(self, crate, path, name, public, start):
         self.crate, self.path, self.name, self.public, self.start, self.text = crate, path, name, public, start, ""
 
+    # the clauses of this word, which stand before the body, as pairs of name and text; a single one may have no name
+    def clauses(self, word):
+        head, found = re.split(r"^ *\{$", self.text, maxsplit=1, flags=re.M)[0], []
+        for clause in re.finditer(CLAUSE.format(word), head, re.M):
+            depth, at = 1, clause.end()
+            while depth and at < len(head):
+                depth += {"{": 1, "}": -1}.get(head[at], 0)
+                at += 1
+            found.append((clause[1], head[clause.end() : at - 1].strip()))
+        return found
+
     def contract(self, word):
-        found = re.search(rf"^ *{word} {{ ?(.*?) ?}}$", self.text, re.M | re.S)
-        return found and found[1]
+        return "; ".join(f"{name}: {text}" if name else text for name, text in self.clauses(word))
 
 
 def source_items(crate):
@@ -63,16 +74,13 @@ def brought(path):
 
 
 def words(text):
-    return [w for w in re.findall(r"[^\s()⌜⌝{};,\[\]]+", text)]
+    return re.findall(r"[^\s(){};,\[\]]+", text)
 
 
 def plain(promise):
     text = re.sub(r"\s+", " ", promise).strip()
-    text = re.sub(r"^λ \S+ ⌜ |^λ \S+ |⌜ ?| ?⌝", "", text)
-    text = re.sub(r" \.(\w)", r".\1", text)
-    text = re.sub(r"\bnow \(([\w.]+)\)|\bnow ([\w.]+)", lambda m: m[1] or m[2], text)
-    text = text.replace(".entry", "")
-    text = re.sub(r"(\w+)\.exit\b", r"\1′", text)
+    text = re.sub(r"\.(?:now|old|entry)\b", "", text)
+    text = re.sub(r"(\w+)\.new\b", r"\1′", text)
     while (shorter := re.sub(r"\(([\w.′]+)\)", r"\1", text)) != text:
         text = shorter
     return text
@@ -144,24 +152,32 @@ def reached(item, items):
     return found
 
 
+# an edit's name, its reason, and the texts that it replaces with their files
 def edit(path):
-    lines = open(path).read().split("\n")
-    parts = dict(line.split(": ", 1) for line in lines if ": " in line and not line.startswith("#"))
-    return {"name": path.split("/")[-1][:-5], "why": lines[0].lstrip("# "), **parts}
+    lines, file, pairs = open(path).read().split("\n"), "", []
+    for line in lines:
+        key, _, value = line.partition(": ")
+        file = value if key == "file" else file
+        pairs += [(file, value)] if key == "old" else []
+    return {"name": path.split("/")[-1][:-5], "why": lines[0].lstrip("# "), "pairs": pairs}
+
+
+# the item that a text of a file stands in, and its name; a text among the imports stands in none
+def place_of(crate, file, old, items):
+    path = f"crates/{crate}/{file}"
+    text = open(path).read() if exists(path) else ""
+    number = text[: max(text.find(old), 0)].count("\n")
+    if not file.startswith("src/"):
+        return None, specs_item(path, number) if text else ""
+    holders = [i for i in items if i.path == path and i.start <= number]
+    return (holders[-1], holders[-1].name) if holders else (None, "")
 
 
 def edits_of(crate, items):
     for path in sorted(glob(f"crates/{crate}/must-fail/*.edit")):
         e = edit(path)
-        file = f"crates/{crate}/{e['file']}"
-        text = open(file).read()
-        number = text[: text.find(e["old"])].count("\n")
-        if e["file"].startswith("src/"):
-            holders = [i for i in items if i.path == file and i.start <= number]
-            e["in"] = holders[-1] if holders else None
-            e["where"] = holders[-1].name if holders else ""
-        else:
-            e["in"], e["where"] = None, specs_item(file, number)
+        places = [(file, *place_of(crate, file, old, items)) for file, old in e["pairs"]]
+        e["file"], e["in"], e["where"] = next((p for p in places if p[2]), places[0] if places else ("", None, ""))
         yield e
 
 
@@ -169,15 +185,16 @@ def cell(text):
     return text.replace("|", "\\|")
 
 
-def crate_tables(crate, uses, program):
+def crate_tables(crate, uses, kind):
     items = source_items(crate)
     edits = list(edits_of(crate, items))
     functions = [i for i in items if i.function]
     public = [i for i in functions if i.public]
     out = [f"## `crates/{crate}`", ""]
-    kind = "A program" if program else f"{len(functions)} functions, {len(public)} public" if functions else "Definitions and types, no function"
-    out += [f"{kind}. Uses: {', '.join(uses) or 'none'}.", ""]
-    if shown := [i for i in functions if i.contract("ensures") and (i.public or program)]:
+    counts = f"{len(functions)} functions, {len(public)} public" if functions else "Definitions and types, no function"
+    said = {"program": "A program", "static library": f"A static library for C: {counts}"}.get(kind, counts)
+    out += [f"{said}. Uses: {', '.join(uses) or 'none'}.", ""]
+    if shown := [i for i in functions if i.contract("ensures") and (i.public or kind == "program")]:
         out += ["| Function | Promise | Definitions | Over | Edits of its code |", "|---|---|---|---|---|"]
         for item in shown:
             code = reached(item, items)
@@ -197,15 +214,17 @@ def crate_tables(crate, uses, program):
 def crates():
     for line in open("crates.txt"):
         if ":" in line.split("#")[0]:
-            name, uses = line.split("#")[0].split(":")
-            yield name.strip(), uses.split()
+            head, uses = line.split("#")[0].split(":")
+            name, *words = head.split()
+            program = glob(f"crates/{name}/src/main.rt")
+            yield name, uses.split(), "program" if program else "static library" if "staticlib" in words else "library"
 
 
 HEAD = """# Functions, promises, definitions, edits
 
 Written by `tools/conditions --write` from the tree, by crate in the order of `crates.txt`; the gate fails where it differs from the tree.
 
-- A **promise** is the contract's `ensures`, shortened: `r` (or another letter) is the result, `x` what stood in the lent `x` before the call, `x′` what stands there afterwards. No public function has a `requires`, so a promise holds for every input.
+- A **promise** is the contract's `ensures`, shortened: `result` is the result, `x` what stood in the lent `x` before the call, `x′` what stands there afterwards; where there are several clauses, each has its name before it. No public function has a `requires`, so a promise holds for every input.
 - **Definitions** are what the promise cites, **over** what a record that it cites is made of: `File.name` is in `specs/File.antt` of this crate or of the one named before it. What comes from the kit's own library is left out.
 - **Edits of its code** are the must-fail edits made in the function or in one that it calls in its crate; the edits of definitions stand in the second table, with all others.
 - **Definition, lines**: what must be believed: the files that `specs/Lib.antt` lists as the definition, without imports, comments and blank lines.
@@ -227,12 +246,11 @@ def believed(crate):
 
 def page():
     body, rows = [], []
-    for name, uses in crates():
-        program = bool(glob(f"crates/{name}/src/main.rt"))
-        lines, functions, public, edits = crate_tables(name, uses, program)
+    for name, uses, kind in crates():
+        lines, functions, public, edits = crate_tables(name, uses, kind)
         body += lines
         promised = sum(1 for i in source_items(name) if i.function and i.contract("ensures"))
-        rows.append((f"`{name}`" + (", a program" if program else ""), believed(name), functions, public, promised, edits))
+        rows.append((f"`{name}`" + (f", a {kind}" if kind != "library" else ""), believed(name), functions, public, promised, edits))
     total = ["all"] + [sum(row[i] for row in rows) for i in range(1, 6)]
     table = ["| Crate | Definition, lines | Functions | Public | With a promise | Edits |", "|---|---|---|---|---|---|"]
     table += [f"| {' | '.join(map(str, row))} |" for row in rows + [total]]
@@ -241,9 +259,9 @@ def page():
 
 # what every function owes: a library's a promise, a public one nothing asked
 def owed():
-    for name, _ in crates():
+    for name, _, kind in crates():
         for item in source_items(name):
-            if item.function and not glob(f"crates/{name}/src/main.rt"):
+            if item.function and kind != "program":
                 if not item.contract("ensures"):
                     yield f"no promise: {name} {item.name}"
                 if item.public and item.contract("requires"):

@@ -1,4 +1,4 @@
-//! Links the static library that `rt staticlib terminal` writes.
+//! Links the static library that `bindings/check` builds of `crates/terminal_c`.
 
 use std::env;
 use std::path::Path;
