@@ -12,6 +12,9 @@ use crate::tokens::behind_first;
 // One more than any register.
 const NO_BANK: u8 = 16;
 
+// The last digit of a register.
+const LAST_DIGIT: u8 = b'7';
+
 #[derive(Clone, Copy)]
 pub enum Reg {
     Is(u8),
@@ -60,7 +63,7 @@ impl Reg {
         if digit < b'0' {
             return Reg::Not;
         }
-        if b'7' < digit {
+        if LAST_DIGIT < digit {
             return Reg::Not;
         }
         if first == NO_BANK {

@@ -15,6 +15,9 @@ use operand::{Close, OperandRecord, OperandStep, form_numbers};
 use records::problems::BRACKET_MISSING;
 use records::{Counters, Span, shapes};
 
+// What closes the brackets.
+const CLOSE: u16 = kinds::RIGHT_BRACKET;
+
 // The operand between two offsets, of what stands within the brackets and behind them.
 fn memory_indirect(start: u16, end: u16, n: InnerPart, u: OuterPart) -> OperandRecord
     ensures { result ≡ indirect_record start end n u }
@@ -112,7 +115,7 @@ pub(crate) fn parse_memory_indirect(
     match p {
         Peeked::End => no_operand(unclosed(diagnostics, e, s, paren, shape, BRACKET_MISSING)),
         Peeked::Is(t) => {
-            if t.kind != kinds::RIGHT_BRACKET {
+            if t.kind != CLOSE {
                 return no_operand(unclosed(diagnostics, e, s, paren, shape, BRACKET_MISSING));
             }
             let f = step_over(e, t);

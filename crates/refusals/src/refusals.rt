@@ -12,7 +12,10 @@ use operand::refusal_numbers::{
     BAD_LIMIT, BAD_LIST, BAD_START, FOREIGN_BYTE, LONG_LINE, SHORT_DIAGNOSTICS, SHORT_NODES,
 };
 
-// The highest nesting limit.
+// The lowest nesting limit.
+const LOWEST_LIMIT: usize = 1;
+
+// The highest one.
 const HIGHEST_LIMIT: usize = 128;
 
 // Whether a byte is not printable.
@@ -83,7 +86,7 @@ fn crowded(layout: Layout, bytes: usize, used: usize) -> bool
 fn out_of_range(limit: usize) -> bool
     ensures { result ≡ either (ltb limit 1) (ltb highest_limit limit) }
 {
-    if limit < 1 {
+    if limit < LOWEST_LIMIT {
         return true;
     }
     HIGHEST_LIMIT < limit

@@ -5,7 +5,7 @@ use Rattle.std.specs.Prelude.{◌≡◌, List, ℕ, ◌+◌, ◌*◌, ◌≤◌,
 use Rattle.std.proofs.Math.ListN.{drop}
 use Rattle.names.specs.Places.{Place}
 use Rattle.operand.specs.declared.layouts.Layout.{Layout}
-use Rattle.operand.specs.Layouts.{width, number, joined, number_at, node_size, diagnostic_size}
+use Rattle.operand.specs.Layouts.{width, joined, number_at, node_size, diagnostic_size}
 use Rattle.operand.specs.Layout.{operand_number, no_operand_number}
 use Rattle.operand.specs.Entry.{Input, refusal}
 use Rattle.operand.specs.Conditions.{Valid, Refuses, record_at, SameButPlus}

@@ -2,7 +2,6 @@
 -- Assumes nothing.
 use mathlib.Core.Path.{sym}
 use lib.Seq.{length-take-le}
-use borrow.Author.Rules.{rules}
 use Rattle.leaves.proofs.put_start.Goals as goal
 
 pub slice_bounds-put-end : goal.slice_bounds-put-end

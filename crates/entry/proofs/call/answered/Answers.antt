@@ -1,7 +1,6 @@
 -- `entry::call::answered` meets its contract.
 -- Assumes nothing.
 use Rattle.entry.specs.Call.{answer_of}
-use borrow.Author.Rules.{rules}
 use Rattle.entry.proofs.call.answered.Goals as goal
 
 pub returns-in-Is : goal.returns-in-Is

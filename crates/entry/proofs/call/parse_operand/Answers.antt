@@ -5,7 +5,6 @@ use native.Mathlib.Omega.{arith}
 use Rattle.operand.specs.Layouts.{numbers_count}
 use Rattle.operand.specs.Entry.{Input, call}
 use Rattle.entry.proofs.call.Refusals.{whole_list, line_refused}
-use borrow.Author.Rules.{rules}
 use Rattle.entry.proofs.call.parse_operand.Goals as goal
 
 pub returns-then-n-ne0 : goal.returns-then-n-ne0

@@ -9,7 +9,6 @@ use Rattle.operand.specs.Entry.{Input, call}
 use Rattle.operand.proofs.Conditions.{valid_limit}
 use Rattle.entry.proofs.call.Refusals.{whole_list, decoded_good, token_refused, store_refused, valid}
 use Rattle.entry.proofs.call.Outcomes.{never_unfit, is_read}
-use borrow.Author.Rules.{rules}
 use Rattle.entry.proofs.call.read_operand.Goals as goal
 
 pub returns-then-not-decode_tokens : goal.returns-then-not-decode_tokens

@@ -1,13 +1,8 @@
 -- `frames::batches::batch_in` meets its contract. The loop's invariant: the rest of the input takes this state where the whole takes the first one.
 -- Assumes nothing.
-use mathlib.Core.Path.{◌≡◌, refl}
-use Prim.Native.Nat.{◌≤◌, ◌-◌}
+use mathlib.Core.Path.{refl}
 use native.Mathlib.Omega.{arith}
-use lib.ListN.{length, drop}
-use Rattle.frames.specs.Machine.{steps, fresh}
-use Rattle.frames.specs.Inner.{BatchAsks, state}
 use Rattle.frames.proofs.batches.Turns.{batch_end, batch_full, batch_on}
-use borrow.Author.Rules.{rules}
 use Rattle.frames.proofs.batches.batch_in.Goals as goal
 
 pub loop-i-init : goal.loop-i-init

@@ -1,7 +1,6 @@
 -- `frames::batches::finish` meets its contract.
 -- Assumes nothing.
 use Rattle.frames.proofs.batches.Turns.{finish_none, finish_line}
-use borrow.Author.Rules.{rules}
 use Rattle.frames.proofs.batches.finish.Goals as goal
 
 pub returns-then-held-eq0 : goal.returns-then-held-eq0

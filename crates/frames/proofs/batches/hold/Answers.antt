@@ -2,7 +2,6 @@
 -- Assumes nothing.
 use native.Mathlib.Omega.{arith}
 use Rattle.frames.proofs.batches.Turns.{hold_more, hold_long}
-use borrow.Author.Rules.{rules}
 use Rattle.frames.proofs.batches.hold.Goals as goal
 
 pub bounds-carry-held : goal.bounds-carry-held

@@ -1,7 +1,6 @@
 -- `frames::batches::turn` meets its contract.
 -- Assumes nothing.
 use Rattle.frames.proofs.batches.Turns.{turn_fed, turn_kept}
-use borrow.Author.Rules.{rules}
 use Rattle.frames.proofs.batches.turn.Goals as goal
 
 pub answer-w-requires : goal.answer-w-requires

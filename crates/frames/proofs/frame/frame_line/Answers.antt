@@ -3,7 +3,6 @@
 use native.Mathlib.Omega.{arith}
 use Rattle.frames.specs.Inner.{FramedAs}
 use Rattle.frames.proofs.reply.Replies.{width_small, frame_tokens}
-use borrow.Author.Rules.{rules}
 use Rattle.frames.proofs.frame.frame_line.Goals as goal
 
 pub overflow_mul-k : goal.overflow_mul-k

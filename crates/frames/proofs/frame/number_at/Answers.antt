@@ -2,7 +2,6 @@
 -- Assumes nothing.
 use native.Mathlib.Omega.{arith}
 use Rattle.operand.specs.Layouts.{number_at}
-use borrow.Author.Rules.{rules}
 use Rattle.frames.proofs.frame.number_at.Goals as goal
 
 pub bounds-bytes-at : goal.bounds-bytes-at

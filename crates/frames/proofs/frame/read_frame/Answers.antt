@@ -1,7 +1,6 @@
 -- `frames::frame::read_frame` meets its contract.
 -- Assumes nothing.
 use Rattle.frames.proofs.reply.Replies.{read_lent}
-use borrow.Author.Rules.{rules}
 use Rattle.frames.proofs.frame.read_frame.Goals as goal
 
 pub returns : goal.returns

@@ -1,6 +1,5 @@
 -- `frames::frame::tokens_long` meets its contract.
 -- Assumes nothing.
-use borrow.Author.Rules.{rules}
 use Rattle.frames.proofs.frame.tokens_long.Goals as goal
 
 pub returns-in-Narrow : goal.returns-in-Narrow

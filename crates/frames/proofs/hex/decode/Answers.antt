@@ -1,14 +1,10 @@
 -- `frames::hex::decode` meets its contract. The loop's invariant: the bytes of the first i pairs are in the store, and the rest spells bytes just where the whole does.
 -- Assumes nothing.
-use mathlib.Core.Path.{◌≡◌, refl}
-use mathlib.Core.List.{◌++◌}
-use Prim.Native.Nat.{◌≤◌, ◌-◌, ◌*◌}
+use mathlib.Core.Path.{refl}
 use native.Mathlib.Omega.{arith}
-use lib.ListN.{length, take, drop, length-set}
-use Rattle.frames.specs.Hex.{spells, spelled}
+use lib.ListN.{length-set}
 use Rattle.frames.specs.Inner.{DecodedAs}
 use Rattle.frames.proofs.hex.Decoding.{spells_odd, high_bad, low_bad, good_on, bytes_on, decoded}
-use borrow.Author.Rules.{rules}
 use Rattle.frames.proofs.hex.decode.Goals as goal
 
 pub returns-then-line-ne0 : goal.returns-then-line-ne0

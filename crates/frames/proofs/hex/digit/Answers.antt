@@ -3,7 +3,6 @@
 use borrow.Author.Tests.{lt-ltb, le-ltb}
 use native.Mathlib.Omega.{arith}
 use Rattle.frames.specs.Hex.{digit}
-use borrow.Author.Rules.{rules}
 use Rattle.frames.proofs.hex.digit.Goals as goal
 
 pub returns-then-n-lt10 : goal.returns-then-n-lt10

@@ -1,13 +1,10 @@
 -- `frames::hex::put` meets its contract. The loop's invariant: the digits of the first i bytes are written.
 -- Assumes nothing.
-use mathlib.Core.Path.{◌≡◌, refl}
-use Prim.Native.Nat.{◌≤◌, ◌+◌, ◌-◌, ◌*◌}
+use mathlib.Core.Path.{refl}
 use native.Mathlib.Omega.{arith}
-use lib.ListN.{length, take, length-set}
-use Rattle.records.specs.Stores.{written}
+use lib.ListN.{length-set}
 use Rattle.frames.specs.Hex.{digits}
 use Rattle.frames.proofs.hex.Digits.{written_none, put_next, put_all}
-use borrow.Author.Rules.{rules}
 use Rattle.frames.proofs.hex.put.Goals as goal
 
 pub loop-i-init : goal.loop-i-init

@@ -2,7 +2,6 @@
 -- Assumes nothing.
 use native.Mathlib.Omega.{arith}
 use Rattle.frames.proofs.hex.Digits.{value_low, value_figure, value_between, value_letter, value_high}
-use borrow.Author.Rules.{rules}
 use Rattle.frames.proofs.hex.value.Goals as goal
 
 pub returns-then-c-lt48 : goal.returns-then-c-lt48

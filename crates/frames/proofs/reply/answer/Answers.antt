@@ -4,7 +4,6 @@ use mathlib.Core.Path.{sym}
 use native.Mathlib.Omega.{arith}
 use lib.Seq.{length-take-le}
 use Rattle.frames.proofs.batches.Turns.{held_long, held_narrow, held_refused, held_wide, wide_some, behind_first, narrow_asks, put_as}
-use borrow.Author.Rules.{rules}
 use Rattle.frames.proofs.reply.answer.Goals as goal
 
 pub layout_of-layout-requires : goal.layout_of-layout-requires

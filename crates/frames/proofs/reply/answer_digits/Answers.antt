@@ -6,7 +6,6 @@ use lib.Seq.{length-take-le}
 use Rattle.frames.specs.Inner.{DecodedAs}
 use Rattle.frames.proofs.reply.Replies.{line_of}
 use Rattle.frames.proofs.batches.Turns.{digits_bad, digits_frame, digits_fit}
-use borrow.Author.Rules.{rules}
 use Rattle.frames.proofs.reply.answer_digits.Goals as goal
 
 pub decode-d-requires : goal.decode-d-requires

@@ -4,7 +4,6 @@ use mathlib.Core.Path.{sym}
 use native.Mathlib.Omega.{arith}
 use Rattle.frames.specs.Inner.{FramedAs}
 use Rattle.frames.proofs.reply.Replies.{not_frame, answer_asks, answer_bytes_lem, line_of}
-use borrow.Author.Rules.{rules}
 use Rattle.frames.proofs.reply.answer_frame.Goals as goal
 
 pub read_frame-r-requires : goal.read_frame-r-requires

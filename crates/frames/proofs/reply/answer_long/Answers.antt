@@ -2,7 +2,6 @@
 -- Assumes nothing.
 use native.Mathlib.Omega.{arith}
 use Rattle.frames.proofs.batches.Turns.{wide_stores}
-use borrow.Author.Rules.{rules}
 use Rattle.frames.proofs.reply.answer_long.Goals as goal
 
 pub answer_digits-requires : goal.answer_digits-requires

@@ -1,7 +1,6 @@
 -- `frames::reply::diagnostics_end` meets its contract.
 -- Assumes nothing.
 use native.Mathlib.Omega.{arith}
-use borrow.Author.Rules.{rules}
 use Rattle.frames.proofs.reply.diagnostics_end.Goals as goal
 
 pub overflow_mul-result : goal.overflow_mul-result

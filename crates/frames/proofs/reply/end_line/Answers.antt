@@ -1,7 +1,6 @@
 -- `frames::reply::end_line` meets its contract.
 -- Assumes nothing.
 use Rattle.frames.proofs.reply.Putting.{put_one}
-use borrow.Author.Rules.{rules}
 use Rattle.frames.proofs.reply.end_line.Goals as goal
 
 pub returns : goal.returns

@@ -1,7 +1,6 @@
 -- `frames::reply::layout_of` meets its contract.
 -- Assumes nothing.
 use Rattle.frames.proofs.batches.Turns.{layout_none, layout_wide, layout_narrow}
-use borrow.Author.Rules.{rules}
 use Rattle.frames.proofs.reply.layout_of.Goals as goal
 
 pub returns-then-held-eq0 : goal.returns-then-held-eq0

@@ -1,7 +1,6 @@
 -- `frames::reply::open_line` meets its contract.
 -- Assumes nothing.
 use Rattle.frames.proofs.reply.Putting.{opened, opened_wide}
-use borrow.Author.Rules.{rules}
 use Rattle.frames.proofs.reply.open_line.Goals as goal
 
 pub returns-in-Narrow : goal.returns-in-Narrow

@@ -1,7 +1,6 @@
 -- `frames::reply::put_answer` meets its contract.
 -- Assumes nothing.
 use Rattle.frames.specs.Inner.{answer_bytes, AnswerAsks}
-use borrow.Author.Rules.{rules}
 use Rattle.frames.proofs.reply.put_answer.Goals as goal
 
 pub put_found-requires : goal.put_found-requires

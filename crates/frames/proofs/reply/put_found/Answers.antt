@@ -7,7 +7,6 @@ use lib.Seq.{length-take-le}
 use Rattle.operand.specs.Lengths.{length_bytes}
 use Rattle.layout.specs.Head.{length_head}
 use Rattle.frames.proofs.reply.Putting.{found_long, alone, found_line}
-use borrow.Author.Rules.{rules}
 use Rattle.frames.proofs.reply.put_found.Goals as goal
 
 pub nodes_end-node_end-requires : goal.nodes_end-node_end-requires

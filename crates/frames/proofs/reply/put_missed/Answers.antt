@@ -6,7 +6,6 @@ use lib.ListN.{length}
 use lib.Seq.{length-take-le}
 use Rattle.layout.specs.Head.{length_head}
 use Rattle.frames.proofs.reply.Putting.{missed_long, alone, missed_line}
-use borrow.Author.Rules.{rules}
 use Rattle.frames.proofs.reply.put_missed.Goals as goal
 
 pub diagnostics_end-diagnostic_end-requires : goal.diagnostics_end-diagnostic_end-requires

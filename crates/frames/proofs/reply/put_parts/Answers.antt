@@ -2,7 +2,6 @@
 -- Assumes nothing.
 use native.Mathlib.Omega.{arith}
 use Rattle.frames.proofs.reply.Putting.{next_opening, next_digits, parts_put}
-use borrow.Author.Rules.{rules}
 use Rattle.frames.proofs.reply.put_parts.Goals as goal
 
 pub open_line-head_at-requires : goal.open_line-head_at-requires

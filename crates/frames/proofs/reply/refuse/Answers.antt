@@ -3,7 +3,6 @@
 use native.Mathlib.Omega.{arith}
 use Rattle.frames.specs.Reply.{refused}
 use Rattle.frames.proofs.reply.Putting.{next_opening, next_digits, line_put}
-use borrow.Author.Rules.{rules}
 use Rattle.frames.proofs.reply.refuse.Goals as goal
 
 pub open_line-from-requires : goal.open_line-from-requires

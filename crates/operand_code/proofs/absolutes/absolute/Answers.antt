@@ -1,6 +1,5 @@
 -- `operand_code::absolutes::absolute` meets its contract.
 -- Assumes nothing.
-use borrow.Author.Rules.{rules}
 use Rattle.operand_code.proofs.absolutes.absolute.Goals as goal
 
 pub returns : goal.returns

@@ -11,7 +11,6 @@ use Rattle.expressions.specs.Paths.{hit, miss, done}
 use Rattle.operand_code.proofs.Rooms.{room_step}
 use Rattle.operand_code.proofs.bases.Tails.{kept_from}
 use Rattle.operand_code.proofs.Holdings.{tree_is_lem, no_size}
-use borrow.Author.Rules.{rules}
 use Rattle.operand_code.proofs.absolutes.displaced_or_absolute.Goals as goal
 
 pub finish_expression_operand-requires : goal.finish_expression_operand-requires

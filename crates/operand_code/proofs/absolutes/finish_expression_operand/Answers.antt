@@ -4,7 +4,6 @@ use mathlib.Core.Path.{ap}
 use native.Mathlib.Omega.{arith}
 use Rattle.operand.specs.Operand.{finish_expression_operand}
 use Rattle.operand_code.proofs.operands.Returns.{behind_bare, behind_size, absolute_bare, absolute_sized}
-use borrow.Author.Rules.{rules}
 use Rattle.operand_code.proofs.absolutes.finish_expression_operand.Goals as goal
 
 pub take_size_suffix-z-requires : goal.take_size_suffix-z-requires

@@ -5,7 +5,6 @@ use native.Mathlib.Omega.{arith}
 use Rattle.operand.specs.Operand.{no_expression}
 use Rattle.expressions.specs.Paths.{raised, raised_as, raised_same, seen, beyond}
 use Rattle.operand_code.proofs.Holdings.{nothing_told}
-use borrow.Author.Rules.{rules}
 use Rattle.operand_code.proofs.absolutes.no_expression.Goals as goal
 
 pub raise-requires : goal.raise-requires

@@ -5,7 +5,6 @@ use Rattle.operand.specs.Operands.{undisplaced}
 use Rattle.operand.specs.Operand.{parse_expression_operand, or_absent, no_expression}
 use Rattle.operand_code.proofs.expressed.Trees.{tree_read, absent_room}
 use Rattle.operand_code.proofs.Holdings.{nothing_stored, unstored_told, tree_stored, tree_stands, stands_size, absent_nodes, behind_tree, behind_reported, behind_absent}
-use borrow.Author.Rules.{rules}
 use Rattle.operand_code.proofs.absolutes.parse_expression_operand.Goals as goal
 
 pub expression_at-r-requires : goal.expression_at-r-requires

@@ -14,7 +14,6 @@ use Rattle.operand_code.proofs.malformed.Failures.{failed_unclosed}
 use Rattle.operand_code.proofs.Rooms.{room_step}
 use Rattle.operand_code.proofs.bases.Tails.{kept_from, unclosed_shape, no_operand_held}
 use Rattle.operand_code.proofs.bases.Opened.{plain_with}
-use borrow.Author.Rules.{rules}
 use Rattle.operand_code.proofs.bases.after_base.Goals as goal
 
 pub unclosed-requires : goal.unclosed-requires

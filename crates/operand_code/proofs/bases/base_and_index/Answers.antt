@@ -7,7 +7,6 @@ use Rattle.operand_code.specs.Operands.{HeldBy}
 use Rattle.expressions.specs.Paths.{answered, bound}
 use Rattle.operand_code.proofs.Rooms.{index_is, index_not, index_room}
 use Rattle.operand_code.proofs.bases.Tails.{kept_from}
-use borrow.Author.Rules.{rules}
 use Rattle.operand_code.proofs.bases.base_and_index.Goals as goal
 
 pub close_index-requires : goal.close_index-requires

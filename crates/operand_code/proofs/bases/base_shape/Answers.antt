@@ -2,7 +2,6 @@
 -- Assumes nothing.
 use mathlib.Core.Path.{◌∙◌}
 use Rattle.operand_code.proofs.bases.Tails.{shape_displaced, shape_undisplaced}
-use borrow.Author.Rules.{rules}
 use Rattle.operand_code.proofs.bases.base_shape.Goals as goal
 
 pub returns-in-Is : goal.returns-in-Is

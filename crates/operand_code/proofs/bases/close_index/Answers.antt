@@ -7,7 +7,6 @@ use Rattle.operand_code.specs.Operands.{HeldBy}
 use Rattle.expressions.specs.Paths.{answered, bound}
 use Rattle.operand_code.proofs.Rooms.{close_is, close_not}
 use Rattle.operand_code.proofs.bases.Tails.{indexed_full, indexed_plain}
-use borrow.Author.Rules.{rules}
 use Rattle.operand_code.proofs.bases.close_index.Goals as goal
 
 pub expect_close-e-requires : goal.expect_close-e-requires

@@ -4,7 +4,6 @@ use mathlib.Core.Path.{sym, ap}
 use Rattle.operand_code.specs.Bases.{closed}
 use Rattle.expressions.specs.Paths.{renamed}
 use Rattle.operand_code.proofs.bases.Opened.{other_closed}
-use borrow.Author.Rules.{rules}
 use Rattle.operand_code.proofs.bases.closed.Goals as goal
 
 pub closed_base-requires : goal.closed_base-requires

@@ -7,7 +7,6 @@ use Rattle.names.specs.Kinds
 use Rattle.expressions.specs.Reader.{is}
 use Rattle.operand_code.proofs.lookahead.Names.{holds_at, holds_end}
 use Rattle.operand_code.proofs.bases.Tails.{base_displaced, base_indirect, base_postincrement}
-use borrow.Author.Rules.{rules}
 use Rattle.operand_code.proofs.bases.closed_base.Goals as goal
 
 pub returns-in-Is : goal.returns-in-Is

@@ -2,7 +2,6 @@
 -- Assumes nothing.
 use mathlib.Core.Path.{refl}
 use Rattle.operand_code.proofs.bases.Tails.{counter_displaced, counter_alone}
-use borrow.Author.Rules.{rules}
 use Rattle.operand_code.proofs.bases.closed_counter.Goals as goal
 
 pub returns-in-Is : goal.returns-in-Is

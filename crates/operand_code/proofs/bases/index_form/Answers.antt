@@ -2,7 +2,6 @@
 -- Assumes nothing.
 use Rattle.operand_code.specs.Bases.{index_form}
 use Rattle.operand_code.proofs.bases.Opened.{other_is}
-use borrow.Author.Rules.{rules}
 use Rattle.operand_code.proofs.bases.index_form.Goals as goal
 
 pub returns-in-Address : goal.returns-in-Address

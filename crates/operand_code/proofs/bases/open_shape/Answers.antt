@@ -3,7 +3,6 @@
 use Rattle.operand.specs.Operand.{base_shape}
 use Rattle.operand_code.specs.Bases.{open_shape}
 use Rattle.operand_code.proofs.bases.Opened.{other_is}
-use borrow.Author.Rules.{rules}
 use Rattle.operand_code.proofs.bases.open_shape.Goals as goal
 
 pub returns-in-Address : goal.returns-in-Address

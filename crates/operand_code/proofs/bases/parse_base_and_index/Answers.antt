@@ -11,7 +11,6 @@ use Rattle.operand_code.proofs.malformed.Failures.{failed_unclosed, failed_regis
 use Rattle.operand_code.proofs.Rooms.{room_step}
 use Rattle.operand_code.proofs.bases.Tails.{kept_from, unclosed_shape, register_shape, no_operand_held, no_operand_behind}
 use Rattle.operand_code.proofs.bases.Opened.{unsuppressed, no_register, no_counter, opened}
-use borrow.Author.Rules.{rules}
 use Rattle.operand_code.proofs.bases.parse_base_and_index.Goals as goal
 
 pub unclosed-requires : goal.unclosed-requires

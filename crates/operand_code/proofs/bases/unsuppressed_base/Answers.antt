@@ -4,7 +4,6 @@ use mathlib.Core.Path.{sym, ◌∙◌, ap}
 use Rattle.operand.specs.declared.forms.BaseRegister.{BaseRegister}
 use Rattle.operand_code.specs.Bases.{unsuppressed_base}
 use Rattle.operand_code.proofs.lookahead.Names.{address_hit, address_miss}
-use borrow.Author.Rules.{rules}
 use Rattle.operand_code.proofs.bases.unsuppressed_base.Goals as goal
 
 pub returns-in-Is : goal.returns-in-Is

@@ -1,7 +1,6 @@
 -- `operand_code::expressed::expression_at` meets its contract: there is room, so that what is unfit never comes.
 -- Assumes nothing.
 use Rattle.operand_code.proofs.expressed.Fitting.{expression_fits, expression_unfit}
-use borrow.Author.Rules.{rules}
 use Rattle.operand_code.proofs.expressed.expression_at.Goals as goal
 
 pub returns-in-Is : goal.returns-in-Is

@@ -5,7 +5,6 @@ use native.Mathlib.Omega.{arith}
 use Rattle.operand.specs.Operand.{after_base_register}
 use Rattle.operand.specs.Forms.{registers_read}
 use Rattle.expressions.specs.Paths.{answered, hereby, passed, unseen}
-use borrow.Author.Rules.{rules}
 use Rattle.operand_code.proofs.full.after_base_register.Goals as goal
 
 pub overflow_add-at : goal.overflow_add-at

@@ -8,7 +8,6 @@ use Rattle.operand.specs.Forms.{registers_read}
 use Rattle.names.specs.Places.{live}
 use Rattle.expressions.specs.Paths.{answered, hit_same, miss, done}
 use Rattle.operand_code.proofs.Rooms.{room_step}
-use borrow.Author.Rules.{rules}
 use Rattle.operand_code.proofs.full.comma_and_index.Goals as goal
 
 pub returns-then-t-ne-COMMA : goal.returns-then-t-ne-COMMA

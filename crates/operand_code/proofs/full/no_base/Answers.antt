@@ -7,7 +7,6 @@ use Rattle.operand.specs.Operand.{no_base}
 use Rattle.operand.specs.Forms.{registers_read}
 use Rattle.expressions.specs.Paths.{hereby, passed, unseen, over_same}
 use Rattle.operand_code.proofs.malformed.Failures.{failed_over}
-use borrow.Author.Rules.{rules}
 use Rattle.operand_code.proofs.full.no_base.Goals as goal
 
 pub with_index-requires : goal.with_index-requires

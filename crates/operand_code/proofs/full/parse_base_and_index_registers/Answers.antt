@@ -7,7 +7,6 @@ use Rattle.names.specs.Places.{live}
 use Rattle.expressions.specs.Paths.{same}
 use Rattle.operand_code.proofs.Rooms.{room_step}
 use Rattle.operand_code.proofs.bases.Tails.{some_base, no_base_lem}
-use borrow.Author.Rules.{rules}
 use Rattle.operand_code.proofs.full.parse_base_and_index_registers.Goals as goal
 
 pub no_base-requires : goal.no_base-requires

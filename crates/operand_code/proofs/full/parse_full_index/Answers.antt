@@ -1,14 +1,12 @@
 -- `operand_code::full::parse_full_index` meets its contract.
 -- Assumes nothing.
 use mathlib.Core.Path.{sym, ◌∙◌}
-use native.Mathlib.Omega.{arith}
 use Rattle.operand.specs.Operand.{parse_full_index, or_none}
 use Rattle.operand.specs.Forms.{operand_read}
 use Rattle.operand_code.specs.Operands.{HeldBy}
 use Rattle.expressions.specs.Paths.{answered, bound}
 use Rattle.operand_code.proofs.Rooms.{registers_is, registers_not, registers_room, close_is, close_not}
 use Rattle.operand_code.proofs.bases.Tails.{full_index_told}
-use borrow.Author.Rules.{rules}
 use Rattle.operand_code.proofs.full.parse_full_index.Goals as goal
 
 pub parse_base_and_index_registers-r-requires : goal.parse_base_and_index_registers-r-requires

@@ -5,7 +5,6 @@ use Rattle.operand.specs.Operand.{or_none}
 use Rattle.operand.specs.Forms.{registers_read}
 use Rattle.expressions.specs.Paths.{answered, bound}
 use Rattle.operand_code.proofs.Rooms.{index_is, index_not}
-use borrow.Author.Rules.{rules}
 use Rattle.operand_code.proofs.full.with_index.Goals as goal
 
 pub parse_index_register-i-requires : goal.parse_index_register-i-requires

@@ -1,6 +1,5 @@
 -- `operand_code::immediates::immediate` meets its contract.
 -- Assumes nothing.
-use borrow.Author.Rules.{rules}
 use Rattle.operand_code.proofs.immediates.immediate.Goals as goal
 
 pub returns : goal.returns

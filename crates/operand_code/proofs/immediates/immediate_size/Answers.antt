@@ -4,7 +4,6 @@ use mathlib.Core.Path.{ap}
 use native.Mathlib.Omega.{arith}
 use Rattle.operand_code.proofs.Rooms.{suffix_room}
 use Rattle.operand_code.proofs.operands.Returns.{behind_bare, behind_size, immediate_bare, immediate_long, immediate_unknown, immediate_wrong}
-use borrow.Author.Rules.{rules}
 use Rattle.operand_code.proofs.immediates.immediate_size.Goals as goal
 
 pub take_size_suffix-z-requires : goal.take_size_suffix-z-requires

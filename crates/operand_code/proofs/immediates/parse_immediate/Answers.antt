@@ -5,7 +5,6 @@ use Rattle.operand.specs.Operand.{parse_immediate, or_absent}
 use Rattle.expressions.specs.Paths.{raised}
 use Rattle.operand_code.proofs.expressed.Trees.{tree_read, absent_room}
 use Rattle.operand_code.proofs.Holdings.{nothing_stored, tree_stored, tree_stands, stands_size, behind_tree, behind_reported, behind_absent}
-use borrow.Author.Rules.{rules}
 use Rattle.operand_code.proofs.immediates.parse_immediate.Goals as goal
 
 pub expression_at-r-requires : goal.expression_at-r-requires

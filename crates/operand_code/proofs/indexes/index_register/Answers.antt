@@ -6,7 +6,6 @@ use Rattle.operand_code.specs.Lookahead.{sized_index}
 use Rattle.expressions.specs.Paths.{bound, renamed, same}
 use Rattle.operand_code.proofs.Rooms.{suffix_room}
 use Rattle.operand_code.proofs.indexes.Returns.{index_sized}
-use borrow.Author.Rules.{rules}
 use Rattle.operand_code.proofs.indexes.index_register.Goals as goal
 
 pub index_scale-requires : goal.index_scale-requires

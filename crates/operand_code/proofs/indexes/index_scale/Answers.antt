@@ -11,7 +11,6 @@ use Rattle.records.specs.Problems
 use Rattle.expressions.specs.Paths.{answered, hit_same, miss, done, over_same}
 use Rattle.operand_code.proofs.malformed.Failures.{failed_over}
 use Rattle.operand_code.proofs.Rooms.{room_step}
-use borrow.Author.Rules.{rules}
 use Rattle.operand_code.proofs.indexes.index_scale.Goals as goal
 
 pub returns-in_default : goal.returns-in_default

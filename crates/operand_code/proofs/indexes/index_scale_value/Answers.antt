@@ -5,7 +5,6 @@ use native.Mathlib.Omega.{arith}
 use Rattle.names.specs.Numbers.{number_of}
 use Rattle.expressions.specs.Paths.{bound_as, same, raised_same}
 use Rattle.operand_code.proofs.indexes.Returns.{value_known, value_large, value_invalid}
-use borrow.Author.Rules.{rules}
 use Rattle.operand_code.proofs.indexes.index_scale_value.Goals as goal
 
 pub scaled-requires-in-TooLarge : goal.scaled-requires-in-TooLarge

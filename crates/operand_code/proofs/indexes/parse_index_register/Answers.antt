@@ -11,7 +11,6 @@ use Rattle.records.specs.Problems
 use Rattle.expressions.specs.Paths.{renamed, hereby, hit_same, miss, done, over_same}
 use Rattle.operand_code.proofs.malformed.Failures.{failed_over}
 use Rattle.operand_code.proofs.Rooms.{room_step}
-use borrow.Author.Rules.{rules}
 use Rattle.operand_code.proofs.indexes.parse_index_register.Goals as goal
 
 pub stepped_over-requires : goal.stepped_over-requires

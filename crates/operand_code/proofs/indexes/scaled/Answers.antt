@@ -8,7 +8,6 @@ use Rattle.operand.specs.Forms.{index_read}
 use Rattle.expressions.specs.Paths.{answered, chosen, unchosen, raised_same}
 use Rattle.operand_code.proofs.malformed.Failures.{failed_malformed}
 use Rattle.operand_code.proofs.indexes.Returns.{scale_small}
-use borrow.Author.Rules.{rules}
 use Rattle.operand_code.proofs.indexes.scaled.Goals as goal
 
 pub overflow_cast-y : goal.overflow_cast-y

@@ -1,7 +1,6 @@
 -- `operand_code::indexes::sized_index` meets its contract.
 -- Assumes nothing.
 use Rattle.operand_code.specs.Lookahead.{sized_index}
-use borrow.Author.Rules.{rules}
 use Rattle.operand_code.proofs.indexes.sized_index.Goals as goal
 
 pub returns-in-Not : goal.returns-in-Not

@@ -3,7 +3,6 @@
 use mathlib.Core.Path.{refl, sym, ◌∙◌}
 use Rattle.operand_code.specs.Lists.{found, missing}
 use Rattle.operand_code.proofs.lists.Ranges.{none_there, none_at_end}
-use borrow.Author.Rules.{rules}
 use Rattle.operand_code.proofs.lists.expect_register.Goals as goal
 
 pub returns-in_default : goal.returns-in_default

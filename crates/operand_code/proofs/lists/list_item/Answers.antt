@@ -4,7 +4,6 @@ use Rattle.names.specs.Places.{live}
 use mathlib.Core.Path.{sym, ◌∙◌, ap}
 use native.Mathlib.Omega.{arith}
 use Rattle.operand_code.proofs.lists.Ranges.{room_behind, found_at, single_end, single_other, range_none, range_some}
-use borrow.Author.Rules.{rules}
 use Rattle.operand_code.proofs.lists.list_item.Goals as goal
 
 pub returns-in_default : goal.returns-in_default

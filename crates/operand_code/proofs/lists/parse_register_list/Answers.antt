@@ -1,12 +1,9 @@
 -- `operand_code::lists::parse_register_list` meets its contract. The loop's invariant: the mask and the nodes are those of the items so far.
 -- Assumes nothing.
 use mathlib.Core.Path.{sym, ◌∙◌, ap}
-use Prim.Native.Nat.{◌-◌}
 use native.Mathlib.Omega.{arith}
-use Rattle.names.specs.Tokens.{count}
 use Rattle.operand_code.proofs.lists.Ranges.{room_behind, found_at}
-use Rattle.operand_code.proofs.lists.Turns.{Going, started, item_behind, ends_none, reached, ends, slash_is, ends_expected, again}
-use borrow.Author.Rules.{rules}
+use Rattle.operand_code.proofs.lists.Turns.{started, item_behind, ends_none, reached, ends, slash_is, ends_expected, again}
 use Rattle.operand_code.proofs.lists.parse_register_list.Goals as goal
 
 pub loop-item-init : goal.loop-item-init

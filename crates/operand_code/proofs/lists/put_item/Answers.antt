@@ -5,7 +5,6 @@ use native.Mathlib.Omega.{arith}
 use Rattle.records.specs.Nodes.{words}
 use Rattle.records.specs.Written.{put_told}
 use Rattle.operand_code.proofs.lists.Ranges.{node_told}
-use borrow.Author.Rules.{rules}
 use Rattle.operand_code.proofs.lists.put_item.Goals as goal
 
 pub returns : goal.returns

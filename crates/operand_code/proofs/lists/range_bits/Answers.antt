@@ -1,12 +1,9 @@
 -- `operand_code::lists::range_bits` meets its contract. The loop's invariant: the bits so far and those from i on are all.
 -- Assumes nothing.
-use mathlib.Core.Path.{◌≡◌, sym, ◌∙◌}
-use Prim.Native.Nat.{◌+◌, ◌-◌}
+use mathlib.Core.Path.{sym, ◌∙◌}
 use native.Mathlib.Omega.{arith}
-use lib.Bits.{bit_or, or_zero_l}
-use Rattle.operand.specs.Mask.{bits_from}
+use lib.Bits.{or_zero_l}
 use Rattle.operand_code.proofs.lists.Ranges.{bits_on, bits_end}
-use borrow.Author.Rules.{rules}
 use Rattle.operand_code.proofs.lists.range_bits.Goals as goal
 
 pub loop-i-init : goal.loop-i-init

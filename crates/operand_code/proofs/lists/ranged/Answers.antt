@@ -3,7 +3,6 @@
 use mathlib.Core.Path.{refl}
 use Rattle.operand_code.specs.Lists.{rising, falling}
 use Rattle.expressions.specs.Paths.{raised_as}
-use borrow.Author.Rules.{rules}
 use Rattle.operand_code.proofs.lists.ranged.Goals as goal
 
 pub returns-then-to-from : goal.returns-then-to-from

@@ -3,7 +3,6 @@
 use mathlib.Core.Path.{sym, ◌∙◌}
 use Rattle.operand_code.specs.Lists.{expected_at}
 use Rattle.expressions.specs.Paths.{raised_as}
-use borrow.Author.Rules.{rules}
 use Rattle.operand_code.proofs.lists.register_expected.Goals as goal
 
 pub returns-in-Is : goal.returns-in-Is

@@ -4,7 +4,6 @@ use mathlib.Core.Path.{sym, ◌∙◌}
 use borrow.Author.Tests.{eq-eqb, ne_eqb}
 use Rattle.names.specs.Kinds
 use Rattle.operand_code.specs.Lists.{slashed}
-use borrow.Author.Rules.{rules}
 use Rattle.operand_code.proofs.lists.slash_at.Goals as goal
 
 pub returns-in_default : goal.returns-in_default

@@ -4,7 +4,6 @@ use mathlib.Core.Path.{sym, ◌∙◌}
 use borrow.Author.Tests.{le-leb, lt-leb}
 use Rattle.operand_code.specs.Lookahead.{address_base}
 use Rattle.operand_code.proofs.lookahead.Starts.{closes_neither}
-use borrow.Author.Rules.{rules}
 use Rattle.operand_code.proofs.lookahead.address_at.Goals as goal
 
 pub returns-then-closes_at : goal.returns-then-closes_at

@@ -3,7 +3,6 @@
 use mathlib.Core.Path.{sym, ◌∙◌}
 use borrow.Author.Tests.{le-leb, lt-leb}
 use Rattle.operand_code.specs.Lookahead.{address_of}
-use borrow.Author.Rules.{rules}
 use Rattle.operand_code.proofs.lookahead.address_register_at.Goals as goal
 
 pub returns-in_default : goal.returns-in_default

@@ -2,7 +2,6 @@
 -- Assumes nothing.
 use mathlib.Core.Path.{sym, ◌∙◌}
 use Rattle.operand_code.specs.Lookahead.{is_counter, suppressed_base, base_at}
-use borrow.Author.Rules.{rules}
 use Rattle.operand_code.proofs.lookahead.base_at.Goals as goal
 
 pub returns-then-program_counter_at : goal.returns-then-program_counter_at

@@ -3,7 +3,6 @@
 use mathlib.Core.Path.{sym, ◌∙◌}
 use Rattle.operand_code.proofs.lookahead.Names.{holds_at, holds_end}
 use Rattle.operand_code.proofs.lookahead.Starts.{closes_size, closes_star, closes_paren, closes_comma, closes_not}
-use borrow.Author.Rules.{rules}
 use Rattle.operand_code.proofs.lookahead.closes_at.Goals as goal
 
 pub returns-in_default : goal.returns-in_default

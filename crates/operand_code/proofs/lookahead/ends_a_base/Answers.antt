@@ -4,7 +4,6 @@ use mathlib.Core.Path.{sym, ◌∙◌}
 use borrow.Author.Tests.{ne_eqb}
 use Rattle.names.specs.Kinds
 use Rattle.operand_code.proofs.lookahead.Starts.{ends_at, ends_end}
-use borrow.Author.Rules.{rules}
 use Rattle.operand_code.proofs.lookahead.ends_a_base.Goals as goal
 
 pub returns-in_default : goal.returns-in_default

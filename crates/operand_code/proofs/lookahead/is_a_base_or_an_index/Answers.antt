@@ -3,7 +3,6 @@
 use mathlib.Core.Path.{sym, ◌∙◌}
 use Rattle.operand.specs.Operand.{is_suppressed}
 use Rattle.operand_code.proofs.lookahead.Names.{a_base_or_an_index_lem}
-use borrow.Author.Rules.{rules}
 use Rattle.operand_code.proofs.lookahead.is_a_base_or_an_index.Goals as goal
 
 pub returns-then-program_counter_at : goal.returns-then-program_counter_at

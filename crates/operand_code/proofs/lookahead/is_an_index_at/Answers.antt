@@ -3,7 +3,6 @@
 use mathlib.Core.Path.{sym, ◌∙◌}
 use Rattle.operand.specs.Operand.{is_suppressed_register}
 use Rattle.operand_code.proofs.lookahead.Names.{holds_at, holds_end, an_index_lem}
-use borrow.Author.Rules.{rules}
 use Rattle.operand_code.proofs.lookahead.is_an_index_at.Goals as goal
 
 pub returns-in_default : goal.returns-in_default

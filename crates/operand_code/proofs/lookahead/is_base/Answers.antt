@@ -1,7 +1,6 @@
 -- `operand_code::lookahead::is_base` meets its contract.
 -- Assumes nothing.
 use Rattle.operand_code.specs.Lookahead.{is_base}
-use borrow.Author.Rules.{rules}
 use Rattle.operand_code.proofs.lookahead.is_base.Goals as goal
 
 pub returns-in-Address : goal.returns-in-Address

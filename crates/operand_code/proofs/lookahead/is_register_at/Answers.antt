@@ -2,7 +2,6 @@
 -- Assumes nothing.
 use mathlib.Core.Path.{sym, ◌∙◌}
 use Rattle.operand_code.proofs.lookahead.Names.{reg_is, reg_not}
-use borrow.Author.Rules.{rules}
 use Rattle.operand_code.proofs.lookahead.is_register_at.Goals as goal
 
 pub returns-in-Is : goal.returns-in-Is

@@ -5,7 +5,6 @@ use borrow.Author.Tests.{eq-eqb, ne_eqb}
 use Rattle.names.specs.Kinds
 use Rattle.names.specs.Registers.{program_counter}
 use Rattle.operand.specs.Operand.{a_program_counter}
-use borrow.Author.Rules.{rules}
 use Rattle.operand_code.proofs.lookahead.program_counter_at.Goals as goal
 
 pub returns-then-token-ne-IDENTIFIER : goal.returns-then-token-ne-IDENTIFIER

@@ -5,7 +5,6 @@ use borrow.Author.Tests.{eq-eqb, ne_eqb}
 use Rattle.names.specs.Kinds
 use Rattle.names.specs.Registers.{register_of}
 use Rattle.operand_code.specs.Lookahead.{reg_at}
-use borrow.Author.Rules.{rules}
 use Rattle.operand_code.proofs.lookahead.register_at.Goals as goal
 
 pub returns-then-token-ne-IDENTIFIER : goal.returns-then-token-ne-IDENTIFIER

@@ -1,7 +1,6 @@
 -- `operand_code::lookahead::register_of` meets its contract.
 -- Assumes nothing.
 use mathlib.Core.Path.{ap}
-use borrow.Author.Rules.{rules}
 use Rattle.operand_code.proofs.lookahead.register_of.Goals as goal
 
 pub returns : goal.returns

@@ -3,7 +3,6 @@
 use mathlib.Core.Path.{sym, ◌∙◌}
 use Rattle.operand_code.proofs.lookahead.Names.{reg_not, address_none}
 use Rattle.operand_code.proofs.lookahead.Starts.{register_starts}
-use borrow.Author.Rules.{rules}
 use Rattle.operand_code.proofs.lookahead.register_starts.Goals as goal
 
 pub returns-in-Not : goal.returns-in-Not

@@ -3,7 +3,6 @@
 use mathlib.Core.Path.{sym, ◌∙◌}
 use Rattle.operand_code.proofs.lookahead.Names.{reg_is, reg_not}
 use Rattle.operand_code.proofs.lookahead.Starts.{base_starts_at, base_starts_end}
-use borrow.Author.Rules.{rules}
 use Rattle.operand_code.proofs.lookahead.starts_a_base.Goals as goal
 
 pub returns-in_default : goal.returns-in_default

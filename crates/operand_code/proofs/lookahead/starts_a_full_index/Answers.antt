@@ -3,7 +3,6 @@
 use mathlib.Core.Path.{sym, ◌∙◌}
 use Rattle.operand.specs.Operand.{is_suppressed}
 use Rattle.operand_code.proofs.lookahead.Starts.{full_at, full_end}
-use borrow.Author.Rules.{rules}
 use Rattle.operand_code.proofs.lookahead.starts_a_full_index.Goals as goal
 
 pub returns-in_default : goal.returns-in_default

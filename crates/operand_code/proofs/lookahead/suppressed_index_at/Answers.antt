@@ -2,7 +2,6 @@
 -- Assumes nothing.
 use mathlib.Core.Path.{sym, ◌∙◌, ap}
 use Rattle.operand_code.specs.Lookahead.{suppressed_reg}
-use borrow.Author.Rules.{rules}
 use Rattle.operand_code.proofs.lookahead.suppressed_index_at.Goals as goal
 
 pub returns-in-Register : goal.returns-in-Register

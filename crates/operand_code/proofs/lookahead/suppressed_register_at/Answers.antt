@@ -5,7 +5,6 @@ use borrow.Author.Tests.{eq-eqb, ne_eqb}
 use Rattle.names.specs.Kinds
 use Rattle.names.specs.Registers.{suppressed_of}
 use Rattle.operand_code.specs.Lookahead.{suppressed_at}
-use borrow.Author.Rules.{rules}
 use Rattle.operand_code.proofs.lookahead.suppressed_register_at.Goals as goal
 
 pub returns-then-s-i : goal.returns-then-s-i

@@ -10,7 +10,6 @@ use Rattle.names.specs.Places.{live}
 use Rattle.records.specs.Problems
 use Rattle.expressions.specs.Paths.{answered, hit, miss, done, raised_same}
 use Rattle.operand_code.proofs.malformed.Failures.{failed_unclosed}
-use borrow.Author.Rules.{rules}
 use Rattle.operand_code.proofs.malformed.expect_close.Goals as goal
 
 pub unclosed-requires : goal.unclosed-requires

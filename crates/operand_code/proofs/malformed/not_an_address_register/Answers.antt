@@ -1,7 +1,6 @@
 -- `operand_code::malformed::not_an_address_register` meets its contract.
 -- Assumes nothing.
 use Rattle.expressions.specs.Paths.{raised_as}
-use borrow.Author.Rules.{rules}
 use Rattle.operand_code.proofs.malformed.not_an_address_register.Goals as goal
 
 pub returns : goal.returns

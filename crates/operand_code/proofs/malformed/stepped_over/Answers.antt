@@ -7,7 +7,6 @@ use Rattle.records.specs.Diagnostics.{malformed_operand}
 use Rattle.expressions.specs.Told.{over, ended}
 use Rattle.names.specs.Places.{live}
 use Rattle.expressions.specs.Paths.{raised_at}
-use borrow.Author.Rules.{rules}
 use Rattle.operand_code.proofs.malformed.stepped_over.Goals as goal
 
 pub step_over-requires : goal.step_over-requires

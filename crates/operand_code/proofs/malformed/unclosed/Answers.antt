@@ -1,7 +1,6 @@
 -- `operand_code::malformed::unclosed` meets its contract.
 -- Assumes nothing.
 use Rattle.expressions.specs.Paths.{raised_as}
-use borrow.Author.Rules.{rules}
 use Rattle.operand_code.proofs.malformed.unclosed.Goals as goal
 
 pub returns : goal.returns

@@ -7,7 +7,6 @@ use Rattle.operand.specs.Forms.{operand_read}
 use Rattle.operand_code.specs.Operands.{HeldBy}
 use Rattle.expressions.specs.Paths.{held_as, answered, bound}
 use Rattle.operand_code.proofs.memory.Inners.{outer_room, outer_is, outer_not, outer_of_lem, operand_behind}
-use borrow.Author.Rules.{rules}
 use Rattle.operand_code.proofs.memory.after_inner.Goals as goal
 
 pub close_indirect-requires : goal.close_indirect-requires

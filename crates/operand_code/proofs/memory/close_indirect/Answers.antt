@@ -8,7 +8,6 @@ use Rattle.operand_code.specs.Operands.{HeldBy}
 use Rattle.expressions.specs.Paths.{answered, bound}
 use Rattle.operand_code.proofs.Rooms.{close_is, close_not}
 use Rattle.operand_code.proofs.memory.Inners.{operand_closed}
-use borrow.Author.Rules.{rules}
 use Rattle.operand_code.proofs.memory.close_indirect.Goals as goal
 
 pub returns-in-Not : goal.returns-in-Not

@@ -11,7 +11,6 @@ use Rattle.operand_code.proofs.malformed.Failures.{failed_over}
 use Rattle.operand_code.proofs.expressed.Trees.{term_told, tree_read, absent_room}
 use Rattle.expressions_code.specs.Answers.{what_reported, what_absent}
 use Rattle.operand_code.proofs.memory.Inners.{displacement_read_lem}
-use borrow.Author.Rules.{rules}
 use Rattle.operand_code.proofs.memory_displacements.parse_sized_displacement.Goals as goal
 
 pub expression_at-r-requires : goal.expression_at-r-requires

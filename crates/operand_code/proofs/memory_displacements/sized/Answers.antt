@@ -6,7 +6,6 @@ use Rattle.operand.specs.Operand.{sized}
 use Rattle.expressions.specs.Paths.{bound}
 use Rattle.operand_code.proofs.Rooms.{suffix_is, suffix_not}
 use Rattle.operand_code.proofs.memory.Inners.{sized_told}
-use borrow.Author.Rules.{rules}
 use Rattle.operand_code.proofs.memory_displacements.sized.Goals as goal
 
 pub displaced-requires : goal.displaced-requires

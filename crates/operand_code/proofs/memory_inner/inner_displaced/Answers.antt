@@ -9,7 +9,6 @@ use Rattle.names.specs.Places.{live}
 use Rattle.expressions.specs.Paths.{hit, miss, done}
 use Rattle.operand_code.proofs.Rooms.{room_step}
 use Rattle.operand_code.proofs.memory.Inners.{stored_on, inner_answered}
-use borrow.Author.Rules.{rules}
 use Rattle.operand_code.proofs.memory_inner.inner_displaced.Goals as goal
 
 pub returns-then-t-ne-COMMA : goal.returns-then-t-ne-COMMA

@@ -6,7 +6,6 @@ use Rattle.operand.specs.Operand.{or_none}
 use Rattle.operand_code.specs.Memory.{inner_read}
 use Rattle.expressions.specs.Paths.{held_as, answered, bound}
 use Rattle.operand_code.proofs.memory.Inners.{displacement_is, displacement_not, displacement_room}
-use borrow.Author.Rules.{rules}
 use Rattle.operand_code.proofs.memory_inner.inner_displacement.Goals as goal
 
 pub inner_displaced-requires : goal.inner_displaced-requires

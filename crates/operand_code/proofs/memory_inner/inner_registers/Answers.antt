@@ -6,7 +6,6 @@ use Rattle.operand_code.specs.Memory.{inner_read}
 use Rattle.expressions.specs.Paths.{answered, bound}
 use Rattle.operand_code.proofs.Rooms.{registers_is, registers_not}
 use Rattle.operand_code.proofs.memory.Inners.{stored_on, inner_answered}
-use borrow.Author.Rules.{rules}
 use Rattle.operand_code.proofs.memory_inner.inner_registers.Goals as goal
 
 pub parse_base_and_index_registers-r-requires : goal.parse_base_and_index_registers-r-requires

@@ -9,7 +9,6 @@ use Rattle.operand.specs.Operand.{parse_inner}
 use Rattle.operand.specs.Forms.{sized_of}
 use Rattle.expressions.specs.Paths.{hereby, seen, other, beyond}
 use Rattle.operand_code.proofs.memory.Inners.{stored_none, inner_answered}
-use borrow.Author.Rules.{rules}
 use Rattle.operand_code.proofs.memory_inner.parse_inner.Goals as goal
 
 pub returns-in_default : goal.returns-in_default

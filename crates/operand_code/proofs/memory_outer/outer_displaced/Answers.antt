@@ -5,7 +5,6 @@ use Rattle.operand.specs.Operand.{or_none}
 use Rattle.operand_code.specs.Memory.{outer_read}
 use Rattle.expressions.specs.Paths.{held_as, answered, bound}
 use Rattle.operand_code.proofs.memory.Inners.{displacement_is, displacement_not, outer_answered}
-use borrow.Author.Rules.{rules}
 use Rattle.operand_code.proofs.memory_outer.outer_displaced.Goals as goal
 
 pub returns-in-Not : goal.returns-in-Not

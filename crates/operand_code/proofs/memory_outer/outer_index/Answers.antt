@@ -9,7 +9,6 @@ use Rattle.expressions.specs.Paths.{answered, bound}
 use Rattle.operand_code.proofs.malformed.Failures.{failed_over}
 use Rattle.operand_code.proofs.Rooms.{index_is, index_not, index_room}
 use Rattle.operand_code.proofs.memory.Inners.{same_room, outer_from, outer_twice, outer_once}
-use borrow.Author.Rules.{rules}
 use Rattle.operand_code.proofs.memory_outer.outer_index.Goals as goal
 
 pub stepped_over-requires : goal.stepped_over-requires

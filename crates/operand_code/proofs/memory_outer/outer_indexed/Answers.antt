@@ -10,7 +10,6 @@ use Rattle.operand.specs.Forms.{sized_of}
 use Rattle.names.specs.Places.{live}
 use Rattle.expressions.specs.Paths.{miss, done}
 use Rattle.operand_code.proofs.memory.Inners.{node_step, stored_none, outer_answered, outer_hit}
-use borrow.Author.Rules.{rules}
 use Rattle.operand_code.proofs.memory_outer.outer_indexed.Goals as goal
 
 pub returns-then-t-ne-COMMA : goal.returns-then-t-ne-COMMA

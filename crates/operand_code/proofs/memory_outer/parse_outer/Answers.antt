@@ -10,7 +10,6 @@ use Rattle.operand.specs.Forms.{sized_of}
 use Rattle.names.specs.Places.{live}
 use Rattle.expressions.specs.Paths.{miss, done}
 use Rattle.operand_code.proofs.memory.Inners.{node_step, stored_none, outer_answered, outer_hit, outer_index_here, outer_no_index}
-use borrow.Author.Rules.{rules}
 use Rattle.operand_code.proofs.memory_outer.parse_outer.Goals as goal
 
 pub returns-in_default : goal.returns-in_default

@@ -9,7 +9,6 @@ use Rattle.names.specs.Places.{live}
 use Rattle.expressions.specs.Paths.{seen, other, beyond}
 use Rattle.operand_code.proofs.Rooms.{room_step}
 use Rattle.operand_code.proofs.operands.Returns.{token_from_lem, predecrement_told}
-use borrow.Author.Rules.{rules}
 use Rattle.operand_code.proofs.operands.minus_operand.Goals as goal
 
 pub overflow_add-at : goal.overflow_add-at

@@ -9,7 +9,6 @@ use Rattle.expressions.specs.Paths.{renamed, hit, miss}
 use Rattle.operand_code.proofs.lookahead.Names.{reg_is, reg_not, reg_small}
 use Rattle.operand_code.proofs.Rooms.{room_step}
 use Rattle.operand_code.proofs.operands.Returns.{register_read, special_is, special_not, special_told}
-use borrow.Author.Rules.{rules}
 use Rattle.operand_code.proofs.operands.named_operand.Goals as goal
 
 pub step_over-e-requires : goal.step_over-e-requires

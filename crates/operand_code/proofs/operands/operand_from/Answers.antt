@@ -13,7 +13,6 @@ use Rattle.expressions.specs.Paths.{raised, raised_as, hit, miss, seen, other}
 use Rattle.operand_code.proofs.Holdings.{nothing_stored}
 use Rattle.operand_code.proofs.memory.Inners.{node_step}
 use Rattle.operand_code.proofs.operands.Returns.{unnamed, unnamed_register}
-use borrow.Author.Rules.{rules}
 use Rattle.operand_code.proofs.operands.operand_from.Goals as goal
 
 pub raise-requires : goal.raise-requires

@@ -16,7 +16,6 @@ use Rattle.operand_code.proofs.malformed.Failures.{failed_register}
 use Rattle.operand_code.proofs.Rooms.{close_is, close_not}
 use Rattle.operand_code.proofs.bases.Tails.{operand_told}
 use Rattle.operand_code.proofs.Holdings.{kept_none, nothing_told}
-use borrow.Author.Rules.{rules}
 use Rattle.operand_code.proofs.operands.parse_predecrement.Goals as goal
 
 pub returns-in_default : goal.returns-in_default

@@ -7,7 +7,6 @@ use Rattle.names.specs.Kinds
 use Rattle.operand.specs.Operand.{parse_register_operand}
 use Rattle.expressions.specs.Paths.{seen, other, beyond}
 use Rattle.operand_code.proofs.operands.Returns.{direct_told}
-use borrow.Author.Rules.{rules}
 use Rattle.operand_code.proofs.operands.parse_register_operand.Goals as goal
 
 pub returns-in_default : goal.returns-in_default

@@ -4,7 +4,6 @@ use mathlib.Core.Path.{◌∙◌}
 use borrow.Author.Tests.{le-leb, lt-leb}
 use Rattle.operand.specs.Operand.{register_direct}
 use Rattle.operand.specs.Forms.{record_of, operand_read}
-use borrow.Author.Rules.{rules}
 use Rattle.operand_code.proofs.operands.register_direct.Goals as goal
 
 pub returns-then-r-lt8 : goal.returns-then-r-lt8

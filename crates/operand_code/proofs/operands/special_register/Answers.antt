@@ -1,7 +1,6 @@
 -- `operand_code::operands::special_register` meets its contract.
 -- Assumes nothing.
 use Rattle.operand.specs.Forms.{record_of, operand_read}
-use borrow.Author.Rules.{rules}
 use Rattle.operand_code.proofs.operands.special_register.Goals as goal
 
 pub returns : goal.returns

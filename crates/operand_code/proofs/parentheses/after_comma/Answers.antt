@@ -3,7 +3,6 @@
 use mathlib.Core.Path.{sym, ◌∙◌}
 use native.Mathlib.Omega.{arith}
 use Rattle.operand_code.proofs.lookahead.Starts.{full_starts, full_not}
-use borrow.Author.Rules.{rules}
 use Rattle.operand_code.proofs.parentheses.after_comma.Goals as goal
 
 pub starts_a_full_index-requires : goal.starts_a_full_index-requires

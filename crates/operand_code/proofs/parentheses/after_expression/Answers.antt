@@ -13,7 +13,6 @@ use Rattle.operand_code.proofs.Rooms.{room_step}
 use Rattle.operand_code.proofs.bases.Tails.{kept_from}
 use Rattle.operand_code.proofs.Holdings.{tree_stored, stands_size, stands_from, tree_is_lem, no_size}
 use Rattle.operand_code.proofs.memory.Inners.{node_step}
-use borrow.Author.Rules.{rules}
 use Rattle.operand_code.proofs.parentheses.after_expression.Goals as goal
 
 pub unexpected-requires : goal.unexpected-requires

@@ -3,7 +3,6 @@
 use native.Mathlib.Omega.{arith}
 use Rattle.operand_code.proofs.expressed.Trees.{from_room}
 use Rattle.operand_code.proofs.Holdings.{group_told}
-use borrow.Author.Rules.{rules}
 use Rattle.operand_code.proofs.parentheses.grouped_expression.Goals as goal
 
 pub finish_expression_operand-requires : goal.finish_expression_operand-requires

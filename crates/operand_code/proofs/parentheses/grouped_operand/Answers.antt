@@ -11,7 +11,6 @@ use Rattle.expressions.specs.Paths.{hit, miss, done}
 use Rattle.operand_code.proofs.Rooms.{room_step}
 use Rattle.operand_code.proofs.bases.Tails.{kept_from}
 use Rattle.operand_code.proofs.Holdings.{tree_stored, stands_size, tree_is_lem, no_size}
-use borrow.Author.Rules.{rules}
 use Rattle.operand_code.proofs.parentheses.grouped_operand.Goals as goal
 
 pub grouped_expression-requires : goal.grouped_expression-requires

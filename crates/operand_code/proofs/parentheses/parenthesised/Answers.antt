@@ -5,7 +5,6 @@ use Rattle.operand.specs.Operand.{parenthesised, or_absent}
 use Rattle.expressions.specs.Paths.{raised}
 use Rattle.operand_code.proofs.expressed.Trees.{tree_read, absent_room}
 use Rattle.operand_code.proofs.Holdings.{nothing_stored, tree_stands, behind_tree, behind_reported, behind_absent}
-use borrow.Author.Rules.{rules}
 use Rattle.operand_code.proofs.parentheses.parenthesised.Goals as goal
 
 pub expression_at-r-requires : goal.expression_at-r-requires

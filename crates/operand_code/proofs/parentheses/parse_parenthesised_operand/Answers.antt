@@ -8,7 +8,6 @@ use Rattle.operand.specs.Operand.{parse_parenthesised_operand}
 use Rattle.names.specs.Places.{live}
 use Rattle.expressions.specs.Paths.{hit, miss, done}
 use Rattle.operand_code.proofs.memory.Inners.{node_step}
-use borrow.Author.Rules.{rules}
 use Rattle.operand_code.proofs.parentheses.parse_parenthesised_operand.Goals as goal
 
 pub unbracketed-requires : goal.unbracketed-requires

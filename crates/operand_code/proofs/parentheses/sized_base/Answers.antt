@@ -12,7 +12,6 @@ use Rattle.operand_code.proofs.Rooms.{suffix_room, room_step}
 use Rattle.operand_code.proofs.indexes.Returns.{suffix_taken}
 use Rattle.operand_code.proofs.Holdings.{tree_is_lem, kept_sized}
 use Rattle.operand_code.proofs.operands.Returns.{behind_bare, behind_size, size_passed, token_from_lem}
-use borrow.Author.Rules.{rules}
 use Rattle.operand_code.proofs.parentheses.sized_base.Goals as goal
 
 pub unexpected-requires : goal.unexpected-requires

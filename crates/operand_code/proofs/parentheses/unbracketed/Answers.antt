@@ -7,7 +7,6 @@ use Rattle.operand.specs.Forms.{sized_of}
 use Rattle.operand_code.specs.Operands.{Unsized}
 use Rattle.operand_code.proofs.lookahead.Starts.{full_starts, full_not, base_starts_lem, base_not}
 use Rattle.operand_code.proofs.Holdings.{unstored_told}
-use borrow.Author.Rules.{rules}
 use Rattle.operand_code.proofs.parentheses.unbracketed.Goals as goal
 
 pub starts_a_full_index-requires : goal.starts_a_full_index-requires

@@ -7,7 +7,6 @@ use Rattle.names.specs.Kinds
 use Rattle.operand.specs.Operand.{unexpected}
 use Rattle.expressions.specs.Paths.{raised, raised_as, raised_same, seen, other, beyond}
 use Rattle.operand_code.proofs.Holdings.{nothing_told}
-use borrow.Author.Rules.{rules}
 use Rattle.operand_code.proofs.parentheses.unexpected.Goals as goal
 
 pub returns-then-t-eq-ERROR : goal.returns-then-t-eq-ERROR

@@ -5,7 +5,6 @@ use native.Mathlib.Omega.{arith}
 use Rattle.operand_code.specs.Reading.{OperandAsks, read, unread}
 use Rattle.operand_code.proofs.reading.Cleared.{nothing_from, ended_kept}
 use Rattle.operand_code.proofs.reading.Marked.{mark_within}
-use borrow.Author.Rules.{rules}
 use Rattle.operand_code.proofs.reading.operand_at.Goals as goal
 
 pub returns-then-count-gt-MOST_TOKENS : goal.returns-then-count-gt-MOST_TOKENS

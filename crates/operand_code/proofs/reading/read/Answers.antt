@@ -3,7 +3,6 @@
 use mathlib.Core.Path.{refl}
 use native.Mathlib.Omega.{arith}
 use Rattle.operand_code.proofs.reading.Cleared.{first_room, operand_kept, nothing_kept}
-use borrow.Author.Rules.{rules}
 use Rattle.operand_code.proofs.reading.read.Goals as goal
 
 pub first-c-requires : goal.first-c-requires

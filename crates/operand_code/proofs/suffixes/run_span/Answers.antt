@@ -1,7 +1,6 @@
 -- `operand_code::suffixes::run_span` meets its contract.
 -- Assumes nothing.
 use borrow.Author.Tests.{lt-ltb, le-ltb}
-use borrow.Author.Rules.{rules}
 use Rattle.operand_code.proofs.suffixes.run_span.Goals as goal
 
 pub returns-then-suffix : goal.returns-then-suffix

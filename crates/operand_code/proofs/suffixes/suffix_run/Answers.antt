@@ -3,7 +3,6 @@
 use mathlib.Core.Path.{refl, sym, ◌∙◌, ap}
 use Rattle.names.specs.Sizes.{run_of, size_of}
 use Rattle.operand_code.proofs.indexes.Returns.{suffix_dotted, suffix_known, suffix_unknown}
-use borrow.Author.Rules.{rules}
 use Rattle.operand_code.proofs.suffixes.suffix_run.Goals as goal
 
 pub returns-then-run-ge2 : goal.returns-then-run-ge2

@@ -9,7 +9,6 @@ use Rattle.operand.specs.Forms.{suffix_read}
 use Rattle.names.specs.Places.{live}
 use Rattle.expressions.specs.Paths.{answered, miss, done}
 use Rattle.operand_code.proofs.indexes.Returns.{suffix_taken}
-use borrow.Author.Rules.{rules}
 use Rattle.operand_code.proofs.suffixes.take_size_suffix.Goals as goal
 
 pub returns-then-t-ne-SIZE_SUFFIX : goal.returns-then-t-ne-SIZE_SUFFIX

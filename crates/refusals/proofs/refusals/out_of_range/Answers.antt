@@ -5,12 +5,12 @@ use borrow.Author.Tests.{lt-ltb, le-ltb}
 use Rattle.operand.specs.Entry.{highest_limit}
 use Rattle.refusals.proofs.refusals.out_of_range.Goals as goal
 
-pub returns-then-limit-lt1 : goal.returns-then-limit-lt1
+pub returns-then-limit-lt-LOWEST_LIMIT : goal.returns-then-limit-lt-LOWEST_LIMIT
 unfolding highest_limit
-returns-then-limit-lt1 c =
-    rw (lt-ltb c.args.limit 1 (omega (arith, c.if-limit-lt1.true)))
+returns-then-limit-lt-LOWEST_LIMIT c =
+    rw (lt-ltb c.args.limit 1 (omega (arith, c.if-limit-lt-LOWEST_LIMIT.true)))
 
 pub returns : goal.returns
 unfolding highest_limit
 returns c =
-    rw (le-ltb c.args.limit 1 (omega (arith, c.if-limit-lt1.false)))
+    rw (le-ltb c.args.limit 1 (omega (arith, c.if-limit-lt-LOWEST_LIMIT.false)))

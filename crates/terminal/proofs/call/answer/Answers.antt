@@ -3,7 +3,6 @@
 use native.Mathlib.Omega.{arith}
 use Rattle.operand.specs.Entry.{Input, call}
 use Rattle.terminal.proofs.call.Puts.{refused_put, short, whole}
-use borrow.Author.Rules.{rules}
 use Rattle.terminal.proofs.call.answer.Goals as goal
 
 pub returns-then-out-answer_bytes : goal.returns-then-out-answer_bytes

@@ -3,7 +3,6 @@
 use native.Mathlib.Omega.{arith}
 use Rattle.terminal.specs.Exported.{answer_bytes_lem}
 use Rattle.terminal.proofs.call.Puts.{found_put}
-use borrow.Author.Rules.{rules}
 use Rattle.terminal.proofs.call.put_found.Goals as goal
 
 pub overflow_add-head : goal.overflow_add-head

@@ -4,7 +4,6 @@ use mathlib.Core.Path.{sym}
 use native.Mathlib.Omega.{arith}
 use lib.Seq.{length-take-le}
 use Rattle.terminal.proofs.call.Puts.{zeros_enough, zeros_part, missed_put}
-use borrow.Author.Rules.{rules}
 use Rattle.terminal.proofs.call.put_missed.Goals as goal
 
 pub overflow_add-n : goal.overflow_add-n

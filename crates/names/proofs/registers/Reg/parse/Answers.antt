@@ -24,18 +24,18 @@ pub returns-then-digit-lt48 : goal.returns-then-digit-lt48
 returns-then-digit-lt48 c =
     told_register (rw (register_digit _ c.if-name-ne2.false (sym c.spells.ensures ∙ c.if-spells.false) _ c.first_of_bank-first.ensures, lower_below (get_or c.args.name.now 1 0) (omega arith)) (simp (lt-leb 48 (get_or c.args.name.now 1 0) c.if-digit-lt48.true)))
 
-pub returns-then-digit-gt55 : goal.returns-then-digit-gt55
-returns-then-digit-gt55 c =
-    told_register (rw (register_digit _ c.if-name-ne2.false (sym c.spells.ensures ∙ c.if-spells.false) _ c.first_of_bank-first.ensures) (simp (lt-leb (lower (get_or c.args.name.now 1 0)) 55 (omega (arith, c.if-digit-gt55.true, lower_rises (get_or c.args.name.now 1 0))), both_false)))
+pub returns-then-digit-gt-LAST_DIGIT : goal.returns-then-digit-gt-LAST_DIGIT
+returns-then-digit-gt-LAST_DIGIT c =
+    told_register (rw (register_digit _ c.if-name-ne2.false (sym c.spells.ensures ∙ c.if-spells.false) _ c.first_of_bank-first.ensures) (simp (lt-leb (lower (get_or c.args.name.now 1 0)) 55 (omega (arith, c.if-digit-gt-LAST_DIGIT.true, lower_rises (get_or c.args.name.now 1 0))), both_false)))
 
 pub returns-then-first-eq-NO_BANK : goal.returns-then-first-eq-NO_BANK
 returns-then-first-eq-NO_BANK c =
-    told_register (rw (register_digit _ c.if-name-ne2.false (sym c.spells.ensures ∙ c.if-spells.false) _ c.first_of_bank-first.ensures, lower_below (get_or c.args.name.now 1 0) (omega arith)) (simp (le-leb 48 (get_or c.args.name.now 1 0) c.if-digit-lt48.false, le-leb (get_or c.args.name.now 1 0) 55 c.if-digit-gt55.false, eq-eqb _ 16 c.if-first-eq-NO_BANK.true)))
+    told_register (rw (register_digit _ c.if-name-ne2.false (sym c.spells.ensures ∙ c.if-spells.false) _ c.first_of_bank-first.ensures, lower_below (get_or c.args.name.now 1 0) (omega arith)) (simp (le-leb 48 (get_or c.args.name.now 1 0) c.if-digit-lt48.false, le-leb (get_or c.args.name.now 1 0) 55 c.if-digit-gt-LAST_DIGIT.false, eq-eqb _ 16 c.if-first-eq-NO_BANK.true)))
 
 pub overflow_add-result : goal.overflow_add-result
 overflow_add-result c =
-    omega (arith, c.if-digit-gt55.false, c.first_of_bank-first.ensures, first_most (lower (get_or c.args.name.now 0 0)))
+    omega (arith, c.if-digit-gt-LAST_DIGIT.false, c.first_of_bank-first.ensures, first_most (lower (get_or c.args.name.now 0 0)))
 
 pub returns : goal.returns
 returns c =
-    told_register (rw (register_digit _ c.if-name-ne2.false (sym c.spells.ensures ∙ c.if-spells.false) _ c.first_of_bank-first.ensures, lower_below (get_or c.args.name.now 1 0) (omega arith)) (simp (le-leb 48 (get_or c.args.name.now 1 0) c.if-digit-lt48.false, le-leb (get_or c.args.name.now 1 0) 55 c.if-digit-gt55.false, ne_eqb _ 16 c.if-first-eq-NO_BANK.false)))
+    told_register (rw (register_digit _ c.if-name-ne2.false (sym c.spells.ensures ∙ c.if-spells.false) _ c.first_of_bank-first.ensures, lower_below (get_or c.args.name.now 1 0) (omega arith)) (simp (le-leb 48 (get_or c.args.name.now 1 0) c.if-digit-lt48.false, le-leb (get_or c.args.name.now 1 0) 55 c.if-digit-gt-LAST_DIGIT.false, ne_eqb _ 16 c.if-first-eq-NO_BANK.false)))
