@@ -41,7 +41,7 @@ found_bytes w x N D =
 pub record FoundAsks (w : Layout) (O : List ℕ) (at : ℕ) (x : Found) (N D : List ℕ) : Type 0 where
   pub room : at + 102408 ≤ length O
   pub nodes_few : x.nodes ≤ most_tokens w
-  pub nodes_long_lem : length N ≡ node_store w
+  pub nodes_long : length N ≡ node_store w
   pub diagnostics_few : x.diagnostics ≤ free_records w
   pub diagnostics_long : length D ≡ diagnostic_bytes w
 
@@ -65,7 +65,7 @@ AnswerAsks w O at (Answer.Refused k) N D = at + 6 ≤ length O
 
 -- the stores that an answer is made in, and room for the longest
 pub record FrameAsks (w : Layout) (N D O : List ℕ) (at : ℕ) : Type 0 where
-  pub nodes_long_lem : length N ≡ node_store w
+  pub nodes_long : length N ≡ node_store w
   pub diagnostics_long : length D ≡ diagnostic_bytes w
   pub room : at + 102408 ≤ length O
 
@@ -89,7 +89,7 @@ FramedAs w B Framed.Not = length B ≡ frame_length w B → ⊥
 pub record BatchAsks (C F N D O : List ℕ) : Type 0 where
   pub carry_long : length C ≡ 917507
   pub frame_long : length F ≡ 1279
-  pub nodes_long_lem : length N ≡ 3570
+  pub nodes_long : length N ≡ 3570
   pub diagnostics_long : length D ≡ 5110
   pub out_long : length O ≡ 163840
 

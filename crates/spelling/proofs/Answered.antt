@@ -115,7 +115,7 @@ module _ (s : Setting) (at : ℕ → Place) (count : ℕ) (ends : (j : ℕ) (k :
   special_spelled : {k : Token} {x : List ℕ} → at own ≡ stands k x → eqb k.kind Kinds.identifier ≡ true → (n : SpecialRegister) → special_of x ≡ n → is_special n ≡ true
       → Spelling s at unreserved own (own + 1) (O.special_register (Operand.special_index n) (span_of k))
   unfolding Operand.special_index
-  special_spelled e q (SpecialRegister.Is n) f g = Spelling.special_register_lem (signed Kinds.identifier e q) f
+  special_spelled e q (SpecialRegister.Is n) f g = Spelling.special_register (signed Kinds.identifier e q) f
   special_spelled e q SpecialRegister.Not f g = absurd (true_false (sym g))
 
   -- ---- 7: predecrement

@@ -36,8 +36,8 @@ pub record Ranked (k m o : ℕ) : Type 0 where
 
 pub ranked : {k m o : ℕ} → Binary k m o → Ranked k m o
 unfolding precedence binary_operator
-ranked E.shift_left_lem = record { level = refl; number = refl; least = omega arith; most = omega arith }
-ranked E.shift_right_lem = record { level = refl; number = refl; least = omega arith; most = omega arith }
+ranked E.shift_left = record { level = refl; number = refl; least = omega arith; most = omega arith }
+ranked E.shift_right = record { level = refl; number = refl; least = omega arith; most = omega arith }
 ranked E.and = record { level = refl; number = refl; least = omega arith; most = omega arith }
 ranked E.or_bang = record { level = refl; number = refl; least = omega arith; most = omega arith }
 ranked E.or_pipe = record { level = refl; number = refl; least = omega arith; most = omega arith }
@@ -50,8 +50,8 @@ ranked E.less = record { level = refl; number = refl; least = omega arith; most 
 
 -- none of these signs is a parenthesis
 pub binary_sign : {k m o : ℕ} → Binary k m o → eqb k Kinds.left_paren ≡ false
-binary_sign E.shift_left_lem = refl
-binary_sign E.shift_right_lem = refl
+binary_sign E.shift_left = refl
+binary_sign E.shift_right = refl
 binary_sign E.and = refl
 binary_sign E.or_bang = refl
 binary_sign E.or_pipe = refl

@@ -31,10 +31,10 @@ use Rattle.operand.specs.declared.forms.Register.{Register}
 use Rattle.operand.specs.declared.forms.IndexRegister.{IndexRegister}
 use Rattle.operand.specs.declared.forms.BaseRegister.{BaseRegister}
 use Rattle.operand.specs.declared.forms.Registers.{Registers}
-use Rattle.spelling.specs.Signs.{Sign, RegisterAt, a_register_lem, CounterAt, SuppressedAt}
+use Rattle.spelling.specs.Signs.{Sign, RegisterAt, register_spelled, CounterAt, SuppressedAt}
 use Rattle.spelling.specs.Expressions.{Worth, value, invalid}
 use Rattle.spelling.specs.Spelling
-use Rattle.spelling.specs.Spelling.{Letter, no_size, a_size, Factor, no_scale, a_scale, AddressAt, an_address, IndexAt, plain, suppressed, Indexes, an_index_lem, Bases, BaseAndIndex}
+use Rattle.spelling.specs.Spelling.{Letter, no_size, a_size, Factor, no_scale, a_scale, AddressAt, an_address, IndexAt, plain, suppressed, Indexes, index_spelled, Bases, BaseAndIndex}
 use Rattle.spelling.proofs.Names
 use Rattle.spelling.proofs.Looks.{looks_register, looks_suppressed}
 use Rattle.spelling.specs.Silence.{Silent, Quiet}
@@ -49,7 +49,7 @@ module _ {at : ℕ → Place} {i : ℕ} {k : Token} {x : List ℕ} (h : at i ≡
   found_register q = go (register_of x) refl (Names.both_second (eqb k.kind Kinds.identifier) _ q)
     where
       go : (r : Reg) → register_of x ≡ r → is_register r ≡ true → RegisterAt at i (record { index = index_of r; span = span_of k })
-      go (Reg.Is r) e g = a_register_lem (signed Kinds.identifier h (Names.both_first _ (is_register (register_of x)) q)) e
+      go (Reg.Is r) e g = register_spelled (signed Kinds.identifier h (Names.both_first _ (is_register (register_of x)) q)) e
       go Reg.Not e g = absurd (true_false (sym g))
 
   pub found_address : an_address_register k x ≡ true → AddressAt at i (register_from k x)
@@ -57,7 +57,7 @@ module _ {at : ℕ → Place} {i : ℕ} {k : Token} {x : List ℕ} (h : at i ≡
   found_address q = go (register_of x) refl (Names.both_second (eqb k.kind Kinds.identifier) _ q)
     where
       go : (r : Reg) → register_of x ≡ r → is_address r ≡ true → AddressAt at i (record { index = index_of r; span = span_of k })
-      go (Reg.Is r) e g = an_address (a_register_lem (signed Kinds.identifier h (Names.both_first _ (is_address (register_of x)) q)) e) (leb-true 8 r g)
+      go (Reg.Is r) e g = an_address (register_spelled (signed Kinds.identifier h (Names.both_first _ (is_address (register_of x)) q)) e) (leb-true 8 r g)
       go Reg.Not e g = absurd (true_false (sym g))
 
   pub found_counter : a_program_counter k x ≡ true → CounterAt at i
@@ -189,14 +189,14 @@ module _ (s : Setting) (at : ℕ → Place) where
 
   suffixed_scaled : {i n size : ℕ} {b : Bool} {r : Register} {v : Maybe IndexRegister} → IndexAt s at i b r → (t : Letter at (i + 1) size)
       → ScaleAt at (record { register = r; size = size; scale = 0; suppressed = b; span = span r.span.start t.sign.token.end }) (i + 1 + 1) n v → IndexFound i n v
-  suffixed_scaled p t (unscaled q) = (an_index_lem p (a_size t) no_scale, λ _. omega arith)
-  suffixed_scaled p t (scaled star k e f) = (an_index_lem p (a_size t) (a_scale star k e f), λ _. omega arith)
+  suffixed_scaled p t (unscaled q) = (index_spelled p (a_size t) no_scale, λ _. omega arith)
+  suffixed_scaled p t (scaled star k e f) = (index_spelled p (a_size t) (a_scale star k e f), λ _. omega arith)
   suffixed_scaled p t unread = tt
 
   bare_scaled : {i n : ℕ} {b : Bool} {r : Register} {v : Maybe IndexRegister} → IndexAt s at i b r → holds (is Kinds.size_suffix) (at (i + 1)) ≡ false
       → ScaleAt at (record { register = r; size = 0; scale = 0; suppressed = b; span = r.span }) (i + 1) n v → IndexFound i n v
-  bare_scaled {i} p u (unscaled q) = (an_index_lem p no_size no_scale, λ t. absurd (untailed at (i + 1) u q t))
-  bare_scaled p u (scaled star k e f) = (an_index_lem p no_size (a_scale star k e f), λ _. omega arith)
+  bare_scaled {i} p u (unscaled q) = (index_spelled p no_size no_scale, λ t. absurd (untailed at (i + 1) u q t))
+  bare_scaled p u (scaled star k e f) = (index_spelled p no_size (a_scale star k e f), λ _. omega arith)
   bare_scaled p u unread = tt
 
   index_sized : (shape : ℕ) {i j : ℕ} (m : ℕ) {b : Bool} {r : Register} {z : Suffix} → IndexAt s at i b r → SuffixAt at (i + 1) j z
@@ -256,8 +256,8 @@ module _ (s : Setting) (at : ℕ → Place) where
   small_index : {i j : ℕ} {x : IndexRegister} → Indexes s at i j x → holds an_address_register (at i) ≡ false → holds (unmarked s i is_suppressed_address) (at i) ≡ false
       → x.register.index < 8
   unfolding is_address is_suppressed is_suppressed_address
-  small_index (an_index_lem (plain {r = r} p) sz sc) a b = leb-false 8 r.index (sym (looks_register {s = s} p).addresses ∙ a)
-  small_index (an_index_lem (suppressed {r = r} z) sz sc) a b = leb-false 8 r (sym ((looks_suppressed z refl).suppressions is_suppressed_address refl) ∙ b)
+  small_index (index_spelled (plain {r = r} p) sz sc) a b = leb-false 8 r.index (sym (looks_register {s = s} p).addresses ∙ a)
+  small_index (index_spelled (suppressed {r = r} z) sz sc) a b = leb-false 8 r (sym ((looks_suppressed z refl).suppressions is_suppressed_address refl) ∙ b)
 
   pub bases_sound : (shape i l : ℕ) → Quiet (Operand.parse_base_and_index_registers s shape) at (λ n m v. BasesFound i n v) i l
   unfolding Silent Operand.parse_base_and_index_registers holds

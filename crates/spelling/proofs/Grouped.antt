@@ -62,7 +62,7 @@ module _ (s : Setting) (at : ℕ → Place) (count : ℕ) (ends : (j : ℕ) (k :
   address_closed : {i n z : ℕ} {r : Register} {d : Displacement} {x : IndexRegister} → Opening s at unreserved own i d → AddressAt at i r → Sign at Kinds.comma (i + 1)
       → Indexes s at (i + 1 + 1) n x → {m : ℕ} → CloseAt n m z → (b : Bool) → x.suppressed ≡ b
       → Spelling s at unreserved own m (pick b (O.full_index d (BaseRegister.Address r) (Index.Indexed x) 0 undisplaced (span s.start z)) (O.index d r x (span s.start z)))
-  address_closed h p k x (close_at c) true e = Spelling.suppressed_index_lem h p k x e c
+  address_closed h p k x (close_at c) true e = Spelling.suppressed_index h p k x e c
   address_closed h p k x (close_at c) false e = Spelling.index h p k x e c
 
   counter_closed : {i n z : ℕ} {d : Displacement} {x : IndexRegister} → Opening s at unreserved own i d → CounterAt at i → Sign at Kinds.comma (i + 1)
@@ -144,7 +144,7 @@ module _ (s : Setting) (at : ℕ → Place) (count : ℕ) (ends : (j : ℕ) (k :
   memory_closed : {j n m z indirection : ℕ} {d u : Displacement} {r : Registers} {x : Index} → Sign at Kinds.left_paren own → Sign at Kinds.left_bracket (own + 1)
       → Spelling.Inside s at unreserved own (own + 1 + 1) j d r → Sign at Kinds.right_bracket j → Spelling.Behind s at unreserved own r.index (j + 1) n x indirection u → CloseAt n m z
       → Spelling s at unreserved own m (O.full_index d r.base x indirection u (span s.start z))
-  memory_closed t b h k g (close_at c) = Spelling.memory_indirect_lem t b h k g c
+  memory_closed t b h k g (close_at c) = Spelling.memory_indirect t b h k g c
 
   memory_sound : (k : Token) (l : ℕ) → Sign at Kinds.left_paren own → Sign at Kinds.left_bracket (own + 1) → Quiet (Operand.parse_memory_indirect s k) at Found (own + 1 + 1) l
   unfolding Silent Operand.parse_memory_indirect Operand.or_none Operand.unclosed

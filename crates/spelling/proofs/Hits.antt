@@ -16,7 +16,7 @@ use Rattle.operand.specs.declared.forms.IndexRegister.{IndexRegister}
 use Rattle.operand.specs.declared.forms.Registers.{Registers}
 use Rattle.spelling.specs.Signs.{Sign, RegisterAt, SuppressedAt}
 use Rattle.spelling.specs.Spelling
-use Rattle.spelling.specs.Spelling.{AddressAt, an_address, Indexes, an_index_lem, plain, suppressed, BaseAndIndex, Full, by_suppressed, by_data, by_tail, Spelling}
+use Rattle.spelling.specs.Spelling.{AddressAt, an_address, Indexes, index_spelled, plain, suppressed, BaseAndIndex, Full, by_suppressed, by_data, by_tail, Spelling}
 use Rattle.spelling.proofs.Readings.{comes}
 use Rattle.spelling.proofs.Looks.{looks_register, data_no_address, suppressed_no_register}
 use Rattle.spelling.specs.Silence.{Silent}
@@ -36,8 +36,8 @@ module _ (s : Setting) (at : ℕ → Place) where
   address_tail : {i j : ℕ} {r : Register} {x : IndexRegister} → AddressAt at i r → Indexes s at i j x → (x.register.index < 8) ⊎ (i + 1 < j) → i + 1 < j
   unfolding is_suppressed
   address_tail (an_address p low) x (inr long) = long
-  address_tail (an_address p low) (an_index_lem (plain q) sz sc) (inl small) = absurd (data_no_address s q small p low)
-  address_tail (an_address p low) (an_index_lem (suppressed z) sz sc) (inl small) = absurd (suppressed_no_register s z refl p)
+  address_tail (an_address p low) (index_spelled (plain q) sz sc) (inl small) = absurd (data_no_address s q small p low)
+  address_tail (an_address p low) (index_spelled (suppressed z) sz sc) (inl small) = absurd (suppressed_no_register s z refl p)
 
   pub full_found : {i j : ℕ} {r : Registers} → Hit i → BaseAndIndex s at i j r → Sign at Kinds.right_paren j → Full s at i j r
   unfolding is_address

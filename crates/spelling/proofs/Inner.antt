@@ -24,7 +24,7 @@ use Rattle.operand.specs.Fuel.{list_equation}
 use Rattle.operand.specs.declared.forms.Register.{Register}
 use Rattle.operand.specs.declared.forms.Index.{Index}
 use Rattle.operand.specs.declared.forms.Registers.{Registers}
-use Rattle.spelling.specs.Signs.{Sign, RegisterAt, a_register_lem, ordinary}
+use Rattle.spelling.specs.Signs.{Sign, RegisterAt, register_spelled, ordinary}
 use Rattle.spelling.specs.Spelling
 use Rattle.spelling.specs.Spelling.{Letter, Sized, no_size, a_size, Expression, BaseAndIndex, Inside, Behind, a_single, a_range, Items, last, more}
 use Rattle.spelling.proofs.Readings.{Reads, answers, from_here, then, then_at, steps, passes, sees, misses, other, kinded}
@@ -145,9 +145,9 @@ module _ (s : Setting) (at : ℕ → Place) (count : ℕ) (ends : (j : ℕ) (k :
   range_item_lem : {i : ℕ} (l : ℕ) (r : Register) {q : Register} → Sign at Kinds.minus i → RegisterAt at (i + 1) q → r.index ≤ q.index
       → run (Operand.list_item r) at i l ≡ reading (i + 1 + 1) q.span.end [] (some (range r q (span r.span.start q.span.end)))
   unfolding run Operand.list_item Operand.ranged
-  range_item_lem {i} l r m (a_register_lem {r = n} t e) low =
+  range_item_lem {i} l r m (register_spelled {r = n} t e) low =
       met_yes (is Kinds.minus) (λ k x. run (ranging r) at (i + 1) k.end) (λ u. run (answer (some (single r))) at i l) (at i) m.token m.text m.there (kinded m Kinds.minus refl)
-      ∙ met_yes a_register (λ k x. run (Operand.ranged r (Operand.register_from k x)) at (i + 1 + 1) k.end) (λ u. run (Operand.register_expected Problems.after_minus) at (i + 1) m.token.end) (at (i + 1)) t.token t.text t.there (held a_register t (looks_register {s = s} (a_register_lem t e)).registers)
+      ∙ met_yes a_register (λ k x. run (Operand.ranged r (Operand.register_from k x)) at (i + 1 + 1) k.end) (λ u. run (Operand.register_expected Problems.after_minus) at (i + 1) m.token.end) (at (i + 1)) t.token t.text t.there (held a_register t (looks_register {s = s} (register_spelled t e)).registers)
       ∙ rw (registered t.token t.text n e, le-ltb n r.index low) refl
 
   -- behind the last item
@@ -161,8 +161,8 @@ module _ (s : Setting) (at : ℕ → Place) (count : ℕ) (ends : (j : ℕ) (k :
       → Reads (Operand.list_loop fuel s (items ++ (x ∷ [])) r) at (j + 1 + 1) r.span.end n (some (O.register_list ((items ++ (x ∷ [])) ++ xs) (span s.start z)))
       → Reads (Operand.next_item (Operand.list_loop fuel s) s items x) at j e n (some (O.register_list (items ++ (x ∷ xs)) (span s.start z)))
   unfolding Operand.next_item
-  list_goes_on e items x xs k (a_register_lem {r = n} t q) h =
-      steps k.there (kinded k Kinds.slash refl) (steps t.there (held a_register t (looks_register {s = s} (a_register_lem t q)).registers)
+  list_goes_on e items x xs k (register_spelled {r = n} t q) h =
+      steps k.there (kinded k Kinds.slash refl) (steps t.there (held a_register t (looks_register {s = s} (register_spelled t q)).registers)
       (rw (registered t.token t.text n q) (rw (append_assoc items (x ∷ []) xs) at h)))
 
   -- the loop, behind the list's first register

@@ -24,7 +24,7 @@ use Rattle.expressions.specs.Laws.{holds}
 use Rattle.expressions.proofs.Costs.{true_false}
 use Rattle.operand.specs.Operand.{is_address, is_suppressed, name, a_register, an_address_register, a_program_counter, unmarked}
 use Rattle.operand.specs.declared.forms.Register.{Register}
-use Rattle.spelling.specs.Signs.{Sign, Name, RegisterAt, a_register_lem, CounterAt, SuppressedAt, ordinary}
+use Rattle.spelling.specs.Signs.{Sign, Name, RegisterAt, register_spelled, CounterAt, SuppressedAt, ordinary}
 use Rattle.spelling.specs.Expressions.{Unary, Spells, a_number, a_literal, a_name, a_local, an_address, a_unary, a_group, own_group, tighter, joined}
 use Rattle.spelling.specs.Expressions as E
 use Rattle.spelling.specs.Spelling.{Closed}
@@ -75,7 +75,7 @@ module _ {s : Setting} {at : ℕ → Place} {i : ℕ} where
       }
 
   pub looks_register : {r : Register} → RegisterAt at i r → Looks s at i (Reg.Is r.index) false Suppressed.Not
-  looks_register (a_register_lem {r = r} t q) =
+  looks_register (register_spelled {r = r} t q) =
       looks_name t q (Names.register_uncounted t.text r q) (unsuppressed (not (eqb s.mark i)) t.text (Names.register_unsuppressed t.text r q))
 
   pub looks_counter : CounterAt at i → Looks s at i Reg.Not true Suppressed.Not

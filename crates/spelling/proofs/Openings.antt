@@ -19,9 +19,9 @@ use Rattle.operand.specs.Operand.{is_address, a_register, an_address_register, a
 use Rattle.operand.specs.declared.forms.Register.{Register}
 use Rattle.operand.specs.declared.forms.IndexRegister.{IndexRegister}
 use Rattle.operand.specs.declared.forms.Registers.{Registers}
-use Rattle.spelling.specs.Signs.{Sign, Name, RegisterAt, a_register_lem, SuppressedAt, CounterAt}
+use Rattle.spelling.specs.Signs.{Sign, Name, RegisterAt, register_spelled, SuppressedAt, CounterAt}
 use Rattle.spelling.specs.Spelling
-use Rattle.spelling.specs.Spelling.{AddressAt, an_address, plain, suppressed, Sized, no_size, a_size, Scaled, no_scale, a_scale, Indexes, an_index_lem, BaseAndIndex, Full, by_suppressed, by_data, by_tail}
+use Rattle.spelling.specs.Spelling.{AddressAt, an_address, plain, suppressed, Sized, no_size, a_size, Scaled, no_scale, a_scale, Indexes, index_spelled, BaseAndIndex, Full, by_suppressed, by_data, by_tail}
 use Rattle.spelling.proofs.Readings.{Reads, from_here, sees, misses, either_way, comes}
 use Rattle.spelling.proofs.Looks.{held, Looks, looks_register, looks_suppressed, suppressed_no_register, suppressed_no_counter, register_no_counter, data_no_address}
 use Rattle.spelling.proofs.Parts.{first_of_lem, holds_either, Seen}
@@ -112,10 +112,10 @@ module _ {A : Type 0} (s : Setting) {at : ℕ → Place} {i l j : ℕ} {a : A} (
   register_starts : {r : Register} → RegisterAt at i r → Seen at (closes (ltb r.index 8) false) (i + 1) → Reads (hit tt) at i l j a
       → Reads (starts_a_full_index s hit miss) at i l j a
   unfolding starts_a_full_index is_suppressed is_address
-  register_starts (a_register_lem {r = r} t q) c h = go (leb 8 r) refl
+  register_starts (register_spelled {r = r} t q) c h = go (leb 8 r) refl
     where
       k : Looks s at i (Reg.Is r) false Suppressed.Not
-      k = looks_register (a_register_lem t q)
+      k = looks_register (register_spelled t q)
 
       go : (b : Bool) → leb 8 r ≡ b → Reads (starts_a_full_index s hit miss) at i l j a
       go true e =
@@ -128,12 +128,12 @@ module _ {A : Type 0} (s : Setting) {at : ℕ → Place} {i l j : ℕ} {a : A} (
   index_starts : {n : ℕ} {x : IndexRegister} → Indexes s at i n x → (x.register.index < 8) ⊎ (i + 1 < n) → Sign at Kinds.right_paren n → Reads (hit tt) at i l j a
       → Reads (starts_a_full_index s hit miss) at i l j a
   unfolding is_suppressed
-  index_starts (an_index_lem {n = n} (plain {r = r} p) sz sc) f c h = go (tail sz sc c)
+  index_starts (index_spelled {n = n} (plain {r = r} p) sz sc) f c h = go (tail sz sc c)
     where
       go : (Seen at size_or_scale (i + 1)) ⊎ (n ≡ i + 1) → Reads (starts_a_full_index s hit miss) at i l j a
       go (inl t) = register_starts p (tail_seen _ false t) h
       go (inr e) = let small = first_of_lem f (omega arith) in register_starts p (rw (lt-ltb r.index 8 small, ← e) (close_seen false c)) h
-  index_starts (an_index_lem {n = n} (suppressed z) sz sc) f c h = go (tail sz sc c)
+  index_starts (index_spelled {n = n} (suppressed z) sz sc) f c h = go (tail sz sc c)
     where
       go : (Seen at size_or_scale (i + 1)) ⊎ (n ≡ i + 1) → Reads (starts_a_full_index s hit miss) at i l j a
       go (inl t) = suppressed_starts z refl (tail_seen true true t) h

@@ -29,9 +29,9 @@ use Rattle.operand.specs.declared.forms.IndexRegister.{IndexRegister}
 use Rattle.operand.specs.declared.forms.BaseRegister.{BaseRegister}
 use Rattle.operand.specs.declared.forms.Index.{Index}
 use Rattle.operand.specs.declared.forms.Registers.{Registers}
-use Rattle.spelling.specs.Signs.{Sign, Name, a_register_lem}
+use Rattle.spelling.specs.Signs.{Sign, Name, register_spelled}
 use Rattle.spelling.specs.Spelling
-use Rattle.spelling.specs.Spelling.{Letter, Sized, no_size, a_size, Factor, Scaled, no_scale, a_scale, IndexAt, plain, suppressed, Indexes, an_index_lem, Bases, BaseAndIndex}
+use Rattle.spelling.specs.Spelling.{Letter, Sized, no_size, a_size, Factor, Scaled, no_scale, a_scale, IndexAt, plain, suppressed, Indexes, index_spelled, Bases, BaseAndIndex}
 use Rattle.spelling.proofs.Readings.{Reads, answers, from_here, then, steps, passes, sees, misses, either_way, other, kinded}
 use Rattle.spelling.proofs.Looks.{held, Looks, looks_register, looks_counter, looks_suppressed, Stops, stops_comma}
 
@@ -115,7 +115,7 @@ scaled_rises no_scale = omega arith
 scaled_rises (a_scale star t q f) = omega arith
 
 pub index_rises : {s : Setting} {at : ℕ → Place} {i n : ℕ} {x : IndexRegister} → Indexes s at i n x → i < n
-index_rises (an_index_lem p sz sc) = omega (arith, sized_rises sz, scaled_rises sc)
+index_rises (index_spelled p sz sc) = omega (arith, sized_rises sz, scaled_rises sc)
 
 -- two tests, of which one passes
 pub holds_either : (f g : Test) (p : Place) → holds (λ t x. either (f t x) (g t x)) p ≡ either (holds f p) (holds g p)
@@ -155,10 +155,10 @@ base_alone s shape b q l = from_here (either_way refl (λ t x h g. passes q answ
 module _ {s : Setting} {at : ℕ → Place} where
   pub index_read_lem : {i n : ℕ} {x : IndexRegister} → Indexes s at i n x → Stops at n → (shape l : ℕ) → Reads (Operand.parse_index_register s shape) at i l n (some x)
   unfolding Operand.parse_index_register suppressed_index is_suppressed is_suppressed_register
-  index_read_lem (an_index_lem (plain (a_register_lem {r = r} t q)) sz sc) stop shape l =
-      let k = looks_register {s = s} (a_register_lem t q) in
+  index_read_lem (index_spelled (plain (register_spelled {r = r} t q)) sz sc) stop shape l =
+      let k = looks_register {s = s} (register_spelled t q) in
       from_here (steps t.there (held a_register t k.registers) (rw (registered t.token t.text r q) (tails_read s shape _ false sz sc stop _)))
-  index_read_lem {i = i} (an_index_lem (suppressed {r = r} z) sz sc) stop shape l =
+  index_read_lem {i = i} (index_spelled (suppressed {r = r} z) sz sc) stop shape l =
       let k = looks_suppressed z refl in
       let t = z.name in
       from_here (passes k.registers (steps t.there (held (unmarked s i is_suppressed_register) t (k.suppressions is_suppressed_register refl))
@@ -177,10 +177,10 @@ module _ {s : Setting} {at : ℕ → Place} where
 
   pub index_seen : {i n : ℕ} {x : IndexRegister} → Indexes s at i n x → Seen at (an_index s i) i
   unfolding an_index is_suppressed is_suppressed_register
-  index_seen (an_index_lem (plain (a_register_lem t q)) sz sc) =
-      let k = looks_register {s = s} (a_register_lem t q) in
+  index_seen (index_spelled (plain (register_spelled t q)) sz sc) =
+      let k = looks_register {s = s} (register_spelled t q) in
       record { token = t.token; text = t.text; there = t.there; passed = rw (held a_register t k.registers) }
-  index_seen {i = i} (an_index_lem (suppressed z) sz sc) =
+  index_seen {i = i} (index_spelled (suppressed z) sz sc) =
       let k = looks_suppressed z refl in
       let t = z.name in
       record {
@@ -204,8 +204,8 @@ module _ {s : Setting} {at : ℕ → Place} where
       → ((l : ℕ) → Reads (Operand.after_base_register s shape b) at (i + 1) l j (some a)) → (l : ℕ)
       → Reads (Operand.parse_base_and_index_registers s shape) at i l j (some a)
   unfolding Operand.parse_base_and_index_registers suppressed_index is_address is_suppressed is_suppressed_register is_suppressed_address
-  base_read shape (Spelling.address (Spelling.an_address (a_register_lem {r = r} t q) low)) stop h l =
-      let k = looks_register {s = s} (a_register_lem t q) in
+  base_read shape (Spelling.address (Spelling.an_address (register_spelled {r = r} t q) low)) stop h l =
+      let k = looks_register {s = s} (register_spelled t q) in
       from_here (passes k.counters (passes (k.suppressions _ refl) (misses refl (no_tail stop) (steps t.there (held an_address_register t (k.addresses ∙ le-leb 8 r low))
       (rw (registered t.token t.text r q) (h _))))))
   base_read shape (Spelling.counter c) stop h l =
@@ -251,19 +251,19 @@ module _ {s : Setting} {at : ℕ → Place} where
   index_alone : {i n : ℕ} {x : IndexRegister} (shape : ℕ) → Indexes s at i n x → (x.register.index < 8) ⊎ (i + 1 < n) → Stops at n → (l : ℕ)
       → Reads (Operand.parse_base_and_index_registers s shape) at i l n (some (registers BaseRegister.Omitted (Index.Indexed x)))
   unfolding Operand.parse_base_and_index_registers size_or_scale
-  index_alone {i = i} shape (an_index_lem p no_size no_scale) h stop l =
+  index_alone {i = i} shape (index_spelled p no_size no_scale) h stop l =
       let k = indexing p in
       let small = first_of_lem h (omega arith) in
       from_here (passes k.counters (passes k.not_counter (misses refl (no_tail stop) (passes (k.addresses small) (passes (k.suppressions small)
-      (no_base_lem shape (an_index_lem p no_size no_scale) stop l))))))
-  index_alone shape (an_index_lem p (a_size t) sc) h stop l =
+      (no_base_lem shape (index_spelled p no_size no_scale) stop l))))))
+  index_alone shape (index_spelled p (a_size t) sc) h stop l =
       let k = indexing p in
       from_here (passes k.counters (passes k.not_counter (sees refl t.sign.there (rw t.sign.of refl)
-      (no_base_lem shape (an_index_lem p (a_size t) sc) stop l))))
-  index_alone shape (an_index_lem p no_size (a_scale star t q f)) h stop l =
+      (no_base_lem shape (index_spelled p (a_size t) sc) stop l))))
+  index_alone shape (index_spelled p no_size (a_scale star t q f)) h stop l =
       let k = indexing p in
       from_here (passes k.counters (passes k.not_counter (sees refl star.there (rw star.of refl)
-      (no_base_lem shape (an_index_lem p no_size (a_scale star t q f)) stop l))))
+      (no_base_lem shape (index_spelled p no_size (a_scale star t q f)) stop l))))
 
   -- BI, where no comma follows
   pub bases_read : {i j : ℕ} {r : Registers} (shape : ℕ) → BaseAndIndex s at i j r → Stops at j → holds (is Kinds.comma) (at j) ≡ false → (l : ℕ)
@@ -274,15 +274,15 @@ module _ {s : Setting} {at : ℕ → Place} where
 
   begun_base : {i : ℕ} {b : BaseRegister} → Bases s at i b → Begun s at i
   unfolding is_suppressed
-  begun_base {i} (Spelling.address (Spelling.an_address (a_register_lem t q) low)) = record { name = t; passed = held (a_base_or_an_index s i) t (looks_bases (looks_register (a_register_lem t q))) }
+  begun_base {i} (Spelling.address (Spelling.an_address (register_spelled t q) low)) = record { name = t; passed = held (a_base_or_an_index s i) t (looks_bases (looks_register (register_spelled t q))) }
   begun_base {i} (Spelling.counter c) = record { name = c.name; passed = held (a_base_or_an_index s i) c.name (looks_bases (looks_counter c)) }
   begun_base {i} (Spelling.suppressed_address z low) = record { name = z.name; passed = held (a_base_or_an_index s i) z.name (looks_bases (looks_suppressed z refl)) }
   begun_base {i} (Spelling.suppressed_counter z) = record { name = z.name; passed = held (a_base_or_an_index s i) z.name (looks_bases (looks_suppressed z refl)) }
 
   begun_index : {i n : ℕ} {x : IndexRegister} → Indexes s at i n x → Begun s at i
   unfolding is_suppressed
-  begun_index {i} (an_index_lem (plain (a_register_lem t q)) sz sc) = record { name = t; passed = held (a_base_or_an_index s i) t (looks_bases (looks_register (a_register_lem t q))) }
-  begun_index {i} (an_index_lem (suppressed z) sz sc) = record { name = z.name; passed = held (a_base_or_an_index s i) z.name (looks_bases (looks_suppressed z refl)) }
+  begun_index {i} (index_spelled (plain (register_spelled t q)) sz sc) = record { name = t; passed = held (a_base_or_an_index s i) t (looks_bases (looks_register (register_spelled t q))) }
+  begun_index {i} (index_spelled (suppressed z) sz sc) = record { name = z.name; passed = held (a_base_or_an_index s i) z.name (looks_bases (looks_suppressed z refl)) }
 
   pub begun : {i j : ℕ} {r : Registers} → BaseAndIndex s at i j r → Begun s at i
   begun (Spelling.base h) = begun_base h

@@ -48,8 +48,8 @@ by k c b f = go (eqb k c) refl
 pub operators : (k : ℕ) → 1 ≤ precedence k → Binary k (precedence k) (binary_operator k)
 unfolding precedence binary_operator
 operators k h =
-    by k Kinds.shift_left E.shift_left_lem λ q1.
-    by k Kinds.shift_right E.shift_right_lem λ q2.
+    by k Kinds.shift_left E.shift_left λ q1.
+    by k Kinds.shift_right E.shift_right λ q2.
     by k Kinds.ampersand E.and λ q3.
     by k Kinds.bang E.or_bang λ q4.
     by k Kinds.pipe E.or_pipe λ q5.

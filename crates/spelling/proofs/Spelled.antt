@@ -28,7 +28,7 @@ use Rattle.operand.specs.declared.forms.IndexRegister.{IndexRegister}
 use Rattle.operand.specs.declared.forms.BaseRegister.{BaseRegister}
 use Rattle.operand.specs.declared.forms.Index.{Index}
 use Rattle.operand.specs.declared.forms.Registers.{Registers}
-use Rattle.spelling.specs.Signs.{Sign, Name, RegisterAt, a_register_lem, CounterAt, ordinary}
+use Rattle.spelling.specs.Signs.{Sign, Name, RegisterAt, register_spelled, CounterAt, ordinary}
 use Rattle.spelling.specs.Spelling
 use Rattle.spelling.specs.Spelling.{Closed, Letter, Sized, no_size, a_size, AddressAt, an_address, Indexes, BaseAndIndex, Full, Expression, Opening, Inside, Behind, Items, last, more, a_single, a_range, Spelling}
 use Rattle.spelling.proofs.Readings.{Reads, answers, then, steps, passes, sees, misses, comes, other, kinded, same_sign}
@@ -68,15 +68,15 @@ module _ (s : Setting) (at : ℕ → Place) (count : ℕ) (ends : (j : ℕ) (k :
 
   direct_read : {l : ℕ} {r : Register} → RegisterAt at own r → Closed at (own + 1) → Reads (operand_from s) at own l (own + 1) (some (Operand.register_direct r r.span))
   unfolding Operand.name_or_expression Operand.parse_register_operand
-  direct_read (a_register_lem {r = r} t q) c =
-      begins_name s at own t (steps t.there (held a_register t (looks_register {s = s} (a_register_lem t q)).registers)
+  direct_read (register_spelled {r = r} t q) c =
+      begins_name s at own t (steps t.there (held a_register t (looks_register {s = s} (register_spelled t q)).registers)
       (misses (omega arith) (closed_fails (λ k y. either (eqb k.kind Kinds.minus) (eqb k.kind Kinds.slash)) (λ k x e. rw e refl) (λ k x e. rw e refl) c)
       (rw (registered t.token t.text r q) answers)))
 
   -- ---- behind the base: 5, 6, 8 to 11, and an index that is suppressed
 
   address_like : {i : ℕ} {r : Register} → AddressAt at i r → BaseLike s at i
-  address_like (an_address (a_register_lem t q) low) = address t (looks_register (a_register_lem t q)) low
+  address_like (an_address (register_spelled t q) low) = address t (looks_register (register_spelled t q)) low
 
   counter_like : {i : ℕ} → CounterAt at i → BaseLike s at i
   counter_like c = counter c.name (looks_counter c)
@@ -128,8 +128,8 @@ module _ (s : Setting) (at : ℕ → Place) (count : ℕ) (ends : (j : ℕ) (k :
   address_base_lem : {i j : ℕ} {r : Register} (d : Displacement) {y : Operand} → AddressAt at i r
       → ((k : Token) (l : ℕ) → Reads (Operand.after_base s k d r) at (i + 1) l j (some y)) → BaseRead i j d y
   unfolding Operand.parse_base_and_index is_address
-  address_base_lem d (an_address (a_register_lem {r = r} t q) low) h k l =
-      steps t.there (held an_address_register t ((looks_register {s = s} (a_register_lem t q)).addresses ∙ le-leb 8 r low)) (rw (registered t.token t.text r q) (h k _))
+  address_base_lem d (an_address (register_spelled {r = r} t q) low) h k l =
+      steps t.there (held an_address_register t ((looks_register {s = s} (register_spelled t q)).addresses ∙ le-leb 8 r low)) (rw (registered t.token t.text r q) (h k _))
 
   counter_base : {i j : ℕ} (d : Displacement) {y : Operand} → CounterAt at i
       → ((k : Token) (l : ℕ) → Reads (Operand.after_counter s k d) at (i + 1) l j (some y)) → BaseRead i j d y
@@ -242,10 +242,10 @@ module _ (s : Setting) (at : ℕ → Place) (count : ℕ) (ends : (j : ℕ) (k :
   predecrement_read : {l : ℕ} {r : Register} (m : Sign at Kinds.minus own) → Sign at Kinds.left_paren (own + 1) → AddressAt at (own + 1 + 1) r
       → (c : Sign at Kinds.right_paren (own + 1 + 1 + 1)) → Reads (operand_from s) at own l (own + 1 + 1 + 1 + 1) (some (O.predecrement r (span m.token.start c.token.end)))
   unfolding operand_from Operand.minus_operand Operand.parse_predecrement Operand.over Operand.predecrement_close Operand.or_none
-  predecrement_read m t (an_address (a_register_lem {r = r} p q) low) c =
+  predecrement_read m t (an_address (register_spelled {r = r} p q) low) c =
       misses (omega arith) (other m Kinds.comma refl) (passes (other m Kinds.hash refl) (passes (other m Kinds.left_paren refl)
       (sees (omega arith) m.there (kinded m Kinds.minus refl) (sees refl t.there (kinded t Kinds.left_paren refl)
-      (sees (omega arith) p.there (held a_register p (looks_register {s = s} (a_register_lem p q)).registers)
+      (sees (omega arith) p.there (held a_register p (looks_register {s = s} (register_spelled p q)).registers)
       (steps m.there refl (steps t.there refl (steps p.there refl
       (rw (registered p.token p.text r q, le-leb 8 r low) (then (expect t.token Shapes.predecrement c) λ l₂. answers))))))))))
 
@@ -298,8 +298,8 @@ module _ (s : Setting) (at : ℕ → Place) (count : ℕ) (ends : (j : ℕ) (k :
       → Seen at (λ k y. either (eqb k.kind Kinds.minus) (eqb k.kind Kinds.slash)) (own + 1)
       → Reads (Operand.list_loop fuel s [] r) at (own + 1) r.span.end j (some y) → Reads (operand_from s) at own l j (some y)
   unfolding Operand.name_or_expression Operand.parse_register_operand Operand.parse_register_list
-  list_from (a_register_lem {r = r} t q) z h =
-      begins_name s at own t (steps t.there (held a_register t (looks_register {s = s} (a_register_lem t q)).registers)
+  list_from (register_spelled {r = r} t q) z h =
+      begins_name s at own t (steps t.there (held a_register t (looks_register {s = s} (register_spelled t q)).registers)
       (sees (omega arith) z.there z.passed (rw (registered t.token t.text r q) h)))
 
   list_read : {j e l : ℕ} {xs : List RegisterListItem} → Items s at own j xs e → own + 1 < j → Closed at j
@@ -317,7 +317,7 @@ module _ (s : Setting) (at : ℕ → Place) (count : ℕ) (ends : (j : ℕ) (k :
   operand_read_lem (Spelling.immediate_long t h z) c l = immediate_read t h (letter_ends z) λ l₂. then (letter_read _ _ z) λ l₃. answers
   operand_read_lem (Spelling.data_register {r = r} p small) c l = rw (direct_data r small) at (direct_read {l = l} p c)
   operand_read_lem (Spelling.address_register {r = r} (an_address p low)) c l = rw (direct_address r low) at (direct_read {l = l} p c)
-  operand_read_lem (Spelling.special_register_lem t q) c l = special_read t q
+  operand_read_lem (Spelling.special_register t q) c l = special_read t q
   operand_read_lem (Spelling.indirect t p k) c l = opening_read (Spelling.alone t) (address_like p) (shut_close k) (address_base_lem undisplaced p (indirect_closed k c))
   operand_read_lem (Spelling.postincrement t p k m) c l = opening_read (Spelling.alone t) (address_like p) (shut_close k) (address_base_lem undisplaced p (postincrement_closed k m))
   operand_read_lem (Spelling.predecrement m t p k) c l = predecrement_read m t p k
@@ -328,13 +328,13 @@ module _ (s : Setting) (at : ℕ → Place) (count : ℕ) (ends : (j : ℕ) (k :
   operand_read_lem (Spelling.counter_displacement {e = e} h p k) c l =
       opening_read (Spelling.displacing h) (counter_like p) (shut_close k) (counter_base (displaced e 0) p (counter_closed k))
   operand_read_lem (Spelling.counter_index {d = d} h p m x f k) c l = opening_read h (counter_like p) (shut_comma m) (counter_base d p (counter_index d m x k (rw f refl)))
-  operand_read_lem (Spelling.suppressed_index_lem {d = d} {r = r} h p m x f k) c l =
+  operand_read_lem (Spelling.suppressed_index {d = d} {r = r} h p m x f k) c l =
       opening_read h (address_like p) (shut_comma m) (address_base_lem d p (address_index r d m x k (rw f refl)))
   operand_read_lem (Spelling.counter_suppressed_index {d = d} h p m x f k) c l =
       opening_read h (counter_like p) (shut_comma m) (counter_base d p (counter_index d m x k (rw f refl)))
   operand_read_lem (Spelling.full t f k) c l = full_alone t f k
   operand_read_lem (Spelling.displaced_full t e m f k) c l = full_displaced t e m f k
   operand_read_lem (Spelling.sized_full t e z m b k) c l = full_sized t e z m b k
-  operand_read_lem (Spelling.memory_indirect_lem t b i z u k) c l = memory_read t b i z u k
+  operand_read_lem (Spelling.memory_indirect t b i z u k) c l = memory_read t b i z u k
   operand_read_lem (Spelling.absolute h sz) c l = absolute_read h sz c
   operand_read_lem (Spelling.list h long) c l = list_read h long c

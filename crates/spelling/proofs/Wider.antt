@@ -56,7 +56,7 @@ module _ {a b : ℕ → List ℕ → Bool} (more : (i : ℕ) (x : List ℕ) → 
     wider_spelling (Spelling.immediate_long t h l) = Spelling.immediate_long t (wider h) l
     wider_spelling (Spelling.data_register p q) = Spelling.data_register p q
     wider_spelling (Spelling.address_register p) = Spelling.address_register p
-    wider_spelling (Spelling.special_register_lem t q) = Spelling.special_register_lem t q
+    wider_spelling (Spelling.special_register t q) = Spelling.special_register t q
     wider_spelling (Spelling.indirect t p c) = Spelling.indirect t p c
     wider_spelling (Spelling.postincrement t p c q) = Spelling.postincrement t p c q
     wider_spelling (Spelling.predecrement m t p c) = Spelling.predecrement m t p c
@@ -64,12 +64,12 @@ module _ {a b : ℕ → List ℕ → Bool} (more : (i : ℕ) (x : List ℕ) → 
     wider_spelling (Spelling.index h p k x q c) = Spelling.index (wider_opening h) p k x q c
     wider_spelling (Spelling.counter_displacement h p c) = Spelling.counter_displacement (wider_displaced h) p c
     wider_spelling (Spelling.counter_index h p k x q c) = Spelling.counter_index (wider_opening h) p k x q c
-    wider_spelling (Spelling.suppressed_index_lem h p k x q c) = Spelling.suppressed_index_lem (wider_opening h) p k x q c
+    wider_spelling (Spelling.suppressed_index h p k x q c) = Spelling.suppressed_index (wider_opening h) p k x q c
     wider_spelling (Spelling.counter_suppressed_index h p k x q c) = Spelling.counter_suppressed_index (wider_opening h) p k x q c
     wider_spelling (Spelling.full t f c) = Spelling.full t f c
     wider_spelling (Spelling.displaced_full t h k f c) = Spelling.displaced_full t (wider h) k f c
     wider_spelling (Spelling.sized_full t h z k r c) = Spelling.sized_full t (wider h) z k r c
-    wider_spelling (Spelling.memory_indirect_lem t k h z u c) = Spelling.memory_indirect_lem t k (wider_inside h) z (wider_behind u) c
+    wider_spelling (Spelling.memory_indirect t k h z u c) = Spelling.memory_indirect t k (wider_inside h) z (wider_behind u) c
     wider_spelling (Spelling.absolute h z) = Spelling.absolute (wider h) z
     wider_spelling (Spelling.list h long) = Spelling.list h long
 

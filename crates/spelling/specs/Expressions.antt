@@ -21,8 +21,8 @@ pub data Unary : ℕ → ℕ → Type 0 where
 
 -- a sign, its level, and its place in `BinaryOperator`; either sign of or is the same
 pub data Binary : ℕ → ℕ → ℕ → Type 0 where
-  shift_left_lem : Binary Kinds.shift_left 4 8
-  shift_right_lem : Binary Kinds.shift_right 4 9
+  shift_left : Binary Kinds.shift_left 4 8
+  shift_right : Binary Kinds.shift_right 4 9
   and : Binary Kinds.ampersand 3 5
   or_bang : Binary Kinds.bang 3 6
   or_pipe : Binary Kinds.pipe 3 6

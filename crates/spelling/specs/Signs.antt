@@ -25,7 +25,7 @@ Name at i = Sign at Kinds.identifier i
 
 -- Dn, An or `sp`, by its mask index
 pub data RegisterAt (at : ℕ → Place) : ℕ → Register → Type 0 where
-  a_register_lem : {i r : ℕ} (t : Name at i) → register_of t.text ≡ Reg.Is r → RegisterAt at i (record { index = r; span = span_of t.token })
+  register_spelled : {i r : ℕ} (t : Name at i) → register_of t.text ≡ Reg.Is r → RegisterAt at i (record { index = r; span = span_of t.token })
 
 -- PC
 pub record CounterAt (at : ℕ → Place) (i : ℕ) : Type 0 where

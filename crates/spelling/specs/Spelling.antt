@@ -64,7 +64,7 @@ module _ (s : Setting) (at : ℕ → Place) where
 
   -- X: R, or a Z other than `zpc`, with the same tails: a size, then a scale, each optional. R is an X that is not suppressed
   pub data Indexes : ℕ → ℕ → IndexRegister → Type 0 where
-    an_index_lem : {i j n size scale z y : ℕ} {b : Bool} {r : Register} → IndexAt i b r → Sized at r.span.end (i + 1) j size z → Scaled at z j n scale y
+    index_spelled : {i j n size scale z y : ℕ} {b : Bool} {r : Register} → IndexAt i b r → Sized at r.span.end (i + 1) j size z → Scaled at z j n scale y
         → Indexes i n (record { register = r; size = size; scale = scale; suppressed = b; span = span r.span.start y })
 
   -- B: bare An, PC, or bare Z address or `zpc`
@@ -147,7 +147,7 @@ module _ (s : Setting) (at : ℕ → Place) where
       -- 2, 3, 4: Dn; An or `sp`; special register
       data_register : {r : Register} → RegisterAt at own r → r.index < 8 → Spelling (own + 1) (O.data_register_direct r r.span)
       address_register : {r : Register} → AddressAt at own r → Spelling (own + 1) (O.address_register_direct r r.span)
-      special_register_lem : {n : ℕ} (t : Name at own) → special_of t.text ≡ SpecialRegister.Is n → Spelling (own + 1) (O.special_register n (span_of t.token))
+      special_register : {n : ℕ} (t : Name at own) → special_of t.text ≡ SpecialRegister.Is n → Spelling (own + 1) (O.special_register n (span_of t.token))
       -- 5, 6, 7: `(An)`; `(An)+`; `-(An)`
       indirect : {r : Register} → Sign at Kinds.left_paren own → AddressAt at (own + 1) r → (c : Sign at Kinds.right_paren (own + 1 + 1))
           → Spelling (own + 1 + 1 + 1) (O.indirect r (span s.start c.token.end))
@@ -166,7 +166,7 @@ module _ (s : Setting) (at : ℕ → Place) where
       counter_index : {j n : ℕ} {d : Displacement} {x : IndexRegister} → Opening j d → CounterAt at j → Sign at Kinds.comma (j + 1)
           → Indexes (j + 1 + 1) n x → x.suppressed ≡ false → (c : Sign at Kinds.right_paren n) → Spelling (n + 1) (O.pc_index d x (span s.start c.token.end))
       -- 12: 9 or 11 with suppressed X for R
-      suppressed_index_lem : {j n : ℕ} {d : Displacement} {r : Register} {x : IndexRegister} → Opening j d → AddressAt at j r → Sign at Kinds.comma (j + 1)
+      suppressed_index : {j n : ℕ} {d : Displacement} {r : Register} {x : IndexRegister} → Opening j d → AddressAt at j r → Sign at Kinds.comma (j + 1)
           → Indexes (j + 1 + 1) n x → x.suppressed ≡ true → (c : Sign at Kinds.right_paren n)
           → Spelling (n + 1) (O.full_index d (BaseRegister.Address r) (Index.Indexed x) 0 undisplaced (span s.start c.token.end))
       counter_suppressed_index : {j n : ℕ} {d : Displacement} {x : IndexRegister} → Opening j d → CounterAt at j → Sign at Kinds.comma (j + 1)
@@ -181,7 +181,7 @@ module _ (s : Setting) (at : ℕ → Place) where
       sized_full : {j n size : ℕ} {e : Expr} {r : Registers} → Sign at Kinds.left_paren own → Expression (own + 1) j e → Letter at j size
           → Sign at Kinds.comma (j + 1) → BaseAndIndex (j + 1 + 1) n r → (c : Sign at Kinds.right_paren n)
           → Spelling (n + 1) (O.full_index (displaced e size) r.base r.index 0 undisplaced (span s.start c.token.end))
-      memory_indirect_lem : {j n indirection : ℕ} {d u : Displacement} {r : Registers} {x : Index} → Sign at Kinds.left_paren own
+      memory_indirect : {j n indirection : ℕ} {d u : Displacement} {r : Registers} {x : Index} → Sign at Kinds.left_paren own
           → Sign at Kinds.left_bracket (own + 1) → Inside (own + 1 + 1) j d r → Sign at Kinds.right_bracket j → Behind r.index (j + 1) n x indirection u
           → (c : Sign at Kinds.right_paren n)
           → Spelling (n + 1) (O.full_index d r.base x indirection u (span s.start c.token.end))

@@ -117,7 +117,7 @@ narrow_asks w C F N D O h at e a g =
     rw e
     (record {
       fits = omega (arith, length-take-le h C (omega (arith, s.carry_long)), s.frame_long);
-      stores = record { nodes_long_lem = omega (arith, s.nodes_long_lem, narrow_stores.0); diagnostics_long = omega (arith, s.diagnostics_long, narrow_stores.1); room = omega (arith, a.room, s.out_long) };
+      stores = record { nodes_long = omega (arith, s.nodes_long, narrow_stores.0); diagnostics_long = omega (arith, s.diagnostics_long, narrow_stores.1); room = omega (arith, a.room, s.out_long) };
     })
 
 -- an answer, under its other name

@@ -119,7 +119,7 @@ module _ (w : Layout) where
       record {
         head = sizes.0;
         operand = sizes.1;
-        nodes = omega (arith, nodes_within w x.nodes a.nodes_few, a.nodes_long_lem);
+        nodes = omega (arith, nodes_within w x.nodes a.nodes_few, a.nodes_long);
         diagnostics = omega (arith, diagnostics_within x.diagnostics a.diagnostics_few, a.diagnostics_long);
         room = omega (arith, parts_short w x.nodes x.diagnostics a.nodes_few a.diagnostics_few, a.room);
       }

@@ -78,7 +78,7 @@ module _ (a : Input) (none-used : a.used ≡ 0) (N D : List ℕ) where
     found_asks O at room n d = record {
       room = room;
       nodes_few = Answers.nodes_few a N D (Answer.Operand x) p v;
-      nodes_long_lem = n;
+      nodes_long = n;
       diagnostics_few = Answers.records_enough a N D (Answer.Operand x) p v;
       diagnostics_long = d;
     }

@@ -19,7 +19,7 @@ turn-t-requires c =
 
 pub loop-i-preserved : goal.loop-i-preserved
 loop-i-preserved c =
-    (omega arith, record { carry_long = omega (arith, c.loop-i.invariant.1, c.turn-t.auto); frame_long = omega (arith, c.loop-i.invariant.1, c.turn-t.auto); nodes_long_lem = omega (arith, c.loop-i.invariant.1, c.turn-t.auto); diagnostics_long = omega (arith, c.loop-i.invariant.1, c.turn-t.auto); out_long = omega (arith, c.loop-i.invariant.1, c.turn-t.auto) }, batch_on c.args.input.now _ _ _ c.loop-i.i c.loop-i.h c.loop-i.w _ _ c.loop-i.invariant.2 (omega arith) _ _ _ (omega (arith, c.if-w-gt-ROOMY.false)) c.turn-t.ensures)
+    (omega arith, record { carry_long = omega (arith, c.loop-i.invariant.1, c.turn-t.auto); frame_long = omega (arith, c.loop-i.invariant.1, c.turn-t.auto); nodes_long = omega (arith, c.loop-i.invariant.1, c.turn-t.auto); diagnostics_long = omega (arith, c.loop-i.invariant.1, c.turn-t.auto); out_long = omega (arith, c.loop-i.invariant.1, c.turn-t.auto) }, batch_on c.args.input.now _ _ _ c.loop-i.i c.loop-i.h c.loop-i.w _ _ c.loop-i.invariant.2 (omega arith) _ _ _ (omega (arith, c.if-w-gt-ROOMY.false)) c.turn-t.ensures)
 
 pub returns : goal.returns
 returns c =

@@ -22,7 +22,7 @@ refuse-requires c =
 pub returns-in-Is : goal.returns-in-Is
 unfolding FramedAs
 returns-in-Is c =
-    line_of c.args.layout _ _ (answer_bytes_lem c.args.layout c.args.bytes.now c.args.nodes.now c.args.diagnostics.now _ _ _ c.read_frame-r.ensures (rw c.in-Is.is at c.frame_line-f.ensures).whole c.requires.nodes_long_lem c.requires.diagnostics_long) c.put_answer.ensures
+    line_of c.args.layout _ _ (answer_bytes_lem c.args.layout c.args.bytes.now c.args.nodes.now c.args.diagnostics.now _ _ _ c.read_frame-r.ensures (rw c.in-Is.is at c.frame_line-f.ensures).whole c.requires.nodes_long c.requires.diagnostics_long) c.put_answer.ensures
 
 pub returns-in-Not : goal.returns-in-Not
 unfolding FramedAs
