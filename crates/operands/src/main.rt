@@ -100,7 +100,7 @@ fn answer_read(
 }
 
 // Which bytes a read puts into the store, and which a write takes from one, no contract says: that they are the input's and the output's is
-// read here and in `write`. A proved loop has to end, and nothing says that the input does. So it counts its turns down, from a number that
+// read in `read` and `write`. A proved loop has to end, and nothing says that the input does. So it counts its turns down, from a number that
 // no run uses up.
 fn main(rt: HostRuntime) {
     let mut stdin = rt.stdin();

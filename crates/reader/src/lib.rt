@@ -1,5 +1,4 @@
-// A thin reader: the lent line, its tokens and a place among them. The borrow checker covers no function over a struct that holds
-// references, so each of those is proved by hand and leaves the work to a covered function of plain parameters.
+// A thin reader: the lent line, its tokens and a place among them. A function over the struct leaves the work to one of plain parameters.
 #![tactic(auto)]
 
 ghost use Rattle.std.specs.Prelude.{◌≡◌};

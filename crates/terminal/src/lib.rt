@@ -1,4 +1,4 @@
-// The library that a terminal's firmware links.
+// What the library of a terminal's firmware does.
 #![tactic(auto)]
 
 mod call;
