@@ -2,11 +2,12 @@
 -- Assumes nothing.
 use Rattle.std.specs.Prelude.{◌≡◌, Bool, List, ℕ, ◌*◌, ◌+◌, ◌≤◌, leb, length, take}
 use Rattle.std.proofs.Common.{sym, ◌∙◌, ap, ap₂, arith}
-use Rattle.names.specs.Choice.{both}
+use Rattle.names.specs.Choice.{pick, both}
 use Rattle.names.specs.Tokens.{count}
 use Rattle.records.specs.Stores.{written}
 use Rattle.operand.specs.declared.layouts.Layout.{Layout}
 use Rattle.operand.specs.Layouts.{token_numbers}
+use Rattle.operand.specs.RefusalNumbers
 use Rattle.operand.specs.Entry.{good_tokens}
 use Rattle.std.proofs.Math.Seq.{take-length}
 use Rattle.records.specs.Written.{written_take}
@@ -19,8 +20,8 @@ decodes w L T M = let X = token_numbers w T in both (leb (4 * count X) (length M
 unfoldable pub decoded : Layout → List ℕ → List ℕ → List ℕ
 decoded w T M = let X = token_numbers w T in written M 0 (take (4 * count X) X)
 
-pub record Decoded (w : Layout) (L T M M' : List ℕ) (r : Bool) : Type 0 where
-  pub good : r ≡ decodes w L T M
+pub record Decoded (w : Layout) (L T M M' : List ℕ) (n : ℕ) : Type 0 where
+  pub refusal : n ≡ pick (decodes w L T M) 0 RefusalNumbers.bad_token
   pub numbers : M' ≡ decoded w T M
 
 -- the numbers of a list without a rest stand there

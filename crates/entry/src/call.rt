@@ -1,15 +1,14 @@
 // The entry: what a call lends and gives, and what comes back. A slice that is lent anew (`&*line`) is handed on in registers, not
 // through memory.
+ghost use Rattle.std.specs.Prelude.{◌≤◌, length};
 ghost use Rattle.operand.specs.Entry.{call};
 ghost use Rattle.layout.specs.Promise.{EntryPromise};
-ghost use Rattle.entry.specs.Call.{ListAsks, StoresAsk, AnswerTold};
+ghost use Rattle.entry.specs.Call.{StoresAsk, AnswerTold};
 
 use decoding::decode_tokens;
-use layout::{Answer, Found, Missed, encode_diagnostics, encode_nodes};
-use operand::layouts::token_count;
-use operand::refusal_numbers::{BAD_START, BAD_TOKEN};
-use operand::{Layout, OperandRead, OperandStep};
-use operand_code::{OperandAnswer, operand_at};
+use layout::{Answer, encode_diagnostics, encode_nodes};
+use operand::{Layout, OperandStep, Refusal};
+use operand_code::operand_at;
 use refusals::{refuse_line_and_list, refuse_start_stores_and_limit};
 
 // What a call is given by value.
@@ -24,6 +23,7 @@ struct Given {
 
 // Reads the operand that begins at the token `start`; at most `limit` terms may be open in each other. A refusal writes nothing. The
 // numbers of the reading stand in stores of the call's own, in six sizes, since to clear them takes longer than to read a short list.
+// Parameters and no struct: the call as C's interface has it.
 pub fn parse_operand(
     layout: Layout,
     line: &[u8],
@@ -34,184 +34,43 @@ pub fn parse_operand(
     nodes: &mut [u8],
     diagnostics: &mut [u8],
     used: usize,
-) -> Answer
+) -> Result<Answer, Refusal>
     ensures { EntryPromise (call layout line.now tokens.now start mark limit nodes.old diagnostics.old used) nodes.new diagnostics.new result }
 {
-    let n = refuse_line_and_list(layout, line, tokens);
-    if n != 0 {
-        return Answer::Refused(n);
-    }
+    refuse_line_and_list(layout, line, tokens)?;
     let given = Given {
-        layout: layout,
-        start: start,
-        mark: mark,
-        limit: limit,
-        used: used,
+        layout,
+        start,
+        mark,
+        limit,
+        used,
     };
-    let count = token_count(layout, tokens.len());
-    if count <= 8 {
-        return read_8(line, tokens, given, nodes, diagnostics);
+    match layout.token_count(tokens.len()) {
+        0..=8 => read_within::<32, 80, 90>(line, tokens, given, nodes, diagnostics),
+        9..=16 => read_within::<64, 160, 170>(line, tokens, given, nodes, diagnostics),
+        17..=64 => read_within::<256, 640, 650>(line, tokens, given, nodes, diagnostics),
+        65..=255 => read_within::<1020, 2550, 2560>(line, tokens, given, nodes, diagnostics),
+        256..=511 => read_within::<2044, 5110, 5120>(line, tokens, given, nodes, diagnostics),
+        _ => read_within::<4092, 10230, 10240>(line, tokens, given, nodes, diagnostics),
     }
-    if count <= 16 {
-        return read_16(line, tokens, given, nodes, diagnostics);
-    }
-    if count <= 64 {
-        return read_64(line, tokens, given, nodes, diagnostics);
-    }
-    if count <= 255 {
-        return read_255(line, tokens, given, nodes, diagnostics);
-    }
-    if count <= 511 {
-        return read_511(line, tokens, given, nodes, diagnostics);
-    }
-    read_1023(line, tokens, given, nodes, diagnostics)
 }
 
-// The operand of a list of at most 8 tokens. Of numbers a token has four, a node and a diagnostic ten; there may be a node for each
-// token, and a diagnostic more.
-fn read_8(
+// The operand of a list that these stores have room for. Of numbers a token has four, a node and a diagnostic ten; there may be a node for
+// each token, and a diagnostic more. No const argument can be computed from another.
+fn read_within<const LIST: usize, const RECORDS: usize, const REPORTS: usize>(
     line: &[u8],
     tokens: &[u8],
     given: Given,
     nodes: &mut [u8],
     diagnostics: &mut [u8],
-) -> Answer
-    requires { ListAsks given.layout line.now tokens.now 8 }
+) -> Result<Answer, Refusal>
+    requires asked { StoresAsk given.layout line.now tokens.now LIST RECORDS REPORTS }
+    requires sizes { (LIST ≤ 4092) × (RECORDS ≤ 10230) × (REPORTS ≤ 10240) }
     ensures { EntryPromise (call given.layout line.now tokens.now given.start given.mark given.limit nodes.old diagnostics.old given.used) nodes.new diagnostics.new result }
 {
-    let mut list: [u16; 32] = [0; 32];
-    let mut records: [u16; 80] = [0; 80];
-    let mut reports: [u16; 90] = [0; 90];
-    read_operand(
-        &*line,
-        &*tokens,
-        given,
-        nodes,
-        diagnostics,
-        &mut list,
-        &mut records,
-        &mut reports,
-    )
-}
-
-// The same of at most 16.
-fn read_16(
-    line: &[u8],
-    tokens: &[u8],
-    given: Given,
-    nodes: &mut [u8],
-    diagnostics: &mut [u8],
-) -> Answer
-    requires { ListAsks given.layout line.now tokens.now 16 }
-    ensures { EntryPromise (call given.layout line.now tokens.now given.start given.mark given.limit nodes.old diagnostics.old given.used) nodes.new diagnostics.new result }
-{
-    let mut list: [u16; 64] = [0; 64];
-    let mut records: [u16; 160] = [0; 160];
-    let mut reports: [u16; 170] = [0; 170];
-    read_operand(
-        &*line,
-        &*tokens,
-        given,
-        nodes,
-        diagnostics,
-        &mut list,
-        &mut records,
-        &mut reports,
-    )
-}
-
-// The same of at most 64.
-fn read_64(
-    line: &[u8],
-    tokens: &[u8],
-    given: Given,
-    nodes: &mut [u8],
-    diagnostics: &mut [u8],
-) -> Answer
-    requires { ListAsks given.layout line.now tokens.now 64 }
-    ensures { EntryPromise (call given.layout line.now tokens.now given.start given.mark given.limit nodes.old diagnostics.old given.used) nodes.new diagnostics.new result }
-{
-    let mut list: [u16; 256] = [0; 256];
-    let mut records: [u16; 640] = [0; 640];
-    let mut reports: [u16; 650] = [0; 650];
-    read_operand(
-        &*line,
-        &*tokens,
-        given,
-        nodes,
-        diagnostics,
-        &mut list,
-        &mut records,
-        &mut reports,
-    )
-}
-
-// The same of at most 255, the longest narrow list.
-fn read_255(
-    line: &[u8],
-    tokens: &[u8],
-    given: Given,
-    nodes: &mut [u8],
-    diagnostics: &mut [u8],
-) -> Answer
-    requires { ListAsks given.layout line.now tokens.now 255 }
-    ensures { EntryPromise (call given.layout line.now tokens.now given.start given.mark given.limit nodes.old diagnostics.old given.used) nodes.new diagnostics.new result }
-{
-    let mut list: [u16; 1020] = [0; 1020];
-    let mut records: [u16; 2550] = [0; 2550];
-    let mut reports: [u16; 2560] = [0; 2560];
-    read_operand(
-        &*line,
-        &*tokens,
-        given,
-        nodes,
-        diagnostics,
-        &mut list,
-        &mut records,
-        &mut reports,
-    )
-}
-
-// The same of at most 511.
-fn read_511(
-    line: &[u8],
-    tokens: &[u8],
-    given: Given,
-    nodes: &mut [u8],
-    diagnostics: &mut [u8],
-) -> Answer
-    requires { ListAsks given.layout line.now tokens.now 511 }
-    ensures { EntryPromise (call given.layout line.now tokens.now given.start given.mark given.limit nodes.old diagnostics.old given.used) nodes.new diagnostics.new result }
-{
-    let mut list: [u16; 2044] = [0; 2044];
-    let mut records: [u16; 5110] = [0; 5110];
-    let mut reports: [u16; 5120] = [0; 5120];
-    read_operand(
-        &*line,
-        &*tokens,
-        given,
-        nodes,
-        diagnostics,
-        &mut list,
-        &mut records,
-        &mut reports,
-    )
-}
-
-// The same of at most 1,023, the longest wide list.
-fn read_1023(
-    line: &[u8],
-    tokens: &[u8],
-    given: Given,
-    nodes: &mut [u8],
-    diagnostics: &mut [u8],
-) -> Answer
-    requires { ListAsks given.layout line.now tokens.now 1023 }
-    ensures { EntryPromise (call given.layout line.now tokens.now given.start given.mark given.limit nodes.old diagnostics.old given.used) nodes.new diagnostics.new result }
-{
-    let mut list: [u16; 4092] = [0; 4092];
-    let mut records: [u16; 10230] = [0; 10230];
-    let mut reports: [u16; 10240] = [0; 10240];
+    let mut list = [0u16; LIST];
+    let mut records = [0u16; RECORDS];
+    let mut reports = [0u16; REPORTS];
     read_operand(
         &*line,
         &*tokens,
@@ -225,6 +84,7 @@ fn read_1023(
 }
 
 // The operand, read in stores of the call's own: the numbers of the list, of the nodes and of the diagnostics.
+// No struct of the three: they are lent once, and of its fields each would be lent anew.
 fn read_operand(
     line: &[u8],
     tokens: &[u8],
@@ -234,38 +94,35 @@ fn read_operand(
     list: &mut [u16],
     records: &mut [u16],
     reports: &mut [u16],
-) -> Answer
-    requires { StoresAsk given.layout line.now tokens.now list.old records.old reports.old }
+) -> Result<Answer, Refusal>
+    requires { StoresAsk given.layout line.now tokens.now (length list.old) (length records.old) (length reports.old) }
     ensures { EntryPromise (call given.layout line.now tokens.now given.start given.mark given.limit nodes.old diagnostics.old given.used) nodes.new diagnostics.new result }
 {
-    let layout = given.layout;
-    let start = given.start;
-    let mark = given.mark;
-    let used = given.used;
-    if !decode_tokens(layout, &*line, &*tokens, list) {
-        return Answer::Refused(BAD_TOKEN);
-    }
-    let count = token_count(layout, tokens.len());
-    let k = refuse_start_stores_and_limit(
+    let Given {
+        layout,
+        start,
+        mark,
+        limit,
+        used,
+    } = given;
+    decode_tokens(layout, &*line, &*tokens, list)?;
+    let count = layout.token_count(tokens.len());
+    refuse_start_stores_and_limit(
         layout,
         count,
         start,
-        given.limit,
+        limit,
         nodes.len(),
         diagnostics.len(),
         used,
-    );
-    if k != 0 {
-        return Answer::Refused(k);
-    }
+    )?;
     let end = 4 * count;
-    let numbers = &list[0..end];
-    let depth = given.limit as u16;
-    let read = operand_at(&*line, numbers, records, reports, start, mark, depth);
-    match read {
-        OperandAnswer::Is(r) => answered(layout, r, records, reports, nodes, diagnostics, used),
+    let numbers = &list[..end];
+    let depth = limit as u16;
+    match operand_at(&*line, numbers, records, reports, start, mark, depth) {
+        Some(r) => Ok(answered(layout, r, records, reports, nodes, diagnostics, used)),
         // There is room, so that this never comes.
-        OperandAnswer::Unfit => Answer::Refused(BAD_START),
+        None => Err(Refusal::BadStart),
     }
 }
 
@@ -281,23 +138,15 @@ fn answered(
 ) -> Answer
     ensures { AnswerTold layout r records.now reports.now nodes.old diagnostics.old nodes.new diagnostics.new used result }
 {
-    let e = r.counters;
-    let cursor = e.at as usize;
-    let n = e.nodes as usize;
-    let added = e.diagnostics as usize;
+    let counters = r.counters;
+    let n = usize::from(counters.nodes);
+    let added = usize::from(counters.diagnostics);
     encode_nodes(layout, records, n, nodes);
     encode_diagnostics(layout, reports, added, diagnostics, used);
-    let read = r.operand;
-    match read {
-        OperandRead::Is(x) => Answer::Operand(Found {
-            operand: x,
-            cursor: cursor,
-            nodes: n,
-            diagnostics: added,
-        }),
-        OperandRead::Not => Answer::NoOperand(Missed {
-            cursor: cursor,
-            diagnostics: added,
-        }),
+    Answer {
+        operand: r.operand,
+        cursor: usize::from(counters.at),
+        nodes: n,
+        diagnostics: added,
     }
 }

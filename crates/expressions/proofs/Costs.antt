@@ -2,7 +2,7 @@
 -- and that it does not fail in silence.
 -- Assumes nothing.
 use Rattle.std.specs.Prelude.{◌≡◌, refl, Bool, List, eqb, leb, length}
-use Rattle.std.proofs.Common.{sym, ◌∙◌, eqb-true}
+use Rattle.std.proofs.Common.{Option, Some, None, Result, Ok, Err, sym, ◌∙◌, eqb-true}
 use Rattle.std.proofs.Math.Bool.{true, false}
 use Prim.Native.Nat.{ℕ, zero, suc, ◌+◌, ◌≤◌, ◌<◌, max}
 use native.Mathlib.Omega.{arith}
@@ -13,7 +13,7 @@ use Rattle.names.specs.Registers.{reserved}
 use Rattle.names.specs.Sizes.{run_of, size_of}
 use Rattle.names.specs.declared.tokens.Token.{Token}
 use Rattle.names.specs.declared.sizes.SizeSuffix.{SizeSuffix}
-use Rattle.names.specs.declared.numbers.Number.{Number}
+use Rattle.names.specs.declared.numbers.NumberError.{NumberError}
 use Rattle.records.specs.Spans.{span_of}
 use Rattle.expressions.specs.Trees.{Expr, number, character_literal, symbol, current_address, unary, binary, with_span, size}
 use Rattle.records.specs.declared.spans.Span.{Span}
@@ -66,10 +66,10 @@ module _ (at : ℕ → Place) (w : ℕ) (clean : Clean at w) where
   abbrev pub Taken : ℕ → ℕ → ℕ → ℕ → ℕ → ℕ → Suffix → Type 0
   Taken i d r j e s x = (e + i ≤ d + j) × (s ≤ max r j)
 
-  known_cost : (k : Token) (z : SizeSuffix) (i l d r : ℕ) → All (known k z) at (Taken i d r) (i + 1) l d r
+  known_cost : (k : Token) (z : Option SizeSuffix) (i l d r : ℕ) → All (known k z) at (Taken i d r) (i + 1) l d r
   unfolding All known
-  known_cost k (SizeSuffix.Is n) i l d r = omega arith
-  known_cost k SizeSuffix.Not i l d r = omega arith
+  known_cost k (Some n) i l d r = omega arith
+  known_cost k None i l d r = omega arith
 
   suffix_run_cost : (from : ℕ) (k : Token) (run : List ℕ) (i l d r : ℕ) → All (suffix_run from k run) at (Taken i d r) (i + 1) l d r
   unfolding All suffix_run
@@ -110,11 +110,11 @@ module _ (at : ℕ → Place) (w : ℕ) (clean : Clean at w) where
   abbrev pub Valued : ℕ → ℕ → ℕ → ℕ → ℕ → ℕ → ℕ → Type 0
   Valued i d r j e s v = (j ≡ i) × (e ≤ d + 1) × (s ≤ max r j)
 
-  pub valued_cost : (k : Token) (n : Number) (i l d r : ℕ) → Law (valued k n) at (Valued i d r) i l d r
+  pub valued_cost : (k : Token) (n : Result ℕ NumberError) (i l d r : ℕ) → Law (valued k n) at (Valued i d r) i l d r
   unfolding All valued
-  valued_cost k (Number.Value v) i l d r = record { all = omega arith }
-  valued_cost k Number.TooLarge i l d r = record { all = omega arith }
-  valued_cost k Number.Invalid i l d r = record { all = omega arith }
+  valued_cost k (Ok v) i l d r = record { all = omega arith }
+  valued_cost k (Err NumberError.TooLarge) i l d r = record { all = omega arith }
+  valued_cost k (Err NumberError.Invalid) i l d r = record { all = omega arith }
 
   named_cost : (k : Token) (b : Bool) (i l d r : ℕ) → All (named k b) at (Cost i d r) (i + 1) l d r
   unfolding All named size

@@ -3,14 +3,14 @@
 use Rattle.std.specs.Prelude.{◌≡◌, refl, Bool, List, eqb, leb, ltb, length}
 use Rattle.std.proofs.Math.Bool.{true, false}
 use Prim.Native.Nat.{ℕ, zero, suc, ◌+◌, ◌≤◌}
-use Rattle.std.proofs.Common.{arith, ltb-true}
+use Rattle.std.proofs.Common.{Option, Some, None, Result, Ok, Err, arith, ltb-true}
 use Rattle.names.specs.Choice.{pick}
 use Rattle.names.specs.Places.{Place, stands}
 use Rattle.names.specs.Registers.{reserved}
 use Rattle.names.specs.Sizes.{run_of, size_of}
 use Rattle.names.specs.declared.tokens.Token.{Token}
 use Rattle.names.specs.declared.sizes.SizeSuffix.{SizeSuffix}
-use Rattle.names.specs.declared.numbers.Number.{Number}
+use Rattle.names.specs.declared.numbers.NumberError.{NumberError}
 use Rattle.records.specs.DiagnosticKinds
 use Rattle.records.specs.Spans.{span_of}
 use Rattle.records.specs.declared.spans.Span.{Span}
@@ -133,10 +133,10 @@ module _ {m : ℕ} where
       go true q = omega (arith, ltb-true s e q)
       go false q = h
 
-  known_fits : (k : Token) (z : SizeSuffix) → SpanIn m (span_of k) → Fits m (SuffixIn m) (known k z)
+  known_fits : (k : Token) (z : Option SizeSuffix) → SpanIn m (span_of k) → Fits m (SuffixIn m) (known k z)
   unfolding known
-  known_fits k (SizeSuffix.Is n) h = answers h
-  known_fits k SizeSuffix.Not h = raises (omega (arith, behind_first k.start k.end h.1)) (answers h)
+  known_fits k (Some n) h = answers h
+  known_fits k None h = raises (omega (arith, behind_first k.start k.end h.1)) (answers h)
 
   pub suffix_fits : (from : ℕ) → from ≤ m → Fits m (SuffixIn m) (take_size_suffix from)
   unfolding take_size_suffix suffix_run
@@ -160,11 +160,11 @@ module _ {m : ℕ} where
   ])
 
   -- a number's value is no offset
-  pub valued_fits : (k : Token) (n : Number) → SpanIn m (span_of k) → Fits m (λ v. Unit {0}) (valued k n)
+  pub valued_fits : (k : Token) (n : Result ℕ NumberError) → SpanIn m (span_of k) → Fits m (λ v. Unit {0}) (valued k n)
   unfolding valued
-  valued_fits k (Number.Value v) h = answers tt
-  valued_fits k Number.TooLarge h = raises (omega arith) (answers tt)
-  valued_fits k Number.Invalid h = answers tt
+  valued_fits k (Ok v) h = answers tt
+  valued_fits k (Err NumberError.TooLarge) h = raises (omega arith) (answers tt)
+  valued_fits k (Err NumberError.Invalid) h = answers tt
 
   named_fits : (k : Token) (b : Bool) → SpanIn m (span_of k) → Fits m (TermIn m) (named k b)
   unfolding named TreeIn

@@ -86,7 +86,7 @@ examples =
     ∷ []
 
 pub read_so : read_all examples ≡ true
-unfolding Names-as-Tokens.token_at Names-as-Tokens.detail_defined Names-as-Places.text_of Names-as-Places.placed Names-as-Places.place Names-as-Letters.lower Names-as-Letters.lowered Names-as-Letters.same Names-as-Letters.spelled Names-as-Registers.pair Names-as-Registers.register Names-as-Registers.register_of Names-as-Registers.program_counter Names-as-Registers.numbered Names-as-Registers.special_of Names-as-Registers.suppressing Names-as-Registers.suppressed Names-as-Registers.suppressed_of Names-as-Registers.one_of Names-as-Registers.reserved Names-as-Sizes.run_of Names-as-Sizes.letter_size Names-as-Sizes.size_of Names-as-Numbers.radix_of Names-as-Numbers.width Names-as-Numbers.figure Names-as-Numbers.scan Names-as-Numbers.digits_of Names-as-Numbers.in_base Names-as-Numbers.base_of Names-as-Numbers.number_of Expressions-as-Trees.span_e Expressions-as-Trees.with_span Expressions-as-Trees.size Expressions-as-Reader.met Expressions-as-Reader.run Expressions-as-Reader.reach Expressions-as-Expressions.known Expressions-as-Expressions.suffix_run Expressions-as-Expressions.take_size_suffix Expressions-as-Expressions.precedence Expressions-as-Expressions.binary_operator Expressions-as-Expressions.operator Expressions-as-Expressions.operated Expressions-as-Expressions.parse_expression_from Expressions-as-Expressions.climbed Expressions-as-Expressions.parse_expression_of Expressions-as-Expressions.is_unary Expressions-as-Expressions.unary_operator Expressions-as-Expressions.negated Expressions-as-Expressions.plussed Expressions-as-Expressions.valued Expressions-as-Expressions.named Expressions-as-Expressions.grouped Expressions-as-Expressions.number_term Expressions-as-Expressions.leaf_term Expressions-as-Expressions.parse_prefix_term Expressions-as-Expressions.too_deep Expressions-as-Expressions.parse_prefix Expressions-as-Expressions.fuel Expressions-as-Expressions.parse_expression Expressions-as-Expressions.expression_from shown own_is tree_is read_as read_all of_kinds examples
+unfolding Names-as-Tokens.token_at Names-as-Tokens.detail_defined Names-as-Places.text_of Names-as-Places.placed Names-as-Places.place Names-as-Letters.lower Names-as-Letters.lowered Names-as-Letters.same Names-as-Letters.spelled Names-as-Registers.pair Names-as-Registers.register Names-as-Registers.register_of Names-as-Registers.program_counter Names-as-Registers.named Names-as-Registers.special_of Names-as-Registers.suppressing Names-as-Registers.suppressed Names-as-Registers.suppressed_of Names-as-Registers.one_of Names-as-Registers.reserved Names-as-Sizes.run_of Names-as-Sizes.letter_size Names-as-Sizes.size_of Names-as-Numbers.radix_of Names-as-Numbers.width Names-as-Numbers.figure Names-as-Numbers.scan Names-as-Numbers.digits_of Names-as-Numbers.in_base Names-as-Numbers.base_of Names-as-Numbers.number_of Expressions-as-Trees.span_e Expressions-as-Trees.with_span Expressions-as-Trees.size Expressions-as-Reader.met Expressions-as-Reader.run Expressions-as-Reader.reach Expressions-as-Expressions.known Expressions-as-Expressions.suffix_run Expressions-as-Expressions.take_size_suffix Expressions-as-Expressions.precedence Expressions-as-Expressions.binary_operator Expressions-as-Expressions.operator Expressions-as-Expressions.operated Expressions-as-Expressions.parse_expression_from Expressions-as-Expressions.climbed Expressions-as-Expressions.parse_expression_of Expressions-as-Expressions.is_unary Expressions-as-Expressions.unary_operator Expressions-as-Expressions.negated Expressions-as-Expressions.plussed Expressions-as-Expressions.valued Expressions-as-Expressions.named Expressions-as-Expressions.grouped Expressions-as-Expressions.number_term Expressions-as-Expressions.leaf_term Expressions-as-Expressions.parse_prefix_term Expressions-as-Expressions.too_deep Expressions-as-Expressions.parse_prefix Expressions-as-Expressions.fuel Expressions-as-Expressions.parse_expression Expressions-as-Expressions.expression_from shown own_is tree_is read_as read_all of_kinds examples
 read_so = refl
 
 -- a group widens a name's node, and not the name's own span
@@ -97,5 +97,5 @@ group_widens reported = false
 group_widens absent = false
 
 pub name_kept : group_widens (run (parse_expression 64) (place (bytes "(n)") (of_kinds 0 (Kinds.left_paren ∷ Kinds.identifier ∷ Kinds.right_paren ∷ []))) 0 0).value ≡ true
-unfolding group_widens Names-as-Tokens.token_at Names-as-Tokens.detail_defined Names-as-Places.text_of Names-as-Places.placed Names-as-Places.place Names-as-Letters.lower Names-as-Letters.lowered Names-as-Letters.same Names-as-Letters.spelled Names-as-Registers.pair Names-as-Registers.register Names-as-Registers.register_of Names-as-Registers.program_counter Names-as-Registers.numbered Names-as-Registers.special_of Names-as-Registers.suppressing Names-as-Registers.suppressed Names-as-Registers.suppressed_of Names-as-Registers.one_of Names-as-Registers.reserved Names-as-Sizes.run_of Names-as-Sizes.letter_size Names-as-Sizes.size_of Names-as-Numbers.radix_of Names-as-Numbers.width Names-as-Numbers.figure Names-as-Numbers.scan Names-as-Numbers.digits_of Names-as-Numbers.in_base Names-as-Numbers.base_of Names-as-Numbers.number_of Expressions-as-Trees.span_e Expressions-as-Trees.with_span Expressions-as-Trees.size Expressions-as-Reader.met Expressions-as-Reader.run Expressions-as-Reader.reach Expressions-as-Expressions.known Expressions-as-Expressions.suffix_run Expressions-as-Expressions.take_size_suffix Expressions-as-Expressions.precedence Expressions-as-Expressions.binary_operator Expressions-as-Expressions.operator Expressions-as-Expressions.operated Expressions-as-Expressions.parse_expression_from Expressions-as-Expressions.climbed Expressions-as-Expressions.parse_expression_of Expressions-as-Expressions.is_unary Expressions-as-Expressions.unary_operator Expressions-as-Expressions.negated Expressions-as-Expressions.plussed Expressions-as-Expressions.valued Expressions-as-Expressions.named Expressions-as-Expressions.grouped Expressions-as-Expressions.number_term Expressions-as-Expressions.leaf_term Expressions-as-Expressions.parse_prefix_term Expressions-as-Expressions.too_deep Expressions-as-Expressions.parse_prefix Expressions-as-Expressions.fuel Expressions-as-Expressions.parse_expression Expressions-as-Expressions.expression_from shown own_is tree_is read_as read_all of_kinds examples
+unfolding group_widens Names-as-Tokens.token_at Names-as-Tokens.detail_defined Names-as-Places.text_of Names-as-Places.placed Names-as-Places.place Names-as-Letters.lower Names-as-Letters.lowered Names-as-Letters.same Names-as-Letters.spelled Names-as-Registers.pair Names-as-Registers.register Names-as-Registers.register_of Names-as-Registers.program_counter Names-as-Registers.named Names-as-Registers.special_of Names-as-Registers.suppressing Names-as-Registers.suppressed Names-as-Registers.suppressed_of Names-as-Registers.one_of Names-as-Registers.reserved Names-as-Sizes.run_of Names-as-Sizes.letter_size Names-as-Sizes.size_of Names-as-Numbers.radix_of Names-as-Numbers.width Names-as-Numbers.figure Names-as-Numbers.scan Names-as-Numbers.digits_of Names-as-Numbers.in_base Names-as-Numbers.base_of Names-as-Numbers.number_of Expressions-as-Trees.span_e Expressions-as-Trees.with_span Expressions-as-Trees.size Expressions-as-Reader.met Expressions-as-Reader.run Expressions-as-Reader.reach Expressions-as-Expressions.known Expressions-as-Expressions.suffix_run Expressions-as-Expressions.take_size_suffix Expressions-as-Expressions.precedence Expressions-as-Expressions.binary_operator Expressions-as-Expressions.operator Expressions-as-Expressions.operated Expressions-as-Expressions.parse_expression_from Expressions-as-Expressions.climbed Expressions-as-Expressions.parse_expression_of Expressions-as-Expressions.is_unary Expressions-as-Expressions.unary_operator Expressions-as-Expressions.negated Expressions-as-Expressions.plussed Expressions-as-Expressions.valued Expressions-as-Expressions.named Expressions-as-Expressions.grouped Expressions-as-Expressions.number_term Expressions-as-Expressions.leaf_term Expressions-as-Expressions.parse_prefix_term Expressions-as-Expressions.too_deep Expressions-as-Expressions.parse_prefix Expressions-as-Expressions.fuel Expressions-as-Expressions.parse_expression Expressions-as-Expressions.expression_from shown own_is tree_is read_as read_all of_kinds examples
 name_kept = refl

@@ -1,18 +1,18 @@
 -- A path through a reader, a step at a time: from what the rest of it tells, what the whole tells.
 -- Assumes nothing.
 use Rattle.std.proofs.Math.Path.{◌≡◌, refl, ap}
-use Rattle.std.proofs.Common.{sym, ◌∙◌, ap₂, subst, arith, length-append}
-use Rattle.std.specs.Prelude.{Bool, false, List, ℕ, ◌+◌, length}
+use Rattle.std.proofs.Common.{Some, None, sym, ◌∙◌, ap₂, subst, arith, length-append}
+use Rattle.std.specs.Prelude.{Bool, false, List, ℕ, ◌+◌, ◌*◌, ◌<◌, length}
 use Rattle.std.proofs.Math.Bool.{true}
 use Rattle.names.specs.Tokens.{token_at}
 use Rattle.names.specs.Places.{Place, nothing, stands, text_of, place, there, nowhere}
 use Rattle.names.specs.declared.tokens.Token.{Token}
-use Rattle.names.specs.declared.tokens.Peeked.TheVariants as peeked
 use Rattle.records.specs.declared.diagnostics.Diagnostic.{Diagnostic}
 use Rattle.records.specs.declared.counters.Counters.{Counters}
-use Rattle.records.specs.Stores.{added}
+use Rattle.records.specs.Diagnostics.{diagnostic_record}
+use Rattle.records.specs.Stores.{written, added}
 use Rattle.records.specs.Written.{added_append}
-use Rattle.records.specs.Counters.{stepped}
+use Rattle.records.specs.Counters.{stepped, OneMore, counters_are}
 use Rattle.expressions.specs.Laws.{holds, met_yes, met_no}
 use Rattle.expressions.specs.Reader.{Test, Reading, Reader, answer, here, raise, bump, peek, ◌>>=◌, choose, run}
 use Rattle.expressions.specs.Told.{Raised, RaisedOver, over, ended, Told, Same}
@@ -28,6 +28,14 @@ unfolding holds
 fails_end t p h = rw h
 
 -- ---- a diagnostic that is raised
+
+-- as the code tells it
+pub told_one : {x : Diagnostic} {D D' : List ℕ} {c r : Counters} → c.diagnostics < 65535 → D' ≡ written D (10 * c.diagnostics) (diagnostic_record x) → OneMore c r → Raised D D' c x r
+told_one {r = r} h e k = record { counters = counters_are r _ _ _ _ k.at k.end k.nodes (omega (arith, h, k.diagnostics)); more = e }
+
+-- the counters, written out
+pub raised_here : {D D' : List ℕ} {c : Counters} {x : Diagnostic} {r : Counters} → Raised D D' c x r → Raised D D' c x (record { at = c.at; end = c.end; nodes = c.nodes; diagnostics = c.diagnostics + 1 })
+raised_here h = record { counters = refl; more = h.more }
 
 -- by another name
 pub raised_as : {D D' : List ℕ} {c : Counters} {x y : Diagnostic} {r : Counters} → x ≡ y → Raised D D' c x r → Raised D D' c y r
@@ -134,7 +142,7 @@ bound_as h k = bound h (sym h.what) k
 
 module _ {A E : Type 0} {f : A → E} {Q : A → Counters → Type 0} {L T D D' : List ℕ} {c : Counters} {v : E} {r : Counters} {t : Test} {y : Token → List ℕ → Reader A} {n : Unit {0} → Reader A} where
   -- the token k passes the test, and is stepped over
-  pub hit : {k : Token} {c₁ : Counters} → token_at T c.at ≡ peeked.Is k → t k (text_of L k.start k.end) ≡ true → c₁ ≡ stepped c k
+  pub hit : {k : Token} {c₁ : Counters} → token_at T c.at ≡ Some k → t k (text_of L k.start k.end) ≡ true → c₁ ≡ stepped c k
       → Told f Q (y k (text_of L k.start k.end)) L T D D' c₁ v r → Told f Q (bump t y n) L T D D' c v r
   unfolding run
   hit {k} {c₁} h q e g =
@@ -146,28 +154,28 @@ module _ {A E : Type 0} {f : A → E} {Q : A → Counters → Type 0} {L T D D' 
   unfolding run
   missed h g = retold (met_no t (λ k x. run (y k x) (place L T) (c.at + 1) k.end) (λ u. run (n u) (place L T) c.at c.end) (place L T c.at) h) refl g
 
-  pub miss : {k : Token} → token_at T c.at ≡ peeked.Is k → t k (text_of L k.start k.end) ≡ false → Told f Q (n tt) L T D D' c v r → Told f Q (bump t y n) L T D D' c v r
+  pub miss : {k : Token} → token_at T c.at ≡ Some k → t k (text_of L k.start k.end) ≡ false → Told f Q (n tt) L T D D' c v r → Told f Q (bump t y n) L T D D' c v r
   miss {k} h q g = missed (fails t (place L T c.at) k _ (there L T c.at k h) q) g
 
-  pub done : token_at T c.at ≡ peeked.End → Told f Q (n tt) L T D D' c v r → Told f Q (bump t y n) L T D D' c v r
+  pub done : token_at T c.at ≡ None → Told f Q (n tt) L T D D' c v r → Told f Q (bump t y n) L T D D' c v r
   done h g = missed (fails_end t (place L T c.at) (nowhere L T c.at h)) g
 
   -- the place j is looked at, which lies so far ahead
-  pub seen : {a j : ℕ} {k : Token} → j ≡ c.at + a → token_at T j ≡ peeked.Is k → t k (text_of L k.start k.end) ≡ true
+  pub seen : {a j : ℕ} {k : Token} → j ≡ c.at + a → token_at T j ≡ Some k → t k (text_of L k.start k.end) ≡ true
       → Told f Q (y k (text_of L k.start k.end)) L T D D' c v r → Told f Q (peek a t y n) L T D D' c v r
   unfolding run
-  seen {a} {j} {k} e h q g = retold (met_yes t (λ k x. run (y k x) (place L T) c.at c.end) (λ u. run (n u) (place L T) c.at c.end) (place L T (c.at + a)) k _ (there L T (c.at + a) k (subst (λ z. token_at T z ≡ peeked.Is k) e h)) q) refl g
+  seen {a} {j} {k} e h q g = retold (met_yes t (λ k x. run (y k x) (place L T) c.at c.end) (λ u. run (n u) (place L T) c.at c.end) (place L T (c.at + a)) k _ (there L T (c.at + a) k (subst (λ z. token_at T z ≡ Some k) e h)) q) refl g
 
   pub unseen : {a : ℕ} → holds t (place L T (c.at + a)) ≡ false → Told f Q (n tt) L T D D' c v r → Told f Q (peek a t y n) L T D D' c v r
   unfolding run
   unseen {a} h g = retold (met_no t (λ k x. run (y k x) (place L T) c.at c.end) (λ u. run (n u) (place L T) c.at c.end) (place L T (c.at + a)) h) refl g
 
-  pub other : {a j : ℕ} {k : Token} → j ≡ c.at + a → token_at T j ≡ peeked.Is k → t k (text_of L k.start k.end) ≡ false
+  pub other : {a j : ℕ} {k : Token} → j ≡ c.at + a → token_at T j ≡ Some k → t k (text_of L k.start k.end) ≡ false
       → Told f Q (n tt) L T D D' c v r → Told f Q (peek a t y n) L T D D' c v r
-  other {a} {j} {k} e h q g = unseen (fails t (place L T (c.at + a)) k _ (there L T (c.at + a) k (subst (λ z. token_at T z ≡ peeked.Is k) e h)) q) g
+  other {a} {j} {k} e h q g = unseen (fails t (place L T (c.at + a)) k _ (there L T (c.at + a) k (subst (λ z. token_at T z ≡ Some k) e h)) q) g
 
-  pub beyond : {a j : ℕ} → j ≡ c.at + a → token_at T j ≡ peeked.End → Told f Q (n tt) L T D D' c v r → Told f Q (peek a t y n) L T D D' c v r
-  beyond {a} {j} e h g = unseen (fails_end t (place L T (c.at + a)) (nowhere L T (c.at + a) (subst (λ z. token_at T z ≡ peeked.End) e h))) g
+  pub beyond : {a j : ℕ} → j ≡ c.at + a → token_at T j ≡ None → Told f Q (n tt) L T D D' c v r → Told f Q (peek a t y n) L T D D' c v r
+  beyond {a} {j} e h g = unseen (fails_end t (place L T (c.at + a)) (nowhere L T (c.at + a) (subst (λ z. token_at T z ≡ None) e h))) g
 
   -- whatever token passes there
   pub passed : {a : ℕ} → holds t (place L T (c.at + a)) ≡ true → ((k : Token) (x : List ℕ) → Told f Q (y k x) L T D D' c v r) → Told f Q (peek a t y n) L T D D' c v r
@@ -188,7 +196,7 @@ module _ {A E : Type 0} {f : A → E} {Q : A → Counters → Type 0} {L T D D' 
 
 -- a token is stepped over, and no node is written
 pub hit_same : {A E : Type 0} {f : A → E} {L T D D' : List ℕ} {c : Counters} {v : E} {r : Counters} {t : Test} {y : Token → List ℕ → Reader A} {n : Unit {0} → Reader A} {k : Token} {c₁ : Counters}
-    → token_at T c.at ≡ peeked.Is k → t k (text_of L k.start k.end) ≡ true → c₁ ≡ stepped c k
+    → token_at T c.at ≡ Some k → t k (text_of L k.start k.end) ≡ true → c₁ ≡ stepped c k
     → Told f (Same c₁.nodes) (y k (text_of L k.start k.end)) L T D D' c₁ v r → Told f (Same c.nodes) (bump t y n) L T D D' c v r
 hit_same h q e g = hit h q e (same (ap (λ z. z.nodes) e) g)
 

@@ -1,10 +1,9 @@
 -- What a function that reads tells: the answer, the counters and the diagnostics, by the reading that the definition gives.
 -- Assumes nothing.
-use Rattle.std.specs.Prelude.{◌≡◌, List, ℕ, ◌+◌, ◌*◌, length}
+use Rattle.std.specs.Prelude.{Some, None, ◌≡◌, List, ℕ, ◌+◌, ◌*◌, length}
 use Rattle.names.specs.Tokens.{token_at}
 use Rattle.names.specs.Places.{place}
 use Rattle.names.specs.declared.tokens.Token.{Token}
-use Rattle.names.specs.declared.tokens.Peeked.TheVariants as peeked
 use Rattle.records.specs.declared.diagnostics.Diagnostic.{Diagnostic}
 use Rattle.records.specs.declared.counters.Counters.{Counters}
 use Rattle.records.specs.Diagnostics.{diagnostic_record}
@@ -19,8 +18,8 @@ pub record Raised (D D' : List ℕ) (c : Counters) (x : Diagnostic) (r : Counter
 
 -- the same, behind whatever stands at the cursor. x: by where the last token ended
 pub data RaisedOver (T D D' : List ℕ) (c : Counters) (x : ℕ → Diagnostic) (r : Counters) : Type 0 where
-  over : (t : Token) → token_at T c.at ≡ peeked.Is t → Raised D D' (stepped c t) (x t.end) r → RaisedOver T D D' c x r
-  ended : token_at T c.at ≡ peeked.End → Raised D D' c (x c.end) r → RaisedOver T D D' c x r
+  over : (t : Token) → token_at T c.at ≡ Some t → Raised D D' (stepped c t) (x t.end) r → RaisedOver T D D' c x r
+  ended : token_at T c.at ≡ None → Raised D D' c (x c.end) r → RaisedOver T D D' c x r
 
 -- The answer v, the counters r and the diagnostics D' are what the reader p says, from the counters c on.
 -- f: the code's value for the definition's. Q: what else holds of the answer, as of the nodes

@@ -2,5 +2,7 @@
 #![tactic(auto)]
 
 mod reading;
+mod source;
 
 pub use reading::Setting;
+pub use source::Source;

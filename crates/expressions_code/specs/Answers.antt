@@ -1,26 +1,27 @@
 -- What an answer says of the definition's term.
 -- Assumes nothing.
+use Rattle.std.specs.Prelude.{Ok, Err}
 use Rattle.std.specs.Prelude.{◌≡◌, refl, ℕ}
 use Rattle.std.proofs.Common.{arith}
 use Rattle.records.specs.declared.spans.Span.{Span}
 use Rattle.expressions.specs.Trees.{Expr, span_e}
 use Rattle.expressions.specs.Expressions.{Term, read, reported, absent}
-use Rattle.expressions_code.specs.declared.terms.Parsed.TheVariants as parsed
+use Rattle.expressions_code.specs.declared.terms.TermError.TheVariants as errors
 use Rattle.expressions_code.specs.Terms.{parsed_of}
 
-pub what_read : (v : Term) (x : Span) → parsed_of v ≡ parsed.Read x → (e : Expr) × (v ≡ read e) × (x ≡ span_e e)
+pub what_read : (v : Term) (x : Span) → parsed_of v ≡ Ok x → (e : Expr) × (v ≡ read e) × (x ≡ span_e e)
 unfolding parsed_of
 what_read (read e) x h = (e, refl, cc)
 what_read reported x h = let z : ◌≡◌ {A = ℕ} 0 1 = cc in absurd (omega arith)
 what_read absent x h = let z : ◌≡◌ {A = ℕ} 0 1 = cc in absurd (omega arith)
 
-pub what_reported : (v : Term) → parsed_of v ≡ parsed.Reported → v ≡ reported
+pub what_reported : (v : Term) → parsed_of v ≡ Err errors.Reported → v ≡ reported
 unfolding parsed_of
 what_reported (read e) h = let z : ◌≡◌ {A = ℕ} 0 1 = cc in absurd (omega arith)
 what_reported reported h = refl
 what_reported absent h = let z : ◌≡◌ {A = ℕ} 0 1 = cc in absurd (omega arith)
 
-pub what_absent : (v : Term) → parsed_of v ≡ parsed.Absent → v ≡ absent
+pub what_absent : (v : Term) → parsed_of v ≡ Err errors.Absent → v ≡ absent
 unfolding parsed_of
 what_absent (read e) h = let z : ◌≡◌ {A = ℕ} 0 1 = cc in absurd (omega arith)
 what_absent reported h = let z : ◌≡◌ {A = ℕ} 0 1 = cc in absurd (omega arith)

@@ -15,7 +15,6 @@ use Rattle.expressions.proofs.Grown.{grown_is, climb_grows}
 use Rattle.expressions.specs.Records.{nodes, length_nodes}
 use Rattle.records.specs.declared.spans.Span.{Span}
 use Rattle.records.specs.declared.counters.Counters.{Counters}
-use Rattle.expressions_code.specs.declared.terms.Chain.{Chain}
 use Rattle.expressions_code.specs.Roots.{widened}
 use Rattle.expressions_code.specs.Reading.{filled, spent, FromFits}
 
@@ -29,12 +28,12 @@ pub before_length : (N P : List ℕ) (n b : ℕ) (e : Expr) → Stands N n P b e
 before_length N P n b e h long =
     omega (arith, h.total, length-take-le (10 * n) N long, simp length-append at (ap length h.bytes), length_nodes b e)
 
-module _ {L T N D N' D' : List ℕ} {c : Counters} {group : Span} {limit : ℕ} {r : Chain} (p : FromFits L T N D N' D' c group limit r) (long : 10 * c.nodes ≤ length N) (some : 0 < c.nodes)
+module _ {L T N D N' D' : List ℕ} {c : Counters} {group : Span} {limit : ℕ} {s_r : Span} {r : Counters} (p : FromFits L T N D N' D' c group limit s_r r) (long : 10 * c.nodes ≤ length N) (some : 0 < c.nodes)
     {P : List ℕ} {b : ℕ} {e : Expr} (st : Stands N c.nodes P b e) where
   abbrev on : Reading Expr
   on = run (expression_from limit (with_span e group)) (place L T) c.at c.end
 
-  pub left_nodes : N' ≡ filled (P ++ nodes b on.value) (b + size on.value) (spent c r.counters) N
+  pub left_nodes : N' ≡ filled (P ++ nodes b on.value) (b + size on.value) (spent c r) N
   unfolding expression_from
   left_nodes =
       let w = widened P N b c.nodes e group st.bytes st.total (before_length N P c.nodes b e st long) long some in
@@ -42,4 +41,4 @@ module _ {L T N D N' D' : List ℕ} {c : Counters} {group : Span} {limit : ℕ} 
       let grown : nodes b on.value ≡ nodes b (with_span e group) ++ X =
       grown_is (climb_grows b fuel (parse_prefix fuel limit) 1 (with_span e group) (place L T) c.at c.end) ∙ ap (λ z. nodes b (with_span e group) ++ drop (10 * z) (nodes b on.value)) (size_with_span e group) in
       (p.told b e st.total).nodes
-      ∙ ap (λ z. filled z (b + size on.value) (spent c r.counters) N) (ap (λ z. z ++ X) w.0 ∙ append_assoc P (nodes b (with_span e group)) X ∙ ap (λ z. P ++ z) (sym grown))
+      ∙ ap (λ z. filled z (b + size on.value) (spent c r) N) (ap (λ z. z ++ X) w.0 ∙ append_assoc P (nodes b (with_span e group)) X ∙ ap (λ z. P ++ z) (sym grown))

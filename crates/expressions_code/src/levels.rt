@@ -5,58 +5,37 @@ ghost use Rattle.expressions.specs.Expressions.{precedence, binary_operator, is_
 
 use names::{Token, kinds};
 
-// The level of a kind of token as a binary operator, 0 for a kind that is none.
+// The level of a kind of token as a binary operator, 0 for a kind that is none. No `Option`: it is compared with the least level, so that none
+// needs no case of its own.
 pub(crate) fn precedence(kind: u16) -> u8
     ensures { result ≡ precedence kind }
 {
-    if kind < kinds::PLUS {
-        return 0;
+    match kind {
+        kinds::PLUS..=kinds::MINUS => 1,
+        kinds::STAR..=kinds::BACKSLASH => 2,
+        kinds::AMPERSAND..=kinds::CARET => 3,
+        kinds::SHIFT_LEFT..=kinds::SHIFT_RIGHT => 4,
+        _ => 0,
     }
-    if kind < kinds::STAR {
-        return 1;
-    }
-    if kind < kinds::AMPERSAND {
-        return 2;
-    }
-    if kind < kinds::TILDE {
-        return 3;
-    }
-    if kind == kinds::TILDE {
-        return 0;
-    }
-    if kind <= kinds::SHIFT_RIGHT {
-        return 4;
-    }
-    0
 }
 
-// The number of a kind as a binary operator, 9 for a kind that is none.
+// The number of a kind as a binary operator, 9 for a kind that is none: the definition's number, and asked of an operator alone.
 pub(crate) fn binary_operator(kind: u16) -> u16
     ensures { result ≡ binary_operator kind }
 {
-    if kind < kinds::PLUS {
-        return 9;
+    match kind {
+        kinds::PLUS..=kinds::BANG => kind - kinds::PLUS,
+        // Either sign of or is the same operator.
+        kinds::PIPE..=kinds::CARET => kind - kinds::MINUS,
+        kinds::SHIFT_LEFT => 8,
+        _ => 9,
     }
-    if kind < kinds::PIPE {
-        return kind - kinds::PLUS;
-    }
-    // Either sign of or is the same operator.
-    if kind < kinds::TILDE {
-        return kind - kinds::MINUS;
-    }
-    if kind == kinds::SHIFT_LEFT {
-        return 8;
-    }
-    9
 }
 
 pub(crate) fn is_unary(token: Token) -> bool
     ensures { (x : List ℕ) → result ≡ is_unary token x }
 {
-    if token.kind == kinds::MINUS {
-        return true;
-    }
-    token.kind == kinds::TILDE
+    token.kind == kinds::MINUS || token.kind == kinds::TILDE
 }
 
 // A unary operator's number.

@@ -5,8 +5,7 @@ mod leaves;
 mod levels;
 mod reading;
 mod reports;
-mod steps;
 mod terms;
 
-pub use reading::{ChainAnswer, ExpressionAnswer, expression, expression_from};
-pub use terms::{Chain, Parsed, Step};
+pub use reading::{expression, expression_from};
+pub use terms::TermError;

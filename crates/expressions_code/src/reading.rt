@@ -1,92 +1,65 @@
 // The public functions: an expression at the cursor, and one that goes on from a left side.
 ghost use Rattle.std.specs.Prelude.{◌≡◌, List, ℕ, length};
 ghost use Rattle.names.specs.Tokens.{count};
-ghost use Rattle.expressions_code.specs.Reading.{RoomTold, ExpressionPromise, FromPromise};
+ghost use Rattle.expressions_code.specs.Reading.{RoomTold, ExpressionPromised, FromPromised};
 
-use crate::terms::{Chain, Step, parse_expression, parse_expression_from};
-use expressions::Setting;
-use records::{Counters, MOST_COUNTED, MOST_TOKENS, Span, clear_nodes, widen};
-
-// What is read, or unfit where the counts leave no room for a reading.
-#[derive(Clone, Copy)]
-pub enum ExpressionAnswer {
-    Is(Step),
-    Unfit,
-}
-
-#[derive(Clone, Copy)]
-pub enum ChainAnswer {
-    Is(Chain),
-    Unfit,
-}
+use crate::terms::{TermError, parse_expression, parse_expression_from};
+use expressions::Source;
+use records::{Counters, MOST_COUNTED, MOST_TOKENS, Progress, Span, clear_nodes, widen};
 
 // Whether there is room for a reading of so many tokens from these counters on, in a store of so many numbers, with at least `least` nodes.
 fn has_room(tokens: usize, nodes: usize, c: Counters, least: u16) -> bool
     ensures { (T N : List ℕ) → count T ≡ tokens → length N ≡ nodes → RoomTold T N c least result }
 {
-    let at = c.at as usize;
-    if MOST_TOKENS < tokens {
-        return false;
-    }
-    if tokens < at {
-        return false;
-    }
-    if c.nodes < least {
+    let at = usize::from(c.at);
+    if MOST_TOKENS < tokens || tokens < at {
         return false;
     }
     let left = tokens - at;
-    if MOST_COUNTED <= c.diagnostics as usize + left {
-        return false;
-    }
-    let most = c.nodes as usize + left;
-    if MOST_COUNTED < most {
-        return false;
-    }
-    if nodes < 10 * most {
-        return false;
-    }
-    true
+    let most = usize::from(c.nodes) + left;
+    let counted = usize::from(c.diagnostics) + left;
+    least <= c.nodes && counted < MOST_COUNTED && most <= MOST_COUNTED && 10 * most <= nodes
 }
 
-// An expression. The records that failed terms have left behind are cleared: they are among as many as there are consumed tokens.
+// An expression, where there is room for a reading. The records that failed terms have left behind are cleared: they are among as many as
+// there are consumed tokens.
 pub fn expression(
-    line: &[u8],
-    tokens: &[u16],
+    source: &Source,
     nodes: &mut [u16],
-    diagnostics: &mut [u16],
-    c: Counters,
-    setting: Setting,
-) -> ExpressionAnswer
-    ensures { ExpressionPromise line.now tokens.now nodes.old diagnostics.old nodes.new diagnostics.new c setting.limit result }
+    out: &mut Progress,
+) -> Option<Result<Span, TermError>>
+    ensures lent { out.new.diagnostics.ghost_name ≡ out.old.diagnostics.ghost_name }
+    ensures told { ExpressionPromised source.now nodes.old out.old nodes.new out.new result }
 {
-    if !has_room(tokens.len() / 4, nodes.len(), c, 0) {
-        return ExpressionAnswer::Unfit;
+    let c = out.counters;
+    if !has_room(source.tokens.len() / 4, nodes.len(), c, 0) {
+        return None;
     }
-    let r = parse_expression(line, tokens, nodes, diagnostics, c, setting.limit as usize);
-    let e = r.counters;
+    // Here and below `as`: with `usize::from` the answer needs a step more (tried).
+    let read = parse_expression(source, nodes, out, source.setting.limit as usize);
+    let e = out.counters;
     clear_nodes(nodes, e.nodes, c.nodes + (e.at - c.at));
-    ExpressionAnswer::Is(r)
+    Some(read)
 }
 
 // The expression whose first term is a group: the tree that the last records hold, with the group's span.
 pub fn expression_from(
-    line: &[u8],
-    tokens: &[u16],
+    source: &Source,
     nodes: &mut [u16],
-    diagnostics: &mut [u16],
-    c: Counters,
+    out: &mut Progress,
     group: Span,
-    setting: Setting,
-) -> ChainAnswer
-    ensures { FromPromise line.now tokens.now nodes.old diagnostics.old nodes.new diagnostics.new c group setting.limit result }
+) -> Option<Span>
+    ensures lent { out.new.diagnostics.ghost_name ≡ out.old.diagnostics.ghost_name }
+    ensures told { FromPromised source.now nodes.old out.old nodes.new out.new group result }
 {
-    if !has_room(tokens.len() / 4, nodes.len(), c, 1) {
-        return ChainAnswer::Unfit;
+    let c = out.counters;
+    if !has_room(source.tokens.len() / 4, nodes.len(), c, 1) {
+        return None;
     }
     widen(nodes, c.nodes - 1, group);
-    let room = setting.limit as usize;
-    let r = parse_expression_from(line, tokens, nodes, diagnostics, c, group, 1, room);
-    let e = r.counters;
+    let room = source.setting.limit as usize;
+    let span = parse_expression_from(source, nodes, out, group, 1, room);
+    let e = out.counters;
     clear_nodes(nodes, e.nodes, c.nodes + (e.at - c.at));
-    ChainAnswer::Is(r)
+    Some(span)
 }

@@ -2,14 +2,15 @@
 ghost use Rattle.std.specs.Prelude.{◌≡◌, ◌<◌};
 ghost use Rattle.records.specs.Spans.{span_of};
 ghost use Rattle.records.specs.Diagnostics.{plain, expression_expected, unclosed_parenthesis};
-ghost use Rattle.expressions_code.specs.Terms.{DeepTold, DepthTold, with_nodes};
+ghost use Rattle.expressions_code.specs.Terms.{DeepBy, DeepAt, DepthBy, with_nodes};
 
-use crate::terms::{Parsed, Step};
-use names::{Peeked, Token};
+use crate::terms::TermError;
+use expressions::Source;
+use names::Token;
 use records::diagnostic_kinds::{EXPRESSION_EXPECTED, NESTING_TOO_DEEP, UNCLOSED_PARENTHESIS};
 use records::problems::NO_PROBLEM;
 use records::shapes::NO_SHAPE;
-use records::{Counters, Diagnostic, Span, diagnostic, push_diagnostic, span_of};
+use records::{Diagnostic, Progress, Span, diagnostic, span_of};
 
 // A diagnostic with no shape and no problem.
 pub(crate) fn plain(kind: u16, span: Span, text: Span) -> Diagnostic
@@ -19,43 +20,32 @@ pub(crate) fn plain(kind: u16, span: Span, text: Span) -> Diagnostic
 }
 
 // Raises a diagnostic: the term has failed and leaves no node.
-pub(crate) fn report(diagnostics: &mut [u16], c: Counters, x: Diagnostic) -> Step
-    requires { c.diagnostics < 65535 }
-    ensures { DeepTold diagnostics.old diagnostics.new c x result }
+pub(crate) fn report(out: &mut Progress, x: Diagnostic) -> Result<Span, TermError>
+    requires { out.old.counters.diagnostics < 65535 }
+    ensures lent { out.new.diagnostics.ghost_name ≡ out.old.diagnostics.ghost_name }
+    ensures told { DeepBy out.old out.new x result }
 {
-    push_diagnostic(diagnostics, c.diagnostics, x);
-    Step {
-        parsed: Parsed::Reported,
-        counters: Counters {
-            at: c.at,
-            end: c.end,
-            nodes: c.nodes,
-            diagnostics: c.diagnostics + 1,
-        },
-    }
+    out.raise(x);
+    Err(TermError::Reported)
 }
 
 // More terms are open than may be: told at the token that stands at the cursor, or at the end of the last one.
-pub(crate) fn too_deep(tokens: &[u16], diagnostics: &mut [u16], c: Counters) -> Step
-    requires { c.diagnostics < 65535 }
-    ensures { DepthTold tokens.now diagnostics.old diagnostics.new c result }
+pub(crate) fn too_deep(source: &Source, out: &mut Progress) -> Result<Span, TermError>
+    requires { out.old.counters.diagnostics < 65535 }
+    ensures lent { out.new.diagnostics.ghost_name ≡ out.old.diagnostics.ghost_name }
+    ensures told { DepthBy source.now out.old out.new result }
 {
-    let at = c.at as usize;
-    let p = names::token_at(tokens, at);
-    match p {
-        Peeked::Is(t) => {
-            let none = Span { start: 0, end: 0 };
-            report(diagnostics, c, plain(NESTING_TOO_DEEP, span_of(t), none))
-        }
-        Peeked::End => {
-            let none = Span { start: 0, end: 0 };
-            let last = Span {
-                start: c.end,
-                end: c.end,
-            };
-            report(diagnostics, c, plain(NESTING_TOO_DEEP, last, none))
-        }
-    }
+    let span = match source.peek(out.counters) {
+        Some(t) => span_of(t),
+        None => Span {
+            start: out.counters.end,
+            end: out.counters.end,
+        },
+    };
+    report(
+        out,
+        plain(NESTING_TOO_DEEP, span, Span { start: 0, end: 0 }),
+    )
 }
 
 // An expression was expected behind this token.
@@ -70,19 +60,14 @@ pub(crate) fn expected_after(token: Token) -> Diagnostic
 }
 
 // A group that is never closed: its nodes, from `first` on, are given up.
-pub(crate) fn unclosed(diagnostics: &mut [u16], first: u16, c: Counters, token: Token) -> Step
-    requires { c.diagnostics < 65535 }
-    ensures { DeepTold diagnostics.old diagnostics.new (with_nodes c first) (unclosed_parenthesis (span_of token)) result }
+pub(crate) fn unclosed(out: &mut Progress, first: u16, token: Token) -> Result<Span, TermError>
+    requires { out.old.counters.diagnostics < 65535 }
+    ensures lent { out.new.diagnostics.ghost_name ≡ out.old.diagnostics.ghost_name }
+    ensures told { DeepAt (with_nodes out.old.counters first) out.old out.new (unclosed_parenthesis (span_of token)) result }
 {
-    let back = Counters {
-        at: c.at,
-        end: c.end,
-        nodes: first,
-        diagnostics: c.diagnostics,
-    };
+    out.counters.nodes = first;
     report(
-        diagnostics,
-        back,
+        out,
         plain(
             UNCLOSED_PARENTHESIS,
             span_of(token),

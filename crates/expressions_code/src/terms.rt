@@ -1,318 +1,239 @@
 // Terms, expressions and the climb over levels: `parse_prefix`, `parse_expression` and `parse_expression_from` call each other.
 ghost use Rattle.std.specs.Prelude.{◌≡◌};
 ghost use Rattle.names.specs.Tokens.{token_at};
-ghost use Rattle.names.specs.declared.tokens.Peeked.TheVariants as peeked;
 ghost use Rattle.records.specs.Rooms.{NodeRoom};
-ghost use Rattle.expressions_code.specs.Terms.{OperatedTold, PrefixTold, ExpressionTold, BehindTold, ClimbTold, CloseTold, unary_term, plus_term, group_term};
+ghost use Rattle.expressions_code.specs.Terms.{OperatedBy, PrefixBy, ExpressionBy, BehindBy, ClimbBy, CloseBy, unary_term, plus_term, group_term};
 
 use crate::leaves::{ABSENT, parse_leaf, put_operator};
 use crate::levels::{binary_operator, is_unary, precedence, unary_operator};
 use crate::reports::{expected_after, plain, report, too_deep, unclosed};
-use crate::steps::step_over;
-use names::{Peeked, Token, kinds};
+use expressions::Source;
+use names::{Token, kinds};
 use records::diagnostic_kinds::PLUS_IS_NOT_A_UNARY_OPERATOR;
-use records::{Counters, Span, span_of, widen};
+use records::{Progress, Span, span_of, widen};
 
-// A term: read, with its root's span; failed and reported; or not there.
-#[derive(Clone, Copy)]
-pub enum Parsed {
-    Read(Span),
+// Why a term is not read: it failed and that is told, or none stands there.
+#[derive(Clone, Copy, PartialEq, Eq)]
+pub enum TermError {
     Reported,
     Absent,
 }
 
-#[derive(Clone, Copy)]
-pub struct Step {
-    pub parsed: Parsed,
-    pub counters: Counters,
-}
-
-// A tree that is read: its root's span.
-#[derive(Clone, Copy)]
-pub struct Chain {
-    pub span: Span,
-    pub counters: Counters,
-}
-
 // Behind the expression of a group, whose tree begins at the node `first`: the parenthesis closes it and widens its root, or it is told.
 fn close_group(
-    tokens: &[u16],
+    source: &Source,
     nodes: &mut [u16],
-    diagnostics: &mut [u16],
+    out: &mut Progress,
     first: u16,
-    c: Counters,
     token: Token,
-) -> Step
-    requires { NodeRoom tokens.now nodes.old c 1 0 1 }
-    ensures { CloseTold tokens.now nodes.old diagnostics.old nodes.new diagnostics.new first c token result }
+) -> Result<Span, TermError>
+    requires { NodeRoom source.now.tokens.now nodes.old out.old.counters 1 0 1 }
+    ensures lent { out.new.diagnostics.ghost_name ≡ out.old.diagnostics.ghost_name }
+    ensures told { CloseBy source.now nodes.old out.old nodes.new out.new first token result }
 {
-    let at = c.at as usize;
-    let p = names::token_at(tokens, at);
-    match p {
-        Peeked::Is(t) => {
-            if t.kind == kinds::RIGHT_PAREN {
-                let span = Span {
-                    start: token.start,
-                    end: t.end,
-                };
-                widen(nodes, c.nodes - 1, span);
-                return Step {
-                    parsed: Parsed::Read(span),
-                    counters: step_over(c, t),
-                };
-            }
-            unclosed(diagnostics, first, c, token)
-        }
-        Peeked::End => unclosed(diagnostics, first, c, token),
+    let Some(t) = source.peek(out.counters) else {
+        return unclosed(out, first, token);
+    };
+    if t.kind != kinds::RIGHT_PAREN {
+        return unclosed(out, first, token);
     }
+    let span = Span {
+        start: token.start,
+        end: t.end,
+    };
+    widen(nodes, out.counters.nodes - 1, span);
+    out.counters.step_over(t);
+    Ok(span)
 }
 
 // A term, with at most `room` terms open in it.
 #[cycle(terms)]
 fn parse_prefix(
-    line: &[u8],
-    tokens: &[u16],
+    source: &Source,
     nodes: &mut [u16],
-    diagnostics: &mut [u16],
-    c: Counters,
+    out: &mut Progress,
     room: usize,
-) -> Step
-    requires { NodeRoom tokens.now nodes.old c 0 0 1 }
-    ensures { PrefixTold line.now tokens.now nodes.old diagnostics.old nodes.new diagnostics.new c room result }
+) -> Result<Span, TermError>
+    requires { NodeRoom source.now.tokens.now nodes.old out.old.counters 0 0 1 }
+    ensures lent { out.new.diagnostics.ghost_name ≡ out.old.diagnostics.ghost_name }
+    ensures told { PrefixBy source.now nodes.old out.old nodes.new out.new room result }
 {
     if room == 0 {
-        return too_deep(tokens, diagnostics, c);
+        return too_deep(source, out);
     }
-    let at = c.at as usize;
-    let p = names::token_at(tokens, at);
-    match p {
-        Peeked::End => Step {
-            parsed: Parsed::Absent,
-            counters: c,
-        },
-        Peeked::Is(t) => {
-            let kind = t.kind;
-            let next = step_over(c, t);
-            let less = room - 1;
-            if is_unary(t) {
-                return parse_unary(line, tokens, nodes, diagnostics, next, t, less);
-            }
-            match kind {
-                kinds::PLUS => parse_plus(line, tokens, nodes, diagnostics, next, t, less),
-                kinds::LEFT_PAREN => parse_group(line, tokens, nodes, diagnostics, next, t, less),
-                _ => parse_leaf(line, nodes, diagnostics, c, t),
-            }
+    let Some(t) = source.peek(out.counters) else {
+        return Err(TermError::Absent);
+    };
+    let less = room - 1;
+    if is_unary(t) {
+        out.counters.step_over(t);
+        return parse_unary(source, nodes, out, t, less);
+    }
+    match t.kind {
+        kinds::PLUS => {
+            out.counters.step_over(t);
+            parse_plus(source, nodes, out, t, less)
         }
+        kinds::LEFT_PAREN => {
+            out.counters.step_over(t);
+            parse_group(source, nodes, out, t, less)
+        }
+        _ => parse_leaf(source, nodes, out, t),
     }
 }
 
 // Behind a minus or a tilde.
 #[cycle(terms)]
 fn parse_unary(
-    line: &[u8],
-    tokens: &[u16],
+    source: &Source,
     nodes: &mut [u16],
-    diagnostics: &mut [u16],
-    c: Counters,
+    out: &mut Progress,
     token: Token,
     room: usize,
-) -> Step
-    requires { NodeRoom tokens.now nodes.old c 0 1 2 }
-    ensures { BehindTold (unary_term room token) line.now tokens.now nodes.old diagnostics.old nodes.new diagnostics.new c result }
+) -> Result<Span, TermError>
+    requires { NodeRoom source.now.tokens.now nodes.old out.old.counters 0 1 2 }
+    ensures lent { out.new.diagnostics.ghost_name ≡ out.old.diagnostics.ghost_name }
+    ensures told { BehindBy (unary_term room token) source.now nodes.old out.old nodes.new out.new result }
 {
-    let r = parse_prefix(line, tokens, nodes, diagnostics, c, room);
-    let w = r.parsed;
-    let e = r.counters;
-    match w {
-        Parsed::Read(s) => {
+    match parse_prefix(source, nodes, out, room) {
+        Ok(s) => {
             let span = Span {
                 start: token.start,
                 end: s.end,
             };
             let operator = unary_operator(token.kind);
-            let f = put_operator(nodes, e, 5, operator, e.nodes - 1, ABSENT, span);
-            Step {
-                parsed: Parsed::Read(span),
-                counters: f,
-            }
+            let operand = out.counters.nodes - 1;
+            put_operator(nodes, &mut out.counters, 5, operator, operand, ABSENT, span);
+            Ok(span)
         }
-        Parsed::Reported => r,
-        Parsed::Absent => report(diagnostics, e, expected_after(token)),
+        Err(TermError::Reported) => Err(TermError::Reported),
+        Err(TermError::Absent) => report(out, expected_after(token)),
     }
 }
 
 // Behind a plus, which is no unary operator: the term is read all the same.
 #[cycle(terms)]
 fn parse_plus(
-    line: &[u8],
-    tokens: &[u16],
+    source: &Source,
     nodes: &mut [u16],
-    diagnostics: &mut [u16],
-    c: Counters,
+    out: &mut Progress,
     token: Token,
     room: usize,
-) -> Step
-    requires { NodeRoom tokens.now nodes.old c 0 1 2 }
-    ensures { BehindTold (plus_term room token) line.now tokens.now nodes.old diagnostics.old nodes.new diagnostics.new c result }
+) -> Result<Span, TermError>
+    requires { NodeRoom source.now.tokens.now nodes.old out.old.counters 0 1 2 }
+    ensures lent { out.new.diagnostics.ghost_name ≡ out.old.diagnostics.ghost_name }
+    ensures told { BehindBy (plus_term room token) source.now nodes.old out.old nodes.new out.new result }
 {
-    let r = parse_prefix(line, tokens, nodes, diagnostics, c, room);
-    let w = r.parsed;
-    let e = r.counters;
     let span = span_of(token);
-    let none = Span { start: 0, end: 0 };
-    match w {
-        Parsed::Read(s) => {
-            let q = report(diagnostics, e, plain(PLUS_IS_NOT_A_UNARY_OPERATOR, span, s));
-            let f = q.counters;
-            Step {
-                parsed: Parsed::Read(s),
-                counters: f,
-            }
+    match parse_prefix(source, nodes, out, room) {
+        Ok(s) => {
+            out.raise(plain(PLUS_IS_NOT_A_UNARY_OPERATOR, span, s));
+            Ok(s)
         }
-        Parsed::Reported => report(
-            diagnostics,
-            e,
-            plain(PLUS_IS_NOT_A_UNARY_OPERATOR, span, none),
-        ),
-        Parsed::Absent => report(
-            diagnostics,
-            e,
-            plain(PLUS_IS_NOT_A_UNARY_OPERATOR, span, none),
-        ),
+        Err(_) => {
+            let none = Span { start: 0, end: 0 };
+            report(out, plain(PLUS_IS_NOT_A_UNARY_OPERATOR, span, none))
+        }
     }
 }
 
 // Behind the parenthesis of a group.
 #[cycle(terms)]
 fn parse_group(
-    line: &[u8],
-    tokens: &[u16],
+    source: &Source,
     nodes: &mut [u16],
-    diagnostics: &mut [u16],
-    c: Counters,
+    out: &mut Progress,
     token: Token,
     room: usize,
-) -> Step
-    requires { NodeRoom tokens.now nodes.old c 0 1 2 }
-    ensures { BehindTold (group_term room token) line.now tokens.now nodes.old diagnostics.old nodes.new diagnostics.new c result }
+) -> Result<Span, TermError>
+    requires { NodeRoom source.now.tokens.now nodes.old out.old.counters 0 1 2 }
+    ensures lent { out.new.diagnostics.ghost_name ≡ out.old.diagnostics.ghost_name }
+    ensures told { BehindBy (group_term room token) source.now nodes.old out.old nodes.new out.new result }
 {
-    let r = parse_expression(line, tokens, nodes, diagnostics, c, room);
-    let w = r.parsed;
-    let e = r.counters;
-    match w {
-        Parsed::Read(_) => close_group(tokens, nodes, diagnostics, c.nodes, e, token),
-        Parsed::Reported => r,
-        Parsed::Absent => report(diagnostics, e, expected_after(token)),
+    let first = out.counters.nodes;
+    match parse_expression(source, nodes, out, room) {
+        Ok(_) => close_group(source, nodes, out, first, token),
+        Err(TermError::Reported) => Err(TermError::Reported),
+        Err(TermError::Absent) => report(out, expected_after(token)),
     }
 }
 
 // An expression: a term, and the climb from it.
 #[cycle(terms)]
 pub(crate) fn parse_expression(
-    line: &[u8],
-    tokens: &[u16],
+    source: &Source,
     nodes: &mut [u16],
-    diagnostics: &mut [u16],
-    c: Counters,
+    out: &mut Progress,
     room: usize,
-) -> Step
-    requires { NodeRoom tokens.now nodes.old c 0 0 1 }
-    ensures { ExpressionTold line.now tokens.now nodes.old diagnostics.old nodes.new diagnostics.new c room result }
+) -> Result<Span, TermError>
+    requires { NodeRoom source.now.tokens.now nodes.old out.old.counters 0 0 1 }
+    ensures lent { out.new.diagnostics.ghost_name ≡ out.old.diagnostics.ghost_name }
+    ensures told { ExpressionBy source.now nodes.old out.old nodes.new out.new room result }
 {
-    let r = parse_prefix(line, tokens, nodes, diagnostics, c, room);
-    let w = r.parsed;
-    let e = r.counters;
-    match w {
-        Parsed::Read(s) => {
-            let q = parse_expression_from(line, tokens, nodes, diagnostics, e, s, 1, room);
-            let whole = q.span;
-            let f = q.counters;
-            Step {
-                parsed: Parsed::Read(whole),
-                counters: f,
-            }
-        }
-        Parsed::Reported => r,
-        Parsed::Absent => r,
-    }
+    let term = parse_prefix(source, nodes, out, room)?;
+    Ok(parse_expression_from(source, nodes, out, term, 1, room))
 }
 
-// The climb from a left side, the tree of the last records, over operators of at least a level.
+// The climb from a left side, the tree of the last records, over operators of at least a level: its tree's span.
 #[cycle(terms)]
 pub(crate) fn parse_expression_from(
-    line: &[u8],
-    tokens: &[u16],
+    source: &Source,
     nodes: &mut [u16],
-    diagnostics: &mut [u16],
-    c: Counters,
+    out: &mut Progress,
     left: Span,
     minimum: u8,
     room: usize,
-) -> Chain
-    requires { NodeRoom tokens.now nodes.old c 1 0 0 }
-    ensures { ClimbTold line.now tokens.now nodes.old diagnostics.old nodes.new diagnostics.new c left minimum room result }
+) -> Span
+    requires { NodeRoom source.now.tokens.now nodes.old out.old.counters 1 0 0 }
+    ensures lent { out.new.diagnostics.ghost_name ≡ out.old.diagnostics.ghost_name }
+    ensures told { ClimbBy source.now nodes.old out.old nodes.new out.new left minimum room result }
 {
-    let mut e = c;
     let mut span = left;
     loop {
-        let at = e.at as usize;
-        let p = names::token_at(tokens, at);
-        let Peeked::Is(t) = p else {
+        let Some(t) = source.peek(out.counters) else {
             break;
         };
         if precedence(t.kind) < minimum {
             break;
         }
-        let r = parse_operated(line, tokens, nodes, diagnostics, e, span, room, t);
-        e = r.counters;
-        let w = r.parsed;
-        let Parsed::Read(longer) = w else {
+        let Ok(longer) = parse_operated(source, nodes, out, span, room, t) else {
             break;
         };
         span = longer;
     }
-    Chain {
-        span: span,
-        counters: e,
-    }
+    span
 }
 
 // One operator of the climb, which stands at the cursor: the longer left side; or no term is read behind the operator, and the climb ends.
 #[cycle(terms)]
 fn parse_operated(
-    line: &[u8],
-    tokens: &[u16],
+    source: &Source,
     nodes: &mut [u16],
-    diagnostics: &mut [u16],
-    c: Counters,
+    out: &mut Progress,
     left: Span,
     room: usize,
     t: Token,
-) -> Step
-    requires { NodeRoom tokens.now nodes.old c 1 0 0 × (token_at tokens.now c.at ≡ peeked.Is t) }
-    ensures { OperatedTold line.now tokens.now nodes.old diagnostics.old nodes.new diagnostics.new c left room t result }
+) -> Result<Span, TermError>
+    requires { NodeRoom source.now.tokens.now nodes.old out.old.counters 1 0 0 × (token_at source.now.tokens.now out.old.counters.at ≡ Some t) }
+    ensures lent { out.new.diagnostics.ghost_name ≡ out.old.diagnostics.ghost_name }
+    ensures told { OperatedBy source.now nodes.old out.old nodes.new out.new left room t result }
 {
-    let r = parse_prefix(line, tokens, nodes, diagnostics, step_over(c, t), room);
-    let w = r.parsed;
-    let f = r.counters;
-    match w {
-        Parsed::Read(s) => {
+    let before = out.counters.nodes - 1;
+    out.counters.step_over(t);
+    match parse_prefix(source, nodes, out, room) {
+        Ok(s) => {
             let above = precedence(t.kind) + 1;
-            let q = parse_expression_from(line, tokens, nodes, diagnostics, f, s, above, room);
-            let e = q.counters;
-            let right = q.span;
+            let right = parse_expression_from(source, nodes, out, s, above, room);
             let whole = Span {
                 start: left.start,
                 end: right.end,
             };
             let operator = binary_operator(t.kind);
-            let next = put_operator(nodes, e, 6, operator, c.nodes - 1, e.nodes - 1, whole);
-            Step {
-                parsed: Parsed::Read(whole),
-                counters: next,
-            }
+            let last = out.counters.nodes - 1;
+            put_operator(nodes, &mut out.counters, 6, operator, before, last, whole);
+            Ok(whole)
         }
-        Parsed::Reported => r,
-        Parsed::Absent => report(diagnostics, f, expected_after(t)),
+        Err(TermError::Reported) => Err(TermError::Reported),
+        Err(TermError::Absent) => report(out, expected_after(t)),
     }
 }

@@ -1,13 +1,13 @@
 -- How long answers are, and that no line longer than the longest frame is one.
 -- Assumes nothing.
-use Rattle.std.specs.Prelude.{◌≡◌, refl, Bool, true, false, List, [], ◌∷◌, ◌++◌, ℕ, zero, suc, ◌+◌, ◌*◌, ◌≤◌, ◌<◌, length, get_or}
+use Rattle.std.specs.Prelude.{◌≡◌, refl, Bool, true, false, List, [], ◌∷◌, ◌++◌, ℕ, zero, suc, ◌+◌, ◌*◌, ◌≤◌, ◌<◌, length, get_or, Option, Some, None}
 use Rattle.std.proofs.Common.{sym, ap, arith, ltb-true, eqb-true, length-append, length-drop}
 use Rattle.names.specs.Choice.{pick, both}
 use Rattle.names.specs.Laws.{both_first, both_second}
 use Rattle.expressions.specs.Reader.{Reading}
 use Rattle.expressions.proofs.Costs.{true_false}
 use Rattle.operand.specs.RefusalNumbers
-use Rattle.operand.specs.Operands.{Operand, Maybe, some, none}
+use Rattle.operand.specs.Operands.{Operand}
 use Rattle.operand.specs.Records.{size_o, size_m, nodes_m}
 use Rattle.operand.specs.Forms.{record_of}
 use Rattle.operand.specs.declared.layouts.Layout as L
@@ -42,13 +42,13 @@ unfolding most_tokens free_records
 parts_short L.Layout.Narrow n d h g = omega arith
 parts_short L.Layout.Wide n d h g = omega arith
 
-answer_short : (w : L.Layout) (r : Reading (Maybe Operand)) (v : Maybe Operand) → size_m v ≤ most_tokens w → length r.raised ≤ free_records w → length (Layout.answer_line w r v) ≤ 51203
+answer_short : (w : L.Layout) (r : Reading (Option Operand)) (v : Option Operand) → size_m v ≤ most_tokens w → length r.raised ≤ free_records w → length (Layout.answer_line w r v) ≤ 51203
 unfolding Layout.answer_line size_m
-answer_short w r (some x) n d =
+answer_short w r (Some x) n d =
     let long = length_head w Layout.operand_number r.cursor (size_o x) (length r.raised) in
     simp length-append
-    (omega (arith, long, length_bytes w (record_of x), length_node_bytes w (nodes_m (some x)) (size_m (some x)), length_laid w r.raised, parts_short w (size_m (some x)) (length r.raised) n d))
-answer_short w r none n d =
+    (omega (arith, long, length_bytes w (record_of x), length_node_bytes w (nodes_m (Some x)) (size_m (Some x)), length_laid w r.raised, parts_short w (size_m (Some x)) (length r.raised) n d))
+answer_short w r None n d =
     let long = length_head w Layout.no_operand_number r.cursor 0 (length r.raised) in
     simp length-append (omega (arith, long, length_laid w r.raised, parts_short w 0 (length r.raised) n d))
 

@@ -1,26 +1,20 @@
 // A part of the input, of any length, cut anywhere.
 ghost use Rattle.std.specs.Prelude.{◌≡◌, length};
 ghost use Rattle.frames.specs.Batches.{BatchTold, FinishTold};
-ghost use Rattle.frames.specs.Inner.{HoldTold, TurnAsks, TurnTold, BatchAsks};
+ghost use Rattle.frames.specs.Inner.{HoldTold, BatchAsks};
 
 use crate::reply::{LONGEST, answer};
 
 // What may be filled of the output so that the longest answer has room: 163840 - (1 + 2 * (7 + 30 + 18414 + 32752) + 1).
 const ROOMY: usize = 61432;
 
-// How many bytes of the input were read, how many of the unfinished line are held, how many were written.
+// How many bytes of the input were read, how many of the unfinished line are held, how many were written. Fixed stores with a length
+// beside: no heap.
 #[derive(Clone, Copy)]
 pub struct Batched {
     pub consumed: usize,
     pub held: usize,
     pub written: usize,
-}
-
-// What a byte leaves.
-#[derive(Clone, Copy)]
-struct Turned {
-    held: usize,
-    written: usize,
 }
 
 // Holds one byte more of a line, if there is room. Of a line longer than any frame only that it is longer is kept.
@@ -35,35 +29,8 @@ fn hold(carry: &mut [u8], held: usize, b: u8) -> usize
     LONGEST + 1
 }
 
-// One byte of the input: a line feed ends a line, another byte is held.
-fn turn(
-    b: u8,
-    held: usize,
-    carry: &mut [u8],
-    frame: &mut [u8],
-    nodes: &mut [u8],
-    diagnostics: &mut [u8],
-    out: &mut [u8],
-    written: usize,
-) -> Turned
-    requires { TurnAsks carry.old frame.old nodes.old diagnostics.old out.old written }
-    ensures { TurnTold b held written carry.old out.old carry.new out.new result }
-{
-    if b == 10 {
-        let w = answer(carry, held, frame, nodes, diagnostics, out, written);
-        return Turned {
-            held: 0,
-            written: w,
-        };
-    }
-    let h = hold(carry, held, b);
-    Turned {
-        held: h,
-        written: written,
-    }
-}
-
-// The lines that end in the input, with the stores that answers are made in.
+// The lines that end in the input, with the stores that answers are made in. They are no struct: of `&mut` fields each would be lent anew at
+// every call, which is no plainer.
 fn batch_in(
     input: &[u8],
     held: usize,
@@ -76,10 +43,9 @@ fn batch_in(
     requires { BatchAsks carry.old frame.old nodes.old diagnostics.old out.old }
     ensures { BatchTold input.now held carry.old out.old carry.new out.new result }
 {
-    let mut i = 0;
     let mut h = held;
     let mut w = 0;
-    while i < input.len() {
+    for (i, b) in input.iter().enumerate() {
         if w > ROOMY {
             return Batched {
                 consumed: i,
@@ -87,13 +53,15 @@ fn batch_in(
                 written: w,
             };
         }
-        let t = turn(input[i], h, carry, frame, nodes, diagnostics, out, w);
-        h = t.held;
-        w = t.written;
-        i += 1;
+        if *b == b'\n' {
+            w = answer(carry, h, frame, nodes, diagnostics, out, w);
+            h = 0;
+        } else {
+            h = hold(carry, h, *b);
+        }
     }
     Batched {
-        consumed: i,
+        consumed: input.len(),
         held: h,
         written: w,
     }
@@ -117,7 +85,8 @@ pub fn batch(input: &[u8], held: usize, carry: &mut [u8; 917507], out: &mut [u8;
     )
 }
 
-// Answers the last line, if it lacks its line feed, and returns how many bytes were written.
+// Answers the last line, if it lacks its line feed, and returns how many bytes were written. Its stores are those of `batch`; what lent
+// them to both would take each call as a closure, which is no plainer.
 pub fn finish(held: usize, carry: &[u8; 917507], out: &mut [u8; 163840]) -> usize
     ensures { FinishTold held carry.now out.old out.new result }
 {

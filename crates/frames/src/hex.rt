@@ -1,67 +1,41 @@
 // Lower-case hexadecimal, both ways.
 ghost use Rattle.std.specs.Prelude.{◌≡◌, ◌+◌, ◌*◌, ◌≤◌, ◌<◌, length};
-ghost use Rattle.frames.specs.Hex.{digit, digits, value};
-ghost use Rattle.frames.specs.Inner.{DecodedAs, Put};
+ghost use Rattle.frames.specs.Hex.{digit, digits};
+ghost use Rattle.frames.specs.Inner.{digit_value, DecodedAs, Put};
 
-// How many bytes a line spells, if it spells bytes.
-#[derive(Clone, Copy)]
-pub(crate) enum Decoded {
-    Is(usize),
-    Not,
-}
-
-// The value of a digit, 16 for every other character.
-fn value(c: u8) -> u8
-    ensures { result ≡ value c }
+// The value of a digit.
+fn value(c: u8) -> Option<u8>
+    ensures { result ≡ digit_value c }
 {
-    if c < 48 {
-        return 16;
+    match c {
+        b'0'..=b'9' => Some(c - b'0'),
+        b'a'..=b'f' => Some(c - b'a' + 10),
+        _ => None,
     }
-    if c < 58 {
-        return c - 48;
-    }
-    if c < 97 {
-        return 16;
-    }
-    if c < 103 {
-        return c - 87;
-    }
-    16
 }
 
 fn digit(n: u8) -> u8
     requires { n < 16 }
     ensures { result ≡ digit n }
 {
-    if n < 10 {
-        return 48 + n;
-    }
-    87 + n
+    if n < 10 { b'0' + n } else { b'a' - 10 + n }
 }
 
-// Writes the bytes that a line spells to the beginning of the store.
-pub(crate) fn decode(line: &[u8], store: &mut [u8]) -> Decoded
+// Writes the bytes that a line spells to the beginning of the store; how many they are, if it spells bytes.
+pub(crate) fn decode(line: &[u8], store: &mut [u8]) -> Option<usize>
     requires { length line.now ≤ 2 * length store.old }
     ensures { DecodedAs line.now store.new result }
 {
     if line.len() % 2 != 0 {
-        return Decoded::Not;
+        return None;
     }
-    let n = line.len() / 2;
-    let mut i = 0;
-    while i < n {
-        let high = value(line[2 * i]);
-        let low = value(line[2 * i + 1]);
-        if high > 15 {
-            return Decoded::Not;
-        }
-        if low > 15 {
-            return Decoded::Not;
-        }
+    let pairs = line.as_chunks::<2>().0;
+    for (i, &[high, low]) in pairs.iter().enumerate() {
+        let high = value(high)?;
+        let low = value(low)?;
         store[i] = 16 * high + low;
-        i += 1;
     }
-    Decoded::Is(n)
+    Some(pairs.len())
 }
 
 // Writes the digits of the bytes from a place on, and returns the next place.
@@ -69,12 +43,9 @@ pub(crate) fn put(out: &mut [u8], at: usize, bytes: &[u8]) -> usize
     requires { at + 2 * length bytes.now ≤ length out.old }
     ensures { Put out.old out.new at (digits bytes.now) result }
 {
-    let mut i = 0;
-    while i < bytes.len() {
-        let b = bytes[i];
-        out[at + 2 * i] = digit(b / 16);
-        out[at + 2 * i + 1] = digit(b % 16);
-        i += 1;
+    for (i, b) in bytes.iter().enumerate() {
+        out[at + 2 * i] = digit(*b / 16);
+        out[at + 2 * i + 1] = digit(*b % 16);
     }
-    at + 2 * i
+    at + 2 * bytes.len()
 }

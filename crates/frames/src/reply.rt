@@ -1,20 +1,16 @@
-// The answer line of one input line.
+// The answer line of one input line. The output and the place in it are lent side by side: a struct of both would be lent anew at each call.
 ghost use Rattle.std.specs.Prelude.{◌≡◌, [], ◌∷◌, ◌++◌, ◌+◌, ◌*◌, ◌≤◌, ◌<◌, length, take};
 ghost use Rattle.operand.specs.declared.layouts.Layout.TheVariants as layouts;
-ghost use Rattle.operand.specs.Layouts.{node_size, diagnostic_size};
+ghost use Rattle.operand.specs.RefusalNumbers;
 ghost use Rattle.frames.specs.Frame.{layout_of, opening};
 ghost use Rattle.frames.specs.Reply.{refused, ended, frame_bytes, line_bytes};
 ghost use Rattle.frames.specs.Machine.{held_line};
-ghost use Rattle.frames.specs.Inner.{Put, FoundAsks, found_bytes, MissedAsks, missed_bytes, AnswerAsks, answer_bytes, FrameAsks, DigitsAsk, TurnAsks};
+ghost use Rattle.frames.specs.Inner.{Put, case_of, RecordPut, AnswerAsks, answer_bytes, FrameAsks, DigitsAsk, TurnAsks};
 
-use crate::frame::{Framed, frame_line, read_frame};
-use crate::hex::{Decoded, decode, put};
-use layout::{
-    Answer, Found, Missed, NO_OPERAND, OPERAND, REFUSED, head_size, write_head, write_operand,
-};
-use operand::Layout;
-use operand::layouts::operand_size;
-use operand::refusal_numbers::BAD_FRAME;
+use crate::frame::{frame_line, read_frame};
+use crate::hex::{decode, put};
+use layout::{Answer, NO_OPERAND, OPERAND, REFUSED, head_size, write_head, write_operand};
+use operand::{Layout, OperandRecord, Refusal};
 
 // The letter that a wide line opens with.
 const WIDE: u8 = 119;
@@ -47,11 +43,11 @@ fn end_line(out: &mut [u8], at: usize) -> usize
     at + 1
 }
 
-fn refuse(layout: Layout, out: &mut [u8], at: usize, number: u8) -> usize
+fn refuse(layout: Layout, out: &mut [u8], at: usize, refusal: Refusal) -> usize
     requires { at + 6 ≤ length out.old }
-    ensures { Put out.old out.new at (ended layout (refused number)) result }
+    ensures { Put out.old out.new at (ended layout (refused (RefusalNumbers.number refusal))) result }
 {
-    let bytes = [REFUSED, number];
+    let bytes = [REFUSED, refusal.number()];
     let from = open_line(layout, out, at);
     let end = put(out, from, &bytes);
     end_line(out, end)
@@ -78,50 +74,49 @@ fn put_parts(
     end_line(out, end)
 }
 
-// Where so many node records end.
-fn nodes_end(layout: Layout, n: usize) -> usize
-    requires { node_size layout * n ≤ 18446744073709551615 }
-    ensures { result ≡ node_size layout * n }
+// The number of an answer's case.
+fn case_of(operand: Option<OperandRecord>) -> u8
+    ensures { result ≡ case_of operand }
 {
-    match layout {
-        Layout::Narrow => 14 * n,
-        Layout::Wide => 18 * n,
+    match operand {
+        Some(_) => OPERAND,
+        None => NO_OPERAND,
     }
 }
 
-// Where so many diagnostic records end.
-fn diagnostics_end(layout: Layout, n: usize) -> usize
-    requires { diagnostic_size layout * n ≤ 18446744073709551615 }
-    ensures { result ≡ diagnostic_size layout * n }
+// Writes the operand's record, if there is one, to the beginning of the store, and returns its length.
+fn put_record(layout: Layout, operand: Option<OperandRecord>, store: &mut [u8]) -> usize
+    requires { length store.old ≡ 30 }
+    ensures { RecordPut layout operand store.new result }
 {
-    match layout {
-        Layout::Narrow => 10 * n,
-        Layout::Wide => 16 * n,
+    match operand {
+        Some(x) => {
+            write_operand(layout, x, store, 0);
+            layout.operand_size()
+        }
+        None => 0,
     }
 }
 
-fn put_found(
+fn put_answer(
     layout: Layout,
     out: &mut [u8],
     at: usize,
-    x: Found,
+    x: Answer,
     nodes: &[u8],
     diagnostics: &[u8],
 ) -> usize
-    requires { FoundAsks layout out.old at x nodes.now diagnostics.now }
-    ensures { Put out.old out.new at (ended layout (found_bytes layout x nodes.now diagnostics.now)) result }
+    requires { AnswerAsks layout out.old at x nodes.now diagnostics.now }
+    ensures { Put out.old out.new at (ended layout (answer_bytes layout x nodes.now diagnostics.now)) result }
 {
-    let n = x.nodes;
-    let d = x.diagnostics;
-    let operand = x.operand;
-    let mut head: [u8; 7] = [0; 7];
-    let mut record: [u8; 30] = [0; 30];
-    write_head(layout, OPERAND, x.cursor, n, d, &mut head, 0);
-    write_operand(layout, operand, &mut record, 0);
+    let mut head = [0u8; 7];
+    let mut record = [0u8; 30];
+    let case = case_of(x.operand);
+    write_head(layout, case, x.cursor, x.nodes, x.diagnostics, &mut head, 0);
     let head_end = head_size(layout);
-    let record_end = operand_size(layout);
-    let node_end = nodes_end(layout, n);
-    let diagnostic_end = diagnostics_end(layout, d);
+    let record_end = put_record(layout, x.operand, &mut record);
+    let node_end = layout.node_size() * x.nodes;
+    let diagnostic_end = layout.diagnostic_size() * x.diagnostics;
     put_parts(
         layout,
         out,
@@ -131,44 +126,6 @@ fn put_found(
         &nodes[..node_end],
         &diagnostics[..diagnostic_end],
     )
-}
-
-fn put_missed(layout: Layout, out: &mut [u8], at: usize, x: Missed, diagnostics: &[u8]) -> usize
-    requires { MissedAsks layout out.old at x diagnostics.now }
-    ensures { Put out.old out.new at (ended layout (missed_bytes layout x diagnostics.now)) result }
-{
-    let added = x.diagnostics;
-    let mut head: [u8; 7] = [0; 7];
-    write_head(layout, NO_OPERAND, x.cursor, 0, added, &mut head, 0);
-    let head_end = head_size(layout);
-    let diagnostic_end = diagnostics_end(layout, added);
-    put_parts(
-        layout,
-        out,
-        at,
-        &head[..head_end],
-        &diagnostics[..0],
-        &diagnostics[..0],
-        &diagnostics[..diagnostic_end],
-    )
-}
-
-fn put_answer(
-    layout: Layout,
-    out: &mut [u8],
-    at: usize,
-    r: Answer,
-    nodes: &[u8],
-    diagnostics: &[u8],
-) -> usize
-    requires { AnswerAsks layout out.old at r nodes.now diagnostics.now }
-    ensures { Put out.old out.new at (ended layout (answer_bytes layout r nodes.now diagnostics.now)) result }
-{
-    match r {
-        Answer::Operand(x) => put_found(layout, out, at, x, nodes, diagnostics),
-        Answer::NoOperand(x) => put_missed(layout, out, at, x, diagnostics),
-        Answer::Refused(k) => refuse(layout, out, at, k),
-    }
 }
 
 // The answer to the bytes that a line spells.
@@ -183,13 +140,12 @@ fn answer_frame(
     requires { FrameAsks layout nodes.old diagnostics.old out.old at }
     ensures { Put out.old out.new at (ended layout (frame_bytes layout bytes.now)) result }
 {
-    let f = frame_line(layout, bytes);
-    match f {
-        Framed::Is(line) => {
-            let r = read_frame(layout, bytes, line, nodes, diagnostics);
-            put_answer(layout, out, at, r, nodes, diagnostics)
-        }
-        Framed::Not => refuse(layout, out, at, BAD_FRAME),
+    let Some(line) = frame_line(layout, bytes) else {
+        return refuse(layout, out, at, Refusal::BadFrame);
+    };
+    match read_frame(layout, bytes, line, nodes, diagnostics) {
+        Ok(x) => put_answer(layout, out, at, x, nodes, diagnostics),
+        Err(refusal) => refuse(layout, out, at, refusal),
     }
 }
 
@@ -206,39 +162,19 @@ fn answer_digits(
     requires { DigitsAsk layout line.now frame.old nodes.old diagnostics.old out.old at }
     ensures { Put out.old out.new at (ended layout (line_bytes layout line.now)) result }
 {
-    let d = decode(line, frame);
-    match d {
-        Decoded::Is(n) => answer_frame(layout, &frame[..n], nodes, diagnostics, out, at),
-        Decoded::Not => refuse(layout, out, at, BAD_FRAME),
+    match decode(line, frame) {
+        Some(n) => answer_frame(layout, &frame[..n], nodes, diagnostics, out, at),
+        None => refuse(layout, out, at, Refusal::BadFrame),
     }
 }
 
-// The answer to a wide line without its letter, where the line and the list of a frame of that length may be lawful. The stores are this
-// function's own, so that a narrow line need not wait for them to be cleared.
-fn answer_wide(line: &[u8], out: &mut [u8], at: usize) -> usize
-    requires { (length line.now ≤ 20482) × (at + 102408 ≤ length out.old) }
+// The answer to a wide line without its letter, where a frame of that length has so many bytes. The stores are this function's own, so
+// that a narrow line need not wait for them to be cleared.
+fn answer_wide<const FRAME: usize>(line: &[u8], out: &mut [u8], at: usize) -> usize
+    requires { (length line.now ≤ 2 * FRAME) × (FRAME ≤ 458753) × (at + 102408 ≤ length out.old) }
     ensures { Put out.old out.new at (ended layouts.Wide (line_bytes layouts.Wide line.now)) result }
 {
-    let mut frame = [0u8; 10241];
-    let mut nodes = [0u8; 18414];
-    let mut diagnostics = [0u8; 32752];
-    answer_digits(
-        Layout::Wide,
-        line,
-        &mut frame,
-        &mut nodes,
-        &mut diagnostics,
-        out,
-        at,
-    )
-}
-
-// The same of a longer one, whose line or list is too long, if it is a frame.
-fn answer_long(line: &[u8], out: &mut [u8], at: usize) -> usize
-    requires { (length line.now ≤ 917506) × (at + 102408 ≤ length out.old) }
-    ensures { Put out.old out.new at (ended layouts.Wide (line_bytes layouts.Wide line.now)) result }
-{
-    let mut frame = [0u8; 458753];
+    let mut frame = [0u8; FRAME];
     let mut nodes = [0u8; 18414];
     let mut diagnostics = [0u8; 32752];
     answer_digits(
@@ -257,13 +193,11 @@ fn layout_of(carry: &[u8], held: usize) -> Layout
     requires { length carry.now ≡ 917507 }
     ensures { result ≡ layout_of (take held carry.now) }
 {
-    if held == 0 {
-        return Layout::Narrow;
+    if held != 0 && carry[0] == WIDE {
+        Layout::Wide
+    } else {
+        Layout::Narrow
     }
-    if carry[0] == WIDE {
-        return Layout::Wide;
-    }
-    Layout::Narrow
 }
 
 // The answer to a line of which so many bytes are held; with more than LONGEST it is longer than any frame.
@@ -281,20 +215,21 @@ pub(crate) fn answer(
 {
     let layout = layout_of(carry, held);
     if held > LONGEST {
-        return refuse(layout, out, at, BAD_FRAME);
+        return refuse(layout, out, at, Refusal::BadFrame);
     }
     match layout {
         Layout::Narrow => {
             if held > LONGEST_NARROW {
-                return refuse(layout, out, at, BAD_FRAME);
+                return refuse(layout, out, at, Refusal::BadFrame);
             }
             answer_digits(layout, &carry[..held], frame, nodes, diagnostics, out, at)
         }
         Layout::Wide => {
+            // Of a longer one the line or the list is too long, if it is a frame.
             if held > LONGEST_LAWFUL {
-                return answer_long(&carry[1..held], out, at);
+                return answer_wide::<458753>(&carry[1..held], out, at);
             }
-            answer_wide(&carry[1..held], out, at)
+            answer_wide::<10241>(&carry[1..held], out, at)
         }
     }
 }

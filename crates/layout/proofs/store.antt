@@ -1,2 +1,3 @@
 -- What the proofs of store.rt share.
+pub mod Chunks
 pub mod Encoding

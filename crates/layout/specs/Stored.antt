@@ -1,6 +1,6 @@
 -- A reading's stores, encoded, are the definition's.
 -- Assumes nothing.
-use Rattle.std.specs.Prelude.{◌≡◌, refl, List, [], ◌∷◌, ◌++◌, ℕ, zero, suc, ◌+◌, ◌-◌, ◌*◌, ◌≤◌, ◌<◌, length, take, drop, get_or, replicate}
+use Rattle.std.specs.Prelude.{◌≡◌, refl, List, [], ◌∷◌, ◌++◌, ℕ, zero, suc, ◌+◌, ◌-◌, ◌*◌, ◌≤◌, ◌<◌, length, take, drop, get_or, replicate, Option}
 use Rattle.std.proofs.Common.{sym, ◌∙◌, ap, ap₂, append_assoc, append-nil, add-zero, mul-add, arith, le-leb, length-append, take-append-drop}
 use Rattle.std.proofs.lemmas.List.{length-replicate}
 use Rattle.std.proofs.Math.ListN.{get_or-append}
@@ -8,7 +8,7 @@ use Rattle.records.specs.declared.diagnostics.Diagnostic.{Diagnostic}
 use Rattle.records.specs.Diagnostics.{diagnostic_record}
 use Rattle.records.specs.Stores.{written, added}
 use Rattle.records.specs.Written.{written_fits, length_written, written_take, written_past}
-use Rattle.operand.specs.Operands.{Operand, Maybe}
+use Rattle.operand.specs.Operands.{Operand}
 use Rattle.operand.specs.Records.{size_m, nodes_m, diagnostic_records}
 use Rattle.operand.specs.declared.layouts.Layout.{Layout}
 use Rattle.operand.specs.Layouts.{node_size, diagnostic_size, most_tokens, node_store, nodes_within}
@@ -33,7 +33,7 @@ nodes_first w M R zero h = refl
 nodes_first w M R (suc n) h = ap₂ (λ x y. x ++ y) (nodes_first w M R n (omega arith)) (node_from_lem w M R (10 * n) (omega arith))
 
 -- an operand's records, whatever stands behind them
-pub nodes_stored : (w : Layout) (v : Maybe Operand) (R N : List ℕ) → size_m v ≤ most_tokens w → node_store w ≤ length N → nodes_encoded w (nodes_m v ++ R) (size_m v) N ≡ nodes_after w v N
+pub nodes_stored : (w : Layout) (v : Option Operand) (R N : List ℕ) → size_m v ≤ most_tokens w → node_store w ≤ length N → nodes_encoded w (nodes_m v ++ R) (size_m v) N ≡ nodes_after w v N
 unfolding nodes_encoded nodes_after
 nodes_stored w v R N few long =
     let n : ℕ = size_m v in

@@ -4,41 +4,26 @@ ghost use Rattle.records.specs.Stores.{written};
 ghost use Rattle.operand.specs.Layout.{head_laid};
 ghost use Rattle.layout.specs.Head.{head_size};
 
-use crate::store::write;
 use operand::{Layout, OperandRecord};
+use records::write;
 
-// The number of each case of an answer (docs/FORMAT.md).
+// The number of each case of an answer (docs/FORMAT.md). Numbers: `write_head` writes any case that it is given.
 pub const OPERAND: u8 = 0;
 
 pub const NO_OPERAND: u8 = 1;
 
 pub const REFUSED: u8 = 2;
 
-// An operand, with the cursor, the nodes used and the diagnostics added.
+// What a call reads: the operand, if there is one, with the cursor, the nodes used and the diagnostics added.
 #[derive(Clone, Copy)]
-pub struct Found {
-    pub operand: OperandRecord,
+pub struct Answer {
+    pub operand: Option<OperandRecord>,
     pub cursor: usize,
     pub nodes: usize,
     pub diagnostics: usize,
 }
 
-// No operand, with the cursor and the diagnostics added.
-#[derive(Clone, Copy)]
-pub struct Missed {
-    pub cursor: usize,
-    pub diagnostics: usize,
-}
-
-// A refusal by its number.
-#[derive(Clone, Copy)]
-pub enum Answer {
-    Operand(Found),
-    NoOperand(Missed),
-    Refused(u8),
-}
-
-// The bytes of an answer's beginning.
+// The bytes of an answer's beginning. A match: a const parameter would need the layout as a type, and it is a value of the call.
 pub fn head_size(layout: Layout) -> usize
     ensures { result ≡ head_size layout }
 {
@@ -50,6 +35,7 @@ pub fn head_size(layout: Layout) -> usize
 
 // Writes an answer's beginning from a place of the store on, where all of it fits: the case's number, the cursor, the nodes used and the
 // diagnostics added.
+#[tactic(auto, unfolding(records::specs::Nodes::low_first, operand::specs::Layouts::number, operand::specs::Layout::head_laid))]
 pub fn write_head(
     layout: Layout,
     case: u8,
@@ -61,26 +47,23 @@ pub fn write_head(
 )
     ensures { store.new ≡ written store.old at (head_laid layout case cursor nodes diagnostics) }
 {
+    let cursor = cursor.to_le_bytes();
+    let nodes = nodes.to_le_bytes();
+    let diagnostics = diagnostics.to_le_bytes();
     match layout {
         Layout::Narrow => {
-            let head = [
-                case,
-                (cursor % 256) as u8,
-                (nodes % 256) as u8,
-                (diagnostics % 256) as u8,
-                (diagnostics / 256 % 256) as u8,
-            ];
+            let head = [case, cursor[0], nodes[0], diagnostics[0], diagnostics[1]];
             write(store, at, &head);
         }
         Layout::Wide => {
             let head = [
                 case,
-                (cursor % 256) as u8,
-                (cursor / 256 % 256) as u8,
-                (nodes % 256) as u8,
-                (nodes / 256 % 256) as u8,
-                (diagnostics % 256) as u8,
-                (diagnostics / 256 % 256) as u8,
+                cursor[0],
+                cursor[1],
+                nodes[0],
+                nodes[1],
+                diagnostics[0],
+                diagnostics[1],
             ];
             write(store, at, &head);
         }

@@ -1,95 +1,60 @@
 // Diagnostic records: ten numbers within, ten or sixteen bytes in the lent list.
-ghost use Rattle.std.specs.Prelude.{◌≡◌, ◌+◌, ◌*◌, ◌≤◌, length};
+ghost use Rattle.std.specs.Prelude.{◌≡◌, ◌*◌};
 ghost use Rattle.records.specs.Stores.{written};
-ghost use Rattle.operand.specs.Layouts.{diagnostic_size};
 ghost use Rattle.operand.specs.declared.layouts.Layout.TheVariants as layouts;
 ghost use Rattle.layout.specs.Diagnostics.{diagnostic_from, diagnostics_encoded};
 
-use crate::store::write;
+use crate::numbers::low;
 use operand::Layout;
-use operand::layouts::{diagnostic_count, diagnostic_size};
+use records::write;
 
-// Where a record stands.
-fn place(layout: Layout, number: usize) -> usize
-    requires { diagnostic_size layout * number ≤ 18446744073709551615 }
-    ensures { result ≡ diagnostic_size layout * number }
+// A record in the narrow layout. Each layout has an array of its own length: one form for both would ask for the layout at each offset, which is
+// no plainer.
+#[tactic(auto, unfolding(records::specs::Nodes::low_first, operand::specs::Layouts::number, crate::specs::Diagnostics::diagnostic_from))]
+fn narrow_record(numbers: &[u16; 10]) -> [u8; 10]
+    ensures { result ≡ diagnostic_from layouts.Narrow numbers.now 0 }
 {
-    match layout {
-        Layout::Narrow => 10 * number,
-        Layout::Wide => 16 * number,
-    }
-}
-
-// The record whose numbers begin at `from`, in the narrow layout.
-fn narrow_record(numbers: &[u16], from: usize) -> [u8; 10]
-    requires { from + 10 ≤ length numbers.now }
-    ensures { result ≡ diagnostic_from layouts.Narrow numbers.now from }
-{
-    [
-        (numbers[from] % 256) as u8,
-        (numbers[from + 1] % 256) as u8,
-        (numbers[from + 2] % 256) as u8,
-        (numbers[from + 3] % 256) as u8,
-        (numbers[from + 4] % 256) as u8,
-        (numbers[from + 5] % 256) as u8,
-        (numbers[from + 6] % 256) as u8,
-        (numbers[from + 7] % 256) as u8,
-        (numbers[from + 8] % 256) as u8,
-        (numbers[from + 9] % 256) as u8,
-    ]
+    numbers.map(low)
 }
 
 // The same in the wide one.
-fn wide_record(numbers: &[u16], from: usize) -> [u8; 16]
-    requires { from + 10 ≤ length numbers.now }
-    ensures { result ≡ diagnostic_from layouts.Wide numbers.now from }
+#[tactic(auto, unfolding(records::specs::Nodes::low_first, operand::specs::Layouts::number, crate::specs::Diagnostics::diagnostic_from))]
+fn wide_record(numbers: &[u16; 10]) -> [u8; 16]
+    ensures { result ≡ diagnostic_from layouts.Wide numbers.now 0 }
 {
-    let start = numbers[from + 3];
-    let end = numbers[from + 4];
-    let text_start = numbers[from + 5];
-    let text_end = numbers[from + 6];
-    let related_start = numbers[from + 7];
-    let related_end = numbers[from + 8];
+    let start = numbers[3].to_le_bytes();
+    let end = numbers[4].to_le_bytes();
+    let text_start = numbers[5].to_le_bytes();
+    let text_end = numbers[6].to_le_bytes();
+    let related_start = numbers[7].to_le_bytes();
+    let related_end = numbers[8].to_le_bytes();
     [
-        (numbers[from] % 256) as u8,
-        (numbers[from + 1] % 256) as u8,
-        (numbers[from + 2] % 256) as u8,
-        (start % 256) as u8,
-        (start / 256 % 256) as u8,
-        (end % 256) as u8,
-        (end / 256 % 256) as u8,
-        (text_start % 256) as u8,
-        (text_start / 256 % 256) as u8,
-        (text_end % 256) as u8,
-        (text_end / 256 % 256) as u8,
-        (related_start % 256) as u8,
-        (related_start / 256 % 256) as u8,
-        (related_end % 256) as u8,
-        (related_end / 256 % 256) as u8,
-        (numbers[from + 9] % 256) as u8,
+        low(numbers[0]),
+        low(numbers[1]),
+        low(numbers[2]),
+        start[0],
+        start[1],
+        end[0],
+        end[1],
+        text_start[0],
+        text_start[1],
+        text_end[0],
+        text_end[1],
+        related_start[0],
+        related_start[1],
+        related_end[0],
+        related_end[1],
+        low(numbers[9]),
     ]
 }
 
-// Writes the record whose numbers begin at `from` into the list at `at`.
-fn encode_diagnostic(
-    layout: Layout,
-    numbers: &[u16],
-    from: usize,
-    diagnostics: &mut [u8],
-    at: usize,
-)
-    requires { from + 10 ≤ length numbers.now }
-    ensures { diagnostics.new ≡ written diagnostics.old at (diagnostic_from layout numbers.now from) }
+// Writes a record into the list at `at`.
+fn encode_diagnostic(layout: Layout, numbers: &[u16; 10], diagnostics: &mut [u8], at: usize)
+    ensures { diagnostics.new ≡ written diagnostics.old at (diagnostic_from layout numbers.now 0) }
 {
     match layout {
-        Layout::Narrow => {
-            let record = narrow_record(numbers, from);
-            write(diagnostics, at, &record);
-        }
-        Layout::Wide => {
-            let record = wide_record(numbers, from);
-            write(diagnostics, at, &record);
-        }
+        Layout::Narrow => write(diagnostics, at, &narrow_record(numbers)),
+        Layout::Wide => write(diagnostics, at, &wide_record(numbers)),
     }
 }
 
@@ -106,22 +71,13 @@ pub fn encode_diagnostics(
     if n == 0 {
         return;
     }
-    let records = diagnostic_count(layout, diagnostics.len());
-    if numbers.len() / 10 < n {
+    let chunks = numbers.as_chunks::<10>().0;
+    let records = layout.diagnostic_count(diagnostics.len());
+    if chunks.len() < n || records < n || records - n < used {
         return;
     }
-    if records < n {
-        return;
-    }
-    if records - n < used {
-        return;
-    }
-    let size = diagnostic_size(layout);
-    let mut at = place(layout, used);
-    let mut i = 0;
-    while i < n {
-        encode_diagnostic(layout, numbers, 10 * i, diagnostics, at);
-        at += size;
-        i += 1;
+    let size = layout.diagnostic_size();
+    for (i, record) in chunks[..n].iter().enumerate() {
+        encode_diagnostic(layout, record, diagnostics, size * (used + i));
     }
 }

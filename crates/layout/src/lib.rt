@@ -4,11 +4,12 @@
 mod answer;
 mod diagnostics;
 mod nodes;
+mod numbers;
 mod record;
 mod store;
 
-pub use answer::{Answer, Found, Missed, NO_OPERAND, OPERAND, REFUSED, head_size, write_head};
+pub use answer::{Answer, NO_OPERAND, OPERAND, REFUSED, head_size, write_head};
 pub use diagnostics::encode_diagnostics;
 pub use nodes::encode_nodes;
 pub use record::write_operand;
-pub use store::write;
+pub use records::write;

@@ -6,50 +6,34 @@ ghost use Rattle.operand.specs.Layout.{four_words, last_eight, node_from};
 ghost use Rattle.operand.specs.declared.layouts.Layout.TheVariants as layouts;
 ghost use Rattle.layout.specs.Nodes.{head_from, nodes_encoded};
 
-use crate::store::{clear, write};
+use crate::numbers::low;
+use crate::store::clear;
 use operand::Layout;
-use operand::layouts::{most_tokens, node_size, node_store};
+use records::write;
 
 // A number's kind.
 const NUMBER: u16 = 1;
 
 // Four numbers of two bytes, low byte first.
+#[tactic(auto, unfolding(records::specs::Nodes::low_first))]
 fn four_words(a: u16, b: u16, c: u16, d: u16) -> [u8; 8]
     ensures { result ≡ four_words a b c d }
 {
-    [
-        (a % 256) as u8,
-        (a / 256 % 256) as u8,
-        (b % 256) as u8,
-        (b / 256 % 256) as u8,
-        (c % 256) as u8,
-        (c / 256 % 256) as u8,
-        (d % 256) as u8,
-        (d / 256 % 256) as u8,
-    ]
+    let a = a.to_le_bytes();
+    let b = b.to_le_bytes();
+    let c = c.to_le_bytes();
+    let d = d.to_le_bytes();
+    [a[0], a[1], b[0], b[1], c[0], c[1], d[0], d[1]]
 }
 
 // The last eight bytes of a record.
+#[tactic(auto, unfolding(operand::specs::Layout::last_eight))]
 fn last_eight(layout: Layout, kind: u16, a: u16, b: u16, c: u16, d: u16) -> [u8; 8]
     ensures { result ≡ last_eight layout kind a b c d }
 {
     match layout {
-        Layout::Narrow => {
-            if kind == NUMBER {
-                return four_words(a, b, c, d);
-            }
-            [
-                (a % 256) as u8,
-                (b % 256) as u8,
-                (c % 256) as u8,
-                (d % 256) as u8,
-                0,
-                0,
-                0,
-                0,
-            ]
-        }
-        Layout::Wide => four_words(a, b, c, d),
+        Layout::Narrow if kind != NUMBER => [low(a), low(b), low(c), low(d), 0, 0, 0, 0],
+        _ => four_words(a, b, c, d),
     }
 }
 
@@ -62,64 +46,56 @@ fn write_parts(nodes: &mut [u8], at: usize, head: &[u8], rest: &[u8])
     write(nodes, at + head.len(), rest);
 }
 
-// What stands before them in the narrow layout: kind, detail, the children's numbers, the span.
-fn narrow_head(numbers: &[u16], from: usize) -> [u8; 6]
-    requires { from + 10 ≤ length numbers.now }
-    ensures { result ≡ head_from layouts.Narrow numbers.now from }
+// What stands before them in the narrow layout: kind, detail, the children's numbers, the span. Each layout by itself, as in record.rt.
+#[tactic(auto, unfolding(records::specs::Nodes::low_first, operand::specs::Layouts::number))]
+fn narrow_head(numbers: &[u16; 10]) -> [u8; 6]
+    ensures { result ≡ head_from layouts.Narrow numbers.now 0 }
 {
+    let &[kind, detail, left, right, start, end, ..] = numbers;
     [
-        (numbers[from] % 256) as u8,
-        (numbers[from + 1] % 256) as u8,
-        (numbers[from + 2] % 256) as u8,
-        (numbers[from + 3] % 256) as u8,
-        (numbers[from + 4] % 256) as u8,
-        (numbers[from + 5] % 256) as u8,
+        low(kind),
+        low(detail),
+        low(left),
+        low(right),
+        low(start),
+        low(end),
     ]
 }
 
 // The same in the wide one.
-fn wide_head(numbers: &[u16], from: usize) -> [u8; 10]
-    requires { from + 10 ≤ length numbers.now }
-    ensures { result ≡ head_from layouts.Wide numbers.now from }
+#[tactic(auto, unfolding(records::specs::Nodes::low_first, operand::specs::Layouts::number))]
+fn wide_head(numbers: &[u16; 10]) -> [u8; 10]
+    ensures { result ≡ head_from layouts.Wide numbers.now 0 }
 {
-    let left = numbers[from + 2];
-    let right = numbers[from + 3];
-    let start = numbers[from + 4];
-    let end = numbers[from + 5];
+    let &[kind, detail, left, right, start, end, ..] = numbers;
+    let left = left.to_le_bytes();
+    let right = right.to_le_bytes();
+    let start = start.to_le_bytes();
+    let end = end.to_le_bytes();
     [
-        (numbers[from] % 256) as u8,
-        (numbers[from + 1] % 256) as u8,
-        (left % 256) as u8,
-        (left / 256 % 256) as u8,
-        (right % 256) as u8,
-        (right / 256 % 256) as u8,
-        (start % 256) as u8,
-        (start / 256 % 256) as u8,
-        (end % 256) as u8,
-        (end / 256 % 256) as u8,
+        low(kind),
+        low(detail),
+        left[0],
+        left[1],
+        right[0],
+        right[1],
+        start[0],
+        start[1],
+        end[0],
+        end[1],
     ]
 }
 
-// Writes the record whose numbers begin at `from` into the store at `at`.
-fn encode_node(layout: Layout, numbers: &[u16], from: usize, nodes: &mut [u8], at: usize)
-    requires { (from + 10 ≤ length numbers.now) × (at + node_size layout ≤ length nodes.old) }
-    ensures { nodes.new ≡ written nodes.old at (node_from layout numbers.now from) }
+// Writes a record into the store at `at`.
+fn encode_node(layout: Layout, numbers: &[u16; 10], nodes: &mut [u8], at: usize)
+    requires { at + node_size layout ≤ length nodes.old }
+    ensures { nodes.new ≡ written nodes.old at (node_from layout numbers.now 0) }
 {
-    let kind = numbers[from];
-    let a = numbers[from + 6];
-    let b = numbers[from + 7];
-    let c = numbers[from + 8];
-    let d = numbers[from + 9];
+    let &[kind, .., a, b, c, d] = numbers;
     let rest = last_eight(layout, kind, a, b, c, d);
     match layout {
-        Layout::Narrow => {
-            let head = narrow_head(numbers, from);
-            write_parts(nodes, at, &head, &rest);
-        }
-        Layout::Wide => {
-            let head = wide_head(numbers, from);
-            write_parts(nodes, at, &head, &rest);
-        }
+        Layout::Narrow => write_parts(nodes, at, &narrow_head(numbers), &rest),
+        Layout::Wide => write_parts(nodes, at, &wide_head(numbers), &rest),
     }
 }
 
@@ -127,23 +103,14 @@ fn encode_node(layout: Layout, numbers: &[u16], from: usize, nodes: &mut [u8], a
 pub fn encode_nodes(layout: Layout, numbers: &[u16], n: usize, nodes: &mut [u8])
     ensures { nodes.new ≡ nodes_encoded layout numbers.now n nodes.old }
 {
-    let store = node_store(layout);
-    if most_tokens(layout) < n {
-        return;
-    }
-    if numbers.len() / 10 < n {
-        return;
-    }
-    if nodes.len() < store {
+    let chunks = numbers.as_chunks::<10>().0;
+    let store = layout.node_store();
+    if layout.most_tokens() < n || chunks.len() < n || nodes.len() < store {
         return;
     }
     clear(nodes, 0, store);
-    let size = node_size(layout);
-    let mut at = 0;
-    let mut i = 0;
-    while i < n {
-        encode_node(layout, numbers, 10 * i, nodes, at);
-        at += size;
-        i += 1;
+    let size = layout.node_size();
+    for (i, record) in chunks[..n].iter().enumerate() {
+        encode_node(layout, record, nodes, size * i);
     }
 }

@@ -3,37 +3,25 @@ ghost use Rattle.std.specs.Prelude.{◌≡◌};
 ghost use Rattle.records.specs.Spans.{no_span};
 ghost use Rattle.records.specs.Stores.{written};
 ghost use Rattle.operand.specs.declared.layouts.Layout.TheVariants as layouts;
-ghost use Rattle.operand.specs.Records.{flag};
 ghost use Rattle.operand.specs.Layout.{bytes_of};
 ghost use Rattle.layout.specs.Record.{SizedAs, BaseAs, IndexAs, FilledFrom};
 
-use crate::store::write;
-use operand::{
-    BaseRegister, Index, IndexRegister, Layout, OperandRecord, Register, Sized, SizedDisplacement,
-};
-use records::Span;
+use crate::numbers::{low, span_bytes};
+use operand::{BaseRegister, IndexRegister, Layout, OperandRecord, Register, Sized};
+use records::{Span, write};
 
-// No node.
+// No node: a number, not an `Option`, as the record's bytes have it (docs/FORMAT.md).
 const ABSENT: u16 = 65535;
-// No register.
+// No register, likewise.
 const NONE: u8 = 255;
 
-fn flag(on: bool) -> u8
-    ensures { result ≡ flag on }
-{
-    if on {
-        return 1;
-    }
-    0
-}
-
 // A displacement with the same bytes, in both layouts.
-fn sized_part(d: SizedDisplacement) -> Sized
+fn sized_part(d: Option<Sized>) -> Sized
     ensures { SizedAs result d }
 {
     match d {
-        SizedDisplacement::Is(x) => x,
-        SizedDisplacement::Not => Sized {
+        Some(x) => x,
+        None => Sized {
             node: ABSENT,
             size: 0,
         },
@@ -64,12 +52,12 @@ fn base_part(base: BaseRegister) -> Register
 }
 
 // An index register with the same bytes, in both layouts.
-fn index_part(index: Index) -> IndexRegister
+fn index_part(index: Option<IndexRegister>) -> IndexRegister
     ensures { IndexAs result index }
 {
     match index {
-        Index::Indexed(x) => x,
-        Index::Unindexed => IndexRegister {
+        Some(x) => x,
+        None => IndexRegister {
             register: spanless(NONE),
             size: 0,
             scale: 0,
@@ -89,51 +77,44 @@ struct Filled {
     suppressed: u8,
 }
 
+#[tactic(auto, unfolding(operand::specs::Records::flag))]
 fn fill(x: OperandRecord) -> Filled
     ensures { FilledFrom x result }
 {
-    let x_displacement = x.displacement;
-    let x_base = x.base;
-    let x_index = x.index;
-    let x_outer = x.outer;
-    let displacement = sized_part(x_displacement);
-    let base = base_part(x_base);
-    let index = index_part(x_index);
-    let outer = sized_part(x_outer);
-    let suppressed = flag(index.suppressed);
+    let index = index_part(x.index);
     Filled {
-        displacement: displacement,
-        base: base,
-        index: index,
-        outer: outer,
-        suppressed: suppressed,
+        displacement: sized_part(x.displacement),
+        base: base_part(x.base),
+        index,
+        outer: sized_part(x.outer),
+        suppressed: u8::from(index.suppressed),
     }
 }
 
-// The twenty bytes of the narrow layout.
+// The twenty bytes of the narrow layout. Each layout by itself: one form for both would ask for the layout at each offset, which is no plainer.
 fn narrow_bytes(x: OperandRecord, p: Filled) -> [u8; 20]
     requires { FilledFrom x p }
     ensures { result ≡ bytes_of layouts.Narrow x }
 {
     [
         x.form,
-        (x.span.start % 256) as u8,
-        (x.span.end % 256) as u8,
-        (p.displacement.node % 256) as u8,
+        low(x.span.start),
+        low(x.span.end),
+        low(p.displacement.node),
         p.displacement.size,
         p.base.index,
-        (p.base.span.start % 256) as u8,
-        (p.base.span.end % 256) as u8,
+        low(p.base.span.start),
+        low(p.base.span.end),
         p.index.register.index,
-        (p.index.register.span.start % 256) as u8,
-        (p.index.register.span.end % 256) as u8,
+        low(p.index.register.span.start),
+        low(p.index.register.span.end),
         p.index.size,
         p.index.scale,
         p.suppressed,
-        (p.index.span.start % 256) as u8,
-        (p.index.span.end % 256) as u8,
+        low(p.index.span.start),
+        low(p.index.span.end),
         x.indirection,
-        (p.outer.node % 256) as u8,
+        low(p.outer.node),
         p.outer.size,
         x.special,
     ]
@@ -144,35 +125,41 @@ fn wide_bytes(x: OperandRecord, p: Filled) -> [u8; 30]
     requires { FilledFrom x p }
     ensures { result ≡ bytes_of layouts.Wide x }
 {
+    let span = span_bytes(x.span);
+    let displacement = p.displacement.node.to_le_bytes();
+    let base = span_bytes(p.base.span);
+    let register = span_bytes(p.index.register.span);
+    let index = span_bytes(p.index.span);
+    let outer = p.outer.node.to_le_bytes();
     [
         x.form,
-        (x.span.start % 256) as u8,
-        (x.span.start / 256 % 256) as u8,
-        (x.span.end % 256) as u8,
-        (x.span.end / 256 % 256) as u8,
-        (p.displacement.node % 256) as u8,
-        (p.displacement.node / 256 % 256) as u8,
+        span[0],
+        span[1],
+        span[2],
+        span[3],
+        displacement[0],
+        displacement[1],
         p.displacement.size,
         p.base.index,
-        (p.base.span.start % 256) as u8,
-        (p.base.span.start / 256 % 256) as u8,
-        (p.base.span.end % 256) as u8,
-        (p.base.span.end / 256 % 256) as u8,
+        base[0],
+        base[1],
+        base[2],
+        base[3],
         p.index.register.index,
-        (p.index.register.span.start % 256) as u8,
-        (p.index.register.span.start / 256 % 256) as u8,
-        (p.index.register.span.end % 256) as u8,
-        (p.index.register.span.end / 256 % 256) as u8,
+        register[0],
+        register[1],
+        register[2],
+        register[3],
         p.index.size,
         p.index.scale,
         p.suppressed,
-        (p.index.span.start % 256) as u8,
-        (p.index.span.start / 256 % 256) as u8,
-        (p.index.span.end % 256) as u8,
-        (p.index.span.end / 256 % 256) as u8,
+        index[0],
+        index[1],
+        index[2],
+        index[3],
         x.indirection,
-        (p.outer.node % 256) as u8,
-        (p.outer.node / 256 % 256) as u8,
+        outer[0],
+        outer[1],
         p.outer.size,
         x.special,
     ]

@@ -3,7 +3,7 @@
 
 ghost use Rattle.std.specs.Prelude.{◌≤◌, length};
 
-use names::{Literal, Number, Reg, SizeSuffix, SpecialRegister, Suppressed};
+use names::{NumberError, SizeSuffix, SpecialRegister, Suppressed};
 use std::io::Read;
 
 // What cannot be written is left out.
@@ -11,18 +11,12 @@ fn put(rt: &impl Print, text: &[u8]) {
     let _ = rt.write_all(text);
 }
 
-fn put_start(rt: &impl Print, text: &[u8], n: usize) {
-    if n <= text.len() {
-        put(rt, &text[..n]);
-    }
-}
-
 fn put_number(rt: &impl Print, n: u64) {
     let _ = rt.print(n);
 }
 
 fn put_small(rt: &impl Print, n: u8) {
-    put_number(rt, n as u64);
+    put_number(rt, u64::from(n));
 }
 
 fn put_flag(rt: &impl Print, on: bool) {
@@ -35,57 +29,51 @@ fn put_flag(rt: &impl Print, on: bool) {
 
 fn show_register(rt: &impl Print, name: &[u8]) {
     put(rt, b" register=");
-    let register = Reg::parse(name);
-    match register {
-        Reg::Is(r) => put_small(rt, r),
-        Reg::Not => put(rt, b"no"),
+    match names::parse_register(name) {
+        Some(r) => put_small(rt, r),
+        None => put(rt, b"no"),
     }
 }
 
 fn show_special(rt: &impl Print, name: &[u8]) {
     put(rt, b" special=");
-    let special = SpecialRegister::parse(name);
-    match special {
-        SpecialRegister::Is(s) => put_small(rt, s),
-        SpecialRegister::Not => put(rt, b"no"),
+    match SpecialRegister::parse(name) {
+        Some(s) => put_small(rt, s as u8),
+        None => put(rt, b"no"),
     }
 }
 
 fn show_suppressed(rt: &impl Print, name: &[u8]) {
     put(rt, b" suppressed=");
-    let suppressed = names::suppressed_register(name);
-    match suppressed {
-        Suppressed::Register(r) => put_small(rt, r),
-        Suppressed::ProgramCounter => put(rt, b"pc"),
-        Suppressed::Not => put(rt, b"no"),
+    match names::suppressed_register(name) {
+        Some(Suppressed::Register(r)) => put_small(rt, r),
+        Some(Suppressed::ProgramCounter) => put(rt, b"pc"),
+        None => put(rt, b"no"),
     }
 }
 
 fn show_size(rt: &impl Print, suffix: &[u8]) {
     put(rt, b" size=");
-    let size = SizeSuffix::from_run(names::suffix_run(suffix));
-    match size {
-        SizeSuffix::Is(s) => put_small(rt, s),
-        SizeSuffix::Not => put(rt, b"no"),
+    match SizeSuffix::from_run(names::suffix_run(suffix)) {
+        Some(s) => put_small(rt, s as u8),
+        None => put(rt, b"no"),
     }
 }
 
 fn show_number(rt: &impl Print, detail: u16, text: &[u8]) {
-    let number = names::parse_number(detail, text);
-    match number {
-        Number::Value(v) => put_number(rt, v),
-        Number::TooLarge => put(rt, b"large"),
-        Number::Invalid => put(rt, b"no"),
+    match names::parse_number(detail, text) {
+        Ok(v) => put_number(rt, v),
+        Err(NumberError::TooLarge) => put(rt, b"large"),
+        Err(NumberError::Invalid) => put(rt, b"no"),
     }
 }
 
 fn show_literal(rt: &impl Print, text: &[u8]) {
     let mut space = [0u8; 16];
     put(rt, b" literal=");
-    let literal = names::string_literal_bytes(text, &mut space);
-    match literal {
-        Literal::Is(n) => put_start(rt, &space, n),
-        Literal::NoRoom => put(rt, b"no room"),
+    match names::string_literal_bytes(text, &mut space) {
+        Some(n) => put(rt, space.get(..n).unwrap_or_default()),
+        None => put(rt, b"no room"),
     }
 }
 
@@ -112,31 +100,14 @@ fn show(rt: &impl Print, line: &[u8]) {
     put(rt, b"\n");
 }
 
-// Where the line that begins at `start` ends.
-fn line_end(input: &[u8], start: usize) -> usize
-    requires { start ≤ length input.now }
-    ensures { (start ≤ result) × (result ≤ length input.now) }
-{
-    let mut end = start;
-    while end < input.len() {
-        if input[end] == b'\n' {
-            return end;
-        }
-        end += 1;
-    }
-    end
-}
-
 fn show_lines(rt: &impl Print, input: &[u8]) {
-    let mut start = 0;
-    while start < input.len() {
-        let end = line_end(input, start);
-        show(rt, &input[start..end]);
-        start = end + 1;
+    for line in input.split_inclusive(|byte| *byte == b'\n') {
+        show(rt, line.strip_suffix(b"\n").unwrap_or(line));
     }
 }
 
 // How many bytes of the input stand at the front of the store: all of it, or as many as fit. A read that fails ends it.
+// Each read says how much it gave, so that no iterator gives the next part.
 fn read_full(input: &mut impl Read, space: &mut [u8]) -> usize
     ensures { result ≤ length space.new }
 {

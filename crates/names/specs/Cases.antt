@@ -1,18 +1,20 @@
 -- Document 01's number for each case of the enums that tell what a name, a suffix or a number is, and what their functions promise: the
 -- case, and that its number is the text's own. A name's number is its place in a table.
 -- Assumes nothing.
-use Rattle.std.specs.Prelude.{◌≡◌, List, [], ◌∷◌, Bool, true, ℕ, ◌+◌, ◌*◌, ◌^◌, leb, ltb, drop}
+use Rattle.std.specs.Prelude.{◌≡◌, Option, Some, None, Result, Ok, Err, List, [], ◌∷◌, Bool, true, ℕ, ◌+◌, ◌*◌, ◌^◌, leb, ltb, drop}
 use Prim.Native.String.{String}
 use Rattle.names.specs.Choice.{pick, both}
 use Rattle.names.specs.Letters.{bytes, lowered, same}
 use Rattle.names.specs.Registers.{register_of, special_names, special_of, suppressed_of}
 use Rattle.names.specs.Sizes.{size_of}
 use Rattle.names.specs.Numbers.{radix_of, width, figure, base_of, number_of}
-use Rattle.names.specs.declared.registers.Reg.{Reg}
 use Rattle.names.specs.declared.registers.SpecialRegister.{SpecialRegister}
+use Rattle.names.specs.declared.registers.SpecialRegister.TheVariants.{Sr, Ccr, Usp, Sfc, Dfc, Vbr, Cacr, Caar, Msp, Isp}
 use Rattle.names.specs.declared.registers.Suppressed.{Suppressed}
+use Rattle.names.specs.declared.registers.Suppressed.TheVariants.{Register, ProgramCounter}
 use Rattle.names.specs.declared.sizes.SizeSuffix.{SizeSuffix}
-use Rattle.names.specs.declared.numbers.Number.{Number}
+use Rattle.names.specs.declared.sizes.SizeSuffix.TheVariants.{Byte, Word, Long, Short}
+use Rattle.names.specs.declared.numbers.NumberError.{NumberError}
 
 -- ---- the number of each case
 
@@ -21,37 +23,48 @@ abbrev pub absent_register : ℕ
 absent_register = 255
 
 -- "Registers: mask index 0 to 15"
-abbrev pub register_number : Reg → ℕ
-register_number (Reg.Is r) = r
-register_number Reg.Not = absent_register
+abbrev pub register_number : Option ℕ → ℕ
+register_number (Some r) = r
+register_number None = absent_register
 
 -- "special register 1 to 10", and "else 0"
-abbrev pub special_number : SpecialRegister → ℕ
-special_number (SpecialRegister.Is n) = n
-special_number SpecialRegister.Not = 0
+abbrev pub special_number : Option SpecialRegister → ℕ
+special_number (Some Sr) = 1
+special_number (Some Ccr) = 2
+special_number (Some Usp) = 3
+special_number (Some Sfc) = 4
+special_number (Some Dfc) = 5
+special_number (Some Vbr) = 6
+special_number (Some Cacr) = 7
+special_number (Some Caar) = 8
+special_number (Some Msp) = 9
+special_number (Some Isp) = 10
+special_number None = 0
 
 -- "Sizes: 0 none, 1 to 4 as `SizeSuffix`"
-abbrev pub size_number : SizeSuffix → ℕ
-size_number (SizeSuffix.Is n) = n
-size_number SizeSuffix.Not = 0
+abbrev pub size_number : Option SizeSuffix → ℕ
+size_number (Some Byte) = 1
+size_number (Some Word) = 2
+size_number (Some Long) = 3
+size_number (Some Short) = 4
+size_number None = 0
 
 -- in the base's place: "suppressed base 18 to 1F hexadecimal; PC 20 .., suppressed 21". A data register is no base
-abbrev pub base_number : Suppressed → ℕ
-base_number (Suppressed.Register r) = pick (leb 8 r) (16 + r) absent_register
-base_number Suppressed.ProgramCounter = 33
-base_number Suppressed.Not = absent_register
+abbrev pub base_number : Option Suppressed → ℕ
+base_number (Some (Register r)) = pick (leb 8 r) (16 + r) absent_register
+base_number (Some ProgramCounter) = 33
+base_number None = absent_register
 
 -- in the index register's place, beside a 1 for suppressed: the mask index. The program counter is no index
-abbrev pub index_number : Suppressed → ℕ
-index_number (Suppressed.Register r) = r
-index_number Suppressed.ProgramCounter = absent_register
-index_number Suppressed.Not = absent_register
+abbrev pub index_number : Option Suppressed → ℕ
+index_number (Some (Register r)) = r
+index_number (Some ProgramCounter) = absent_register
+index_number None = absent_register
 
 -- "Values are `token::parse_digits`, else 0"
-abbrev pub value_number : Number → ℕ
-value_number (Number.Value v) = v
-value_number Number.TooLarge = 0
-value_number Number.Invalid = 0
+abbrev pub value_number : Result ℕ NumberError → ℕ
+value_number (Ok v) = v
+value_number (Err e) = 0
 
 -- ---- the number of a name
 
@@ -111,23 +124,23 @@ written_value detail text = pick (ltb detail 4) (digits_value (radix_of (base_of
 
 -- ---- what the functions promise
 
-pub record RegisterTold (name : List ℕ) (r : Reg) : Type 0 where
+pub record RegisterTold (name : List ℕ) (r : Option ℕ) : Type 0 where
   pub register : r ≡ register_of name
   pub number : register_number r ≡ named_register name
 
-pub record SpecialTold (name : List ℕ) (r : SpecialRegister) : Type 0 where
+pub record SpecialTold (name : List ℕ) (r : Option SpecialRegister) : Type 0 where
   pub special : r ≡ special_of name
   pub number : special_number r ≡ named_special name
 
-pub record SizeTold (run : List ℕ) (r : SizeSuffix) : Type 0 where
+pub record SizeTold (run : List ℕ) (r : Option SizeSuffix) : Type 0 where
   pub size : r ≡ size_of run
   pub number : size_number r ≡ named_size run
 
-pub record SuppressedTold (name : List ℕ) (r : Suppressed) : Type 0 where
+pub record SuppressedTold (name : List ℕ) (r : Option Suppressed) : Type 0 where
   pub suppressed : r ≡ suppressed_of name
   pub base : base_number r ≡ named_base name
   pub index : index_number r ≡ named_index name
 
-pub record NumberTold (detail : ℕ) (text : List ℕ) (r : Number) : Type 0 where
+pub record NumberTold (detail : ℕ) (text : List ℕ) (r : Result ℕ NumberError) : Type 0 where
   pub number : r ≡ number_of detail text
   pub value : value_number r ≡ written_value detail text

@@ -5,7 +5,7 @@ use Rattle.std.proofs.Common.{ap, ap₂, arith, leb-true, leb-false, le-leb}
 use Rattle.std.proofs.lemmas.Bool.{lt-leb}
 use Rattle.names.specs.Laws.{both_false}
 use Rattle.names.specs.Letters.{lower, lowered, same, spelled}
-use Rattle.names.specs.Registers.{register, register_of, program_counter, numbered, special_names, special_of, suppressed, suppressed_of, one_of, reserved_names, reserved}
+use Rattle.names.specs.Registers.{register, register_of, program_counter, named, special_registers, special_of, suppressed, suppressed_of, one_of, reserved_names, reserved}
 
 -- ---- letters
 
@@ -51,7 +51,7 @@ counter_lowered n = spelled_lowered _ n
 
 pub special_lowered : (n : List ℕ) → special_of (lowered n) ≡ special_of n
 unfolding special_of
-special_lowered n = ap (numbered 1 special_names) (lowered_twice n)
+special_lowered n = ap (named special_registers) (lowered_twice n)
 
 pub suppressed_lowered : (n : List ℕ) → suppressed_of (lowered n) ≡ suppressed_of n
 unfolding suppressed_of

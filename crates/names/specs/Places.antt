@@ -1,12 +1,10 @@
 -- What stands at a place: nothing, or a token with the bytes of its text.
 -- Assumes nothing.
-use Rattle.std.specs.Prelude.{◌≡◌, refl, Bool, true, false, List, [], ℕ, ◌-◌, ◌<◌, leb, length, take, drop}
+use Rattle.std.specs.Prelude.{◌≡◌, refl, Bool, true, false, Option, Some, None, List, [], ℕ, ◌-◌, ◌<◌, leb, length, take, drop}
 use Rattle.std.proofs.Common.{arith, leb-false}
 use Rattle.names.specs.Choice.{pick, both}
 use Rattle.names.specs.Tokens.{count, token_from, token_at}
 use Rattle.names.specs.declared.tokens.Token.{Token}
-use Rattle.names.specs.declared.tokens.Peeked.{Peeked}
-use Rattle.names.specs.declared.tokens.Peeked.TheVariants.{Is, End}
 
 -- the part of a line under a span, empty where the span does not lie within the line
 unfoldable pub text_of : List ℕ → ℕ → ℕ → List ℕ
@@ -17,9 +15,9 @@ pub data Place : Type 0 where
   stands : Token → List ℕ → Place
 
 -- a token with its text
-unfoldable pub placed : List ℕ → Peeked → Place
-placed L End = nothing
-placed L (Is t) = stands t (text_of L t.start t.end)
+unfoldable pub placed : List ℕ → Option Token → Place
+placed L None = nothing
+placed L (Some t) = stands t (text_of L t.start t.end)
 
 unfoldable pub place : List ℕ → List ℕ → ℕ → Place
 place L T i = placed L (token_at T i)
@@ -29,18 +27,18 @@ pub below : (L T : List ℕ) (i : ℕ) (t : Token) (x : List ℕ) → place L T 
 unfolding place placed token_at
 below L T i t x h = go (leb (count T) i) refl h
   where
-    go : (b : Bool) → leb (count T) i ≡ b → placed L (pick b End (Is (token_from T i))) ≡ stands t x → i < count T
+    go : (b : Bool) → leb (count T) i ≡ b → placed L (pick b None (Some (token_from T i))) ≡ stands t x → i < count T
     go true q g = let z : ◌≡◌ {A = ℕ} 0 1 = cc in omega arith
     go false q g = leb-false (count T) i q
 
 -- by what the list has there
-pub there : (L T : List ℕ) (i : ℕ) (t : Token) → token_at T i ≡ Is t → place L T i ≡ stands t (text_of L t.start t.end)
+pub there : (L T : List ℕ) (i : ℕ) (t : Token) → token_at T i ≡ Some t → place L T i ≡ stands t (text_of L t.start t.end)
 unfolding place placed
 there L T i t e = rw e
 
-pub nowhere : (L T : List ℕ) (i : ℕ) → token_at T i ≡ End → place L T i ≡ nothing
+pub nowhere : (L T : List ℕ) (i : ℕ) → token_at T i ≡ None → place L T i ≡ nothing
 unfolding place placed
 nowhere L T i e = rw e
 
-pub live : (T : List ℕ) (i : ℕ) (t : Token) → token_at T i ≡ Is t → i < count T
+pub live : (T : List ℕ) (i : ℕ) (t : Token) → token_at T i ≡ Some t → i < count T
 live T i t e = below [] T i t _ (there [] T i t e)

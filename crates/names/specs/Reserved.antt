@@ -1,22 +1,19 @@
 -- The rule of the 28 reserved names, over the whole table: they are the registers, the program counter and the special registers.
 -- Assumes nothing.
-use Rattle.std.specs.Prelude.{◌≡◌, refl, Bool, true, false, List, [], ◌∷◌, ◌++◌, ℕ, zero, suc, ◌+◌, ◌-◌, ◌<◌, ◌≤◌, leb, eqb}
+use Rattle.std.specs.Prelude.{◌≡◌, refl, Bool, true, false, Option, Some, None, is_some, List, [], ◌∷◌, ◌++◌, ℕ, zero, suc, ◌+◌, ◌-◌, ◌<◌, ◌≤◌, leb, eqb, map}
 use Rattle.std.proofs.Common.{sym, ◌∙◌, ap, ap₂, arith, eqb-true, ne_eqb, leb-true, leb-false}
 use Prim.Native.String.{String}
 use Rattle.names.specs.Choice.{pick, both, either}
 use Rattle.names.specs.Letters.{bytes, lowered, same, spelled}
 use Rattle.names.specs.Laws.{pick_same, both_false, either_assoc}
-use Rattle.names.specs.Registers.{pair, register, register_of, program_counter, numbered, special_names, special_of, one_of, reserved}
-use Rattle.names.specs.declared.registers.Reg.{Reg}
+use Rattle.names.specs.Registers.{pair, register, register_of, program_counter, named, special_registers, special_names, special_of, one_of, reserved}
 use Rattle.names.specs.declared.registers.SpecialRegister.{SpecialRegister}
 
-abbrev pub is_register : Reg → Bool
-is_register (Reg.Is r) = true
-is_register Reg.Not = false
+abbrev pub is_register : Option ℕ → Bool
+is_register r = is_some r
 
-abbrev pub is_special : SpecialRegister → Bool
-is_special (SpecialRegister.Is r) = true
-is_special SpecialRegister.Not = false
+abbrev pub is_special : Option SpecialRegister → Bool
+is_special r = is_some r
 
 -- ---- a list of words
 
@@ -25,14 +22,16 @@ unfolding one_of
 one_of_append [] ys l = refl
 one_of_append (x ∷ xs) ys l = rw (one_of_append xs ys l) (sym (either_assoc (same l (bytes x)) (one_of xs l) (one_of ys l)))
 
--- a word has a number just where it is one of them
-one_of_numbered : (n : ℕ) (ws : List String) (l : List ℕ) → one_of ws l ≡ is_special (numbered n ws l)
-unfolding one_of numbered
-one_of_numbered n [] l = refl
-one_of_numbered n (w ∷ ws) l = go (same l (bytes w)) (one_of_numbered (n + 1) ws l)
+-- letters name a register just where they are one of the names
+one_of_named : (xs : List (String × SpecialRegister)) (l : List ℕ) → one_of (map (λ (x : String × SpecialRegister). x.0) xs) l ≡ is_special (named xs l)
+unfolding one_of named
+one_of_named [] l = refl
+one_of_named (x ∷ xs) l = go (same l (bytes x.0)) (one_of_named xs l)
   where
-    go : (b : Bool) → one_of ws l ≡ is_special (numbered (n + 1) ws l)
-        → either b (one_of ws l) ≡ is_special (pick b (SpecialRegister.Is n) (numbered (n + 1) ws l))
+    rest : List String
+    rest = map (λ (y : String × SpecialRegister). y.0) xs
+
+    go : (b : Bool) → one_of rest l ≡ is_special (named xs l) → either b (one_of rest l) ≡ is_special (pick b (Some x.1) (named xs l))
     go true h = refl
     go false h = h
 
@@ -91,11 +90,11 @@ digits_are d = low (leb 48 d) refl
     low true q = high (leb d 55) refl (leb-true 48 d q)
     low false q = digits_out d λ k s e. omega (arith, leb-false 48 d q)
 
-picked : (b : Bool) (r : ℕ) → b ≡ is_register (pick b (Reg.Is r) Reg.Not)
+picked : (b : Bool) (r : ℕ) → b ≡ is_register (pick b (Some r) None)
 picked true r = refl
 picked false r = refl
 
-stacked : (b : Bool) → either (both b true) false ≡ is_register (pick b (Reg.Is 15) Reg.Not)
+stacked : (b : Bool) → either (both b true) false ≡ is_register (pick b (Some 15) None)
 stacked true = refl
 stacked false = refl
 
@@ -104,7 +103,7 @@ unfolding one_of same pair
 pairs c d = data_bank (eqb c 100) refl
   where
     other : eqb c 100 ≡ false → eqb c 97 ≡ false → eqb c 115 ≡ false → one_of register_names (c ∷ d ∷ []) ≡ is_register (pair c d)
-    other x y z = simp (x, y, z) (sym (ap is_register (pick_same (both (leb 48 d) (leb d 55)) Reg.Not)))
+    other x y z = simp (x, y, z) (sym (ap is_register (pick_same (both (leb 48 d) (leb d 55)) None)))
 
     stack : (b : Bool) → eqb c 115 ≡ b → eqb c 100 ≡ false → eqb c 97 ≡ false → one_of register_names (c ∷ d ∷ []) ≡ is_register (pair c d)
     stack true q x y = rw (eqb-true c 115 q) (stacked (eqb d 112))
@@ -130,4 +129,4 @@ pub reserved_rule : (name : List ℕ) → reserved name ≡ either (is_register 
 unfolding reserved register_of program_counter special_of spelled one_of
 reserved_rule name =
     one_of_append register_names ("pc" ∷ special_names) (lowered name)
-    ∙ ap₂ either (registers (lowered name)) (ap (either (same (lowered name) (bytes "pc"))) (one_of_numbered 1 special_names (lowered name)))
+    ∙ ap₂ either (registers (lowered name)) (ap (either (same (lowered name) (bytes "pc"))) (one_of_named special_registers (lowered name)))

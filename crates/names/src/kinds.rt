@@ -1,4 +1,5 @@
-// The kinds of tokens, 0 to 29 in the order of the Rust's `TokenKind`.
+// The kinds of tokens, 0 to 29 in the order of the Rust's `TokenKind`. Numbers, not an enum: a list that a caller lends may
+// hold any number, and with an enum a public function would ask more.
 pub const IDENTIFIER: u16 = 0;
 
 pub const LOCAL_IDENTIFIER: u16 = 1;

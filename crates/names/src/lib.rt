@@ -9,10 +9,11 @@ mod registers;
 mod sizes;
 mod tokens;
 
-pub use literals::{Literal, string_literal_bytes};
-pub use numbers::{Number, parse_number};
+pub use literals::string_literal_bytes;
+pub use numbers::{NumberError, parse_number};
 pub use registers::{
-    Reg, SpecialRegister, Suppressed, is_program_counter, is_reserved_name, suppressed_register,
+    SpecialRegister, Suppressed, is_program_counter, is_reserved_name, parse_register,
+    suppressed_register,
 };
 pub use sizes::{SizeSuffix, suffix_run};
-pub use tokens::{Peeked, Token, detail_defined, lent_token_at, text_of, token_at};
+pub use tokens::{Token, detail_defined, lent_token_at, text_of, token_at};

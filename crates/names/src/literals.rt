@@ -1,89 +1,56 @@
 // Quoted literals.
-ghost use Rattle.std.specs.Prelude.{◌≡◌, length};
-ghost use Rattle.names.specs.Literals.{Inner_told, literal_bytes, Stored};
+ghost use Rattle.std.specs.Prelude.{◌≡◌, [], length, MatchOption};
+ghost use Rattle.names.specs.Literals.{quoted, FirstInner, literal_bytes, Stored};
 
-use crate::tokens::first;
-
-// What stands inside a literal at a place: a byte, with the place behind it, or the literal's end.
-#[derive(Clone, Copy)]
-enum Inner {
-    Byte(u8, usize),
-    End,
-}
-
-// How many bytes were stored, or that they have no room.
-#[derive(Clone, Copy)]
-pub enum Literal {
-    Is(usize),
-    NoRoom,
-}
-
+// The first byte that the inside of a literal stands for, and what is left behind it; none at the literal's end.
 // A doubled quote is one quote, and a single one closes the literal.
-fn inner_at(text: &[u8], quote: u8, i: usize) -> Inner
-    ensures { Inner_told text.now quote i result }
+fn first_inner(inside: &[u8], quote: u8) -> Option<(u8, &[u8])>
+    ensures { MatchOption result (quoted quote inside.now ≡ []) (λ p. FirstInner quote inside.now p.0 p.1.now) }
 {
-    if text.len() <= i {
-        return Inner::End;
+    let [first, rest @ ..] = inside else {
+        return None;
+    };
+    if *first != quote {
+        return Some((*first, rest));
     }
-    let byte = text[i];
-    let next = i + 1;
-    if byte != quote {
-        return Inner::Byte(byte, next);
-    }
-    if text.len() <= next {
-        return Inner::End;
-    }
-    if text[next] != quote {
-        return Inner::End;
-    }
-    Inner::Byte(byte, next + 1)
+    let [second, behind @ ..] = rest else {
+        return None;
+    };
+    (*second == quote).then_some((quote, behind))
 }
 
-// How many bytes a literal stands for.
+// How many bytes a literal stands for. The walk is made twice: a literal that has no room stores nothing, so its length is known first.
 fn literal_length(text: &[u8]) -> usize
     ensures { result ≡ length (literal_bytes text.now) }
 {
-    let quote = first(text);
+    let [quote, inside @ ..] = text else {
+        return 0;
+    };
+    let mut rest = inside;
     let mut n = 0;
-    let mut i = 1;
-    loop {
-        let inner = inner_at(text, quote, i);
-        match inner {
-            Inner::Byte(_, next) => {
-                n += 1;
-                i = next;
-            }
-            Inner::End => {
-                break;
-            }
-        }
+    while let Some((_, behind)) = first_inner(rest, *quote) {
+        n += 1;
+        rest = behind;
     }
     n
 }
 
-// The bytes that a quoted literal stands for, at the start of `out`; where they have no room, nothing is stored.
-pub fn string_literal_bytes(text: &[u8], out: &mut [u8]) -> Literal
+// The bytes that a quoted literal stands for, at the start of `out`, and how many they are; where they have no room, nothing is stored.
+pub fn string_literal_bytes(text: &[u8], out: &mut [u8]) -> Option<usize>
     ensures { Stored (literal_bytes text.now) out.old out.new result }
 {
-    let total = literal_length(text);
-    if out.len() < total {
-        return Literal::NoRoom;
+    if out.len() < literal_length(text) {
+        return None;
     }
-    let quote = first(text);
+    let [quote, inside @ ..] = text else {
+        return Some(0);
+    };
+    let mut rest = inside;
     let mut n = 0;
-    let mut i = 1;
-    while n < total {
-        let inner = inner_at(text, quote, i);
-        match inner {
-            Inner::Byte(byte, next) => {
-                out[n] = byte;
-                n += 1;
-                i = next;
-            }
-            Inner::End => {
-                return Literal::Is(n);
-            }
-        }
+    while let Some((byte, behind)) = first_inner(rest, *quote) {
+        out[n] = byte;
+        n += 1;
+        rest = behind;
     }
-    Literal::Is(total)
+    Some(n)
 }

@@ -1,177 +1,127 @@
 // Registers by name. A register is its mask index: d0 to d7 are 0 to 7, a0 to a7 are 8 to 15, and `sp` is a7.
 ghost use Rattle.std.specs.Prelude.{◌≡◌, length};
-ghost use Rattle.names.specs.Choice.{pick};
-ghost use Rattle.names.specs.Letters.{lower, spelled};
+ghost use Rattle.names.specs.Letters.{lower};
 ghost use Rattle.names.specs.Registers.{first_of_bank, program_counter, special_of, reserved};
 ghost use Rattle.names.specs.Cases.{RegisterTold, SpecialTold, SuppressedTold};
-ghost use Rattle.names.specs.declared.registers.SpecialRegister.{SpecialRegister};
 
 use crate::letters::{eq_ignore_case, lower, spells};
-use crate::tokens::behind_first;
-
-// One more than any register.
-const NO_BANK: u8 = 16;
 
 // The last digit of a register.
 const LAST_DIGIT: u8 = b'7';
 
-#[derive(Clone, Copy)]
-pub enum Reg {
-    Is(u8),
-    Not,
-}
-
-// One of the ten special registers, 1 to 10 in the order of the Rust's `SpecialRegister`.
-#[derive(Clone, Copy)]
+// The special registers, in the order of the Rust's `SpecialRegister`.
+#[derive(Clone, Copy, PartialEq, Eq)]
 pub enum SpecialRegister {
-    Is(u8),
-    Not,
+    Sr = 1,
+    Ccr,
+    Usp,
+    Sfc,
+    Dfc,
+    Vbr,
+    Cacr,
+    Caar,
+    Msp,
+    Isp,
 }
 
-// A register written with a `z`: its mask index, or the program counter.
-#[derive(Clone, Copy)]
+// What is written with a `z`: a register, by its mask index, or the program counter.
+#[derive(Clone, Copy, PartialEq, Eq)]
 pub enum Suppressed {
     Register(u8),
     ProgramCounter,
-    Not,
 }
 
 // The first register of the bank that a letter stands for, d0 or a0.
-fn first_of_bank(letter: u8) -> u8
+fn first_of_bank(letter: u8) -> Option<u8>
     ensures { result ≡ first_of_bank (lower letter) }
 {
     match lower(letter) {
-        b'd' => 0,
-        b'a' => 8,
-        _ => NO_BANK,
+        b'd' => Some(0),
+        b'a' => Some(8),
+        _ => None,
     }
 }
 
-impl Reg {
-    // `sp`, or a bank's letter and then a digit. A digit has no capital, so it is not lowered.
-    pub fn parse(name: &[u8]) -> Reg
-        ensures { RegisterTold name.now result }
-    {
-        if name.len() != 2 {
-            return Reg::Not;
-        }
-        if spells(name, b"sp") {
-            return Reg::Is(15);
-        }
-        let first = first_of_bank(name[0]);
-        let digit = name[1];
-        if digit < b'0' {
-            return Reg::Not;
-        }
-        if LAST_DIGIT < digit {
-            return Reg::Not;
-        }
-        if first == NO_BANK {
-            return Reg::Not;
-        }
-        Reg::Is(digit - b'0' + first)
+// `sp`, or a bank's letter and then a digit. A digit has no capital, so it is not lowered.
+pub fn parse_register(name: &[u8]) -> Option<u8>
+    ensures { RegisterTold name.now result }
+{
+    let &[bank, digit] = name else {
+        return None;
+    };
+    if spells(name, b"sp") {
+        return Some(15);
     }
+    let first = first_of_bank(bank);
+    if digit < b'0' || LAST_DIGIT < digit {
+        return None;
+    }
+    Some(digit - b'0' + first?)
 }
 
+#[tactic(auto, unfolding(crate::specs::Registers::program_counter))]
 pub fn is_program_counter(name: &[u8]) -> bool
     ensures { result ≡ program_counter name.now }
 {
     spells(name, b"pc")
 }
 
-// The special register of this number, where the letters are this word.
-fn if_spelled(letters: &[u8], word: &[u8], number: u8) -> SpecialRegister
-    ensures { result ≡ pick (spelled word.now letters.now) (SpecialRegister.Is number) SpecialRegister.Not }
-{
-    if spells(letters, word) {
-        return SpecialRegister::Is(number);
-    }
-    SpecialRegister::Not
-}
-
 // A name of three letters: the first one leaves one register, or none.
-fn of_three(name: &[u8]) -> SpecialRegister
+fn of_three(name: &[u8]) -> Option<SpecialRegister>
     requires { length name.now ≡ 3 }
     ensures { result ≡ special_of name.now }
 {
-    let rest = behind_first(name);
+    let rest = &name[1..];
     match lower(name[0]) {
-        b'c' => if_spelled(rest, b"cr", 2),
-        b'u' => if_spelled(rest, b"sp", 3),
-        b's' => if_spelled(rest, b"fc", 4),
-        b'd' => if_spelled(rest, b"fc", 5),
-        b'v' => if_spelled(rest, b"br", 6),
-        b'm' => if_spelled(rest, b"sp", 9),
-        b'i' => if_spelled(rest, b"sp", 10),
-        _ => SpecialRegister::Not,
+        b'c' => spells(rest, b"cr").then_some(SpecialRegister::Ccr),
+        b'u' => spells(rest, b"sp").then_some(SpecialRegister::Usp),
+        b's' => spells(rest, b"fc").then_some(SpecialRegister::Sfc),
+        b'd' => spells(rest, b"fc").then_some(SpecialRegister::Dfc),
+        b'v' => spells(rest, b"br").then_some(SpecialRegister::Vbr),
+        b'm' => spells(rest, b"sp").then_some(SpecialRegister::Msp),
+        b'i' => spells(rest, b"sp").then_some(SpecialRegister::Isp),
+        _ => None,
     }
-}
-
-// A name of four letters: `cacr` or `caar`, which the third one tells apart.
-fn of_four(name: &[u8]) -> SpecialRegister
-    requires { length name.now ≡ 4 }
-    ensures { result ≡ special_of name.now }
-{
-    if !eq_ignore_case(name[0], b'c') {
-        return SpecialRegister::Not;
-    }
-    if !eq_ignore_case(name[1], b'a') {
-        return SpecialRegister::Not;
-    }
-    if !eq_ignore_case(name[3], b'r') {
-        return SpecialRegister::Not;
-    }
-    if eq_ignore_case(name[2], b'c') {
-        return SpecialRegister::Is(7);
-    }
-    if eq_ignore_case(name[2], b'a') {
-        return SpecialRegister::Is(8);
-    }
-    SpecialRegister::Not
 }
 
 // A special register is told by the name's length, then letter by letter in place: no more than four are looked at.
-fn by_length(name: &[u8]) -> SpecialRegister
+fn by_length(name: &[u8]) -> Option<SpecialRegister>
     ensures { result ≡ special_of name.now }
 {
     match name.len() {
-        2 => if_spelled(name, b"sr", 1),
+        2 => spells(name, b"sr").then_some(SpecialRegister::Sr),
         3 => of_three(name),
-        4 => of_four(name),
-        _ => SpecialRegister::Not,
+        4 if spells(name, b"cacr") => Some(SpecialRegister::Cacr),
+        4 => spells(name, b"caar").then_some(SpecialRegister::Caar),
+        _ => None,
     }
 }
 
 impl SpecialRegister {
     // Most names are labels, which are longer: they are left without a call.
-    pub fn parse(name: &[u8]) -> SpecialRegister
+    pub fn parse(name: &[u8]) -> Option<SpecialRegister>
         ensures { SpecialTold name.now result }
     {
         if 4 < name.len() {
-            return SpecialRegister::Not;
+            return None;
         }
         by_length(name)
     }
 }
 
-pub fn suppressed_register(name: &[u8]) -> Suppressed
+pub fn suppressed_register(name: &[u8]) -> Option<Suppressed>
     ensures { SuppressedTold name.now result }
 {
-    if name.len() == 0 {
-        return Suppressed::Not;
+    let [letter, rest @ ..] = name else {
+        return None;
+    };
+    if !eq_ignore_case(*letter, b'z') {
+        return None;
     }
-    if !eq_ignore_case(name[0], b'z') {
-        return Suppressed::Not;
-    }
-    let rest = behind_first(name);
     if is_program_counter(rest) {
-        return Suppressed::ProgramCounter;
+        return Some(Suppressed::ProgramCounter);
     }
-    let register = Reg::parse(rest);
-    match register {
-        Reg::Is(r) => Suppressed::Register(r),
-        Reg::Not => Suppressed::Not,
-    }
+    Some(Suppressed::Register(parse_register(rest)?))
 }
 
 // Whether a name is one of the 28 that no symbol may have. None has more than four letters, so a label is mostly left at once.
@@ -181,17 +131,6 @@ pub fn is_reserved_name(name: &[u8]) -> bool
     if 4 < name.len() {
         return false;
     }
-    let register = Reg::parse(name);
-    if let Reg::Is(_) = register {
-        return true;
-    }
-    if is_program_counter(name) {
-        return true;
-    }
-    // not `parse`: the length is known
-    let special = by_length(name);
-    match special {
-        SpecialRegister::Is(_) => true,
-        SpecialRegister::Not => false,
-    }
+    // not `SpecialRegister::parse`: the length is known
+    parse_register(name).is_some() || is_program_counter(name) || by_length(name).is_some()
 }

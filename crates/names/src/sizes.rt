@@ -6,14 +6,17 @@ ghost use Rattle.names.specs.Cases.{SizeTold};
 use crate::letters::lower;
 use crate::tokens::behind_first;
 
-// A size, 1 to 4 in the order of the Rust's `SizeSuffix`: byte, word, long, short.
-#[derive(Clone, Copy)]
+// The sizes, in the order of the Rust's `SizeSuffix`.
+#[derive(Clone, Copy, PartialEq, Eq)]
 pub enum SizeSuffix {
-    Is(u8),
-    Not,
+    Byte = 1,
+    Word,
+    Long,
+    Short,
 }
 
 // The run of a size suffix: its text behind the first byte, whatever that is.
+#[tactic(auto, unfolding(crate::specs::Sizes::run_of))]
 pub fn suffix_run(suffix: &[u8]) -> &[u8]
     ensures { result.now ≡ run_of suffix.now }
 {
@@ -21,19 +24,18 @@ pub fn suffix_run(suffix: &[u8]) -> &[u8]
 }
 
 impl SizeSuffix {
-    pub fn from_run(run: &[u8]) -> SizeSuffix
+    pub fn from_run(run: &[u8]) -> Option<SizeSuffix>
         ensures { SizeTold run.now result }
     {
-        if run.len() != 1 {
-            return SizeSuffix::Not;
-        }
-        let letter = lower(run[0]);
-        match letter {
-            98 => SizeSuffix::Is(1),
-            119 => SizeSuffix::Is(2),
-            108 => SizeSuffix::Is(3),
-            115 => SizeSuffix::Is(4),
-            _ => SizeSuffix::Not,
+        let &[letter] = run else {
+            return None;
+        };
+        match lower(letter) {
+            b'b' => Some(SizeSuffix::Byte),
+            b'w' => Some(SizeSuffix::Word),
+            b'l' => Some(SizeSuffix::Long),
+            b's' => Some(SizeSuffix::Short),
+            _ => None,
         }
     }
 }

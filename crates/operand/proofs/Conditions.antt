@@ -1,6 +1,6 @@
 -- The buyer's conditions, as theorems over the definition. Words in quotes are document 01's; what the theorems lean on is in Readings.antt and Fuel.antt.
 -- Assumes nothing.
-use Rattle.std.specs.Prelude.{◌≡◌, refl, Bool, true, false, not, List, [], ◌∷◌, ℕ, suc, ◌+◌, ◌*◌, ◌/◌, ◌%◌, ◌≤◌, ◌<◌, eqb, ltb, length, take}
+use Rattle.std.specs.Prelude.{◌≡◌, refl, Bool, true, false, not, List, [], ◌∷◌, ℕ, zero, suc, ◌+◌, ◌*◌, ◌/◌, ◌%◌, ◌≤◌, ◌<◌, eqb, ltb, length, take, Option, Some, None}
 use Rattle.std.proofs.Common.{◌∙◌, ap, ap₂, arith, take_at, length-take-le}
 use borrow.Author.Tests.{ltb-false, not-false}
 use Rattle.names.specs.Laws.{either_first, either_second}
@@ -14,7 +14,7 @@ use Rattle.expressions.specs.Reader.{Reading, run}
 use Rattle.expressions.specs.Expressions.{fuel, parse_prefix, parse_expression_from}
 use Rattle.expressions.specs.Laws.{Every, Fine}
 use Rattle.expressions.specs.Fuel.{turn, fuel_enough, climb_equation}
-use Rattle.operand.specs.Operands.{RegisterListItem, Operand, Maybe, some, none}
+use Rattle.operand.specs.Operands.{RegisterListItem, Operand}
 use Rattle.operand.specs.declared.forms.Register.{Register}
 use Rattle.expressions.specs.declared.reading.Setting.{Setting}
 use Rattle.operand.specs.Operand.{◌>>=?◌, reading_of, list_item, next_item, list_loop, parse_register_list}
@@ -23,7 +23,7 @@ use Rattle.operand.specs.Layout.{nodes_laid, diagnostics_laid}
 use Rattle.operand.specs.RefusalNumbers
 use Rattle.operand.specs.declared.layouts.Layout.{Layout}
 use Rattle.operand.specs.Layouts.{token_size, node_size, diagnostic_size, longest_line, most_tokens, node_store, free_records, numbers_count, nodes_within, free_records_lem, records_within, most_tokens_lem}
-use Rattle.operand.specs.Entry.{Input, tokens_of, place_of, highest_limit, good_tokens, Refusal, line_and_list, start_stores_and_limit, refusals, first_of, refusal, reading_at, refused, diagnostics_after, outcome_of, outcome}
+use Rattle.operand.specs.Entry.{Input, tokens_of, place_of, highest_limit, good_tokens, Check, line_and_list, start_stores_and_limit, refusals, first_of, refusal, reading_at, refused, diagnostics_after, outcome_of, outcome}
 use Rattle.operand.proofs.Readings as R
 use Rattle.operand.specs.Readings.{gap}
 use Rattle.operand.specs.Fuel.{list_equation}
@@ -32,11 +32,11 @@ use Rattle.operand.specs.Conditions.{Valid, Refuses, early, late, record_m, Same
 -- ---- the numbers of the table
 
 -- something of each refusal's number
-abbrev Each : (ℕ → Type 0) → List Refusal → Type 0
+abbrev Each : (ℕ → Type 0) → List Check → Type 0
 Each P [] = Unit {0}
 Each P (r ∷ rs) = P r.0 × Each P rs
 
-first_of_lem : (P : ℕ → Type 0) (rs : List Refusal) → Each P rs → (first_of rs ≡ 0 → ⊥) → P (first_of rs)
+first_of_lem : (P : ℕ → Type 0) (rs : List Check) → Each P rs → (first_of rs ≡ 0 → ⊥) → P (first_of rs)
 unfolding first_of
 first_of_lem P [] e h = absurd (h refl)
 first_of_lem P ((n, true) ∷ rs) e h = e.0
@@ -46,6 +46,23 @@ first_of_lem P ((n, false) ∷ rs) e h = first_of_lem P rs e.1 h
 pub refuses_bounds : {n : ℕ} → Refuses n → (1 ≤ n) × (n ≤ RefusalNumbers.bad_limit)
 refuses_bounds (early h) = omega (arith, h)
 refuses_bounds (late e) = omega (arith, e)
+
+-- each is the number of a refusal
+pub refuses_numbered : {n : ℕ} → Refuses n → RefusalNumbers.number (RefusalNumbers.numbered n) ≡ n
+unfolding RefusalNumbers.numbered
+refuses_numbered {n} h = go n h
+  where
+    go : (n : ℕ) → Refuses n → RefusalNumbers.number (RefusalNumbers.numbered n) ≡ n
+    go n (late e) = rw e refl
+    go zero (early h) = absurd (omega (arith, h))
+    go (suc zero) (early h) = refl
+    go (suc (suc zero)) (early h) = refl
+    go (suc (suc (suc zero))) (early h) = refl
+    go (suc (suc (suc (suc zero)))) (early h) = refl
+    go (suc (suc (suc (suc (suc zero))))) (early h) = refl
+    go (suc (suc (suc (suc (suc (suc zero)))))) (early h) = refl
+    go (suc (suc (suc (suc (suc (suc (suc zero))))))) (early h) = refl
+    go (suc (suc (suc (suc (suc (suc (suc (suc n)))))))) (early h) = absurd (omega (arith, h))
 
 numbered : (a : Input) → Each Refuses (refusals a)
 unfolding refusals line_and_list start_stores_and_limit
@@ -58,11 +75,11 @@ refusal_number a h = first_of_lem Refuses (refusals a) (numbered a) h
 
 -- ---- what a valid input has
 
-abbrev AllFalse : List Refusal → Type 0
+abbrev AllFalse : List Check → Type 0
 AllFalse [] = Unit {0}
 AllFalse (r ∷ rs) = (r.1 ≡ false) × AllFalse rs
 
-none_holds : (rs : List Refusal) → Each Refuses rs → first_of rs ≡ 0 → AllFalse rs
+none_holds : (rs : List Check) → Each Refuses rs → first_of rs ≡ 0 → AllFalse rs
 unfolding first_of
 none_holds [] e h = tt
 none_holds ((n, true) ∷ rs) e h = absurd (omega (arith, refuses_bounds e.0))
@@ -106,7 +123,7 @@ module _ (a : Input) (v : Valid a) where
       (ltb-false a.limit 1 (either_first (ltb a.limit 1) _ h), ltb-false 128 a.limit (either_second (ltb a.limit 1) _ h))
 
 module _ (a : Input) (lim : 1 ≤ a.limit) where
-  abbrev pub answered : Reading (Maybe Operand)
+  abbrev pub answered : Reading (Option Operand)
   answered = reading_at a
 
   -- ---- condition 1
@@ -121,7 +138,7 @@ module _ (a : Input) (lim : 1 ≤ a.limit) where
   -- no operand is never silent, unless the start is the end or an Error token stood from there on
   pub never_silent : (k : Token) (x : List ℕ) → place_of a a.start ≡ stands k x
       → ((j : ℕ) (t : Token) (y : List ℕ) → a.start ≤ j → place_of a j ≡ stands t y → eqb t.kind Kinds.error ≡ false)
-      → answered.value ≡ none → 0 < length answered.raised
+      → answered.value ≡ None → 0 < length answered.raised
   never_silent k x there quiet e = R.never_silent a.limit lim a.mark (place_of a) a.start k x there quiet e
 
   -- "A reading adds at most twice its consumed tokens plus one." (The number is at most the consumed tokens plus one.)
@@ -144,7 +161,7 @@ module _ (a : Input) (lim : 1 ≤ a.limit) where
   pub plus_before_cursor : Every (λ d. Fine (place_of a) d answered.cursor) answered.raised
   plus_before_cursor = R.plus_before a.limit lim a.mark (place_of a) a.start
 
-same_answer : (w : Layout) {r q : Reading (Maybe Operand)} → r ≡ q → SameAnswer w r q
+same_answer : (w : Layout) {r q : Reading (Option Operand)} → r ≡ q → SameAnswer w r q
 same_answer w e = record {
   operand = ap (λ r. record_m w r.value) e;
   cursor = ap (λ r. r.cursor) e;
@@ -166,7 +183,7 @@ same_reading a b lim h =
 pub local : (a b : Input) → Valid a → Valid b → AlikeThrough a b ((reading_at a).cursor + gap (reading_at a).value) → (w : Layout) → SameAnswer w (reading_at a) (reading_at b)
 local a b va vb h w = same_answer w (same_reading a b (valid_limit a va).0 h)
 
-but_plus : {w : Layout} (p : Place) {r q : Reading (Maybe Operand)} → SameAnswer w r q → SameAnswerButPlus w p r q
+but_plus : {w : Layout} (p : Place) {r q : Reading (Option Operand)} → SameAnswer w r q → SameAnswerButPlus w p r q
 but_plus {w = w} p h = record {
   operand = h.operand;
   cursor = h.cursor;
@@ -177,10 +194,10 @@ but_plus {w = w} p h = record {
 }
 
 -- a reading looks at most one place past its cursor
-gap_one : (v : Maybe Operand) → gap v ≤ 1
+gap_one : (v : Option Operand) → gap v ≤ 1
 unfolding gap
-gap_one (some x) = omega arith
-gap_one none = omega arith
+gap_one (Some x) = omega arith
+gap_one None = omega arith
 
 -- what two inputs have in common through a place they have through every earlier one
 pub alike_before : {a b : Input} {m n : ℕ} → m ≤ n → AlikeThrough a b n → AlikeThrough a b m
@@ -197,10 +214,10 @@ two_readings a b va vb w = (
   λ h. local a b va vb (alike_before (omega (arith, gap_one (reading_at a).value)) h) w,
 )
 
-further_enough : (limit : ℕ) (v : Maybe Operand) → gap v ≤ further limit v
+further_enough : (limit : ℕ) (v : Option Operand) → gap v ≤ further limit v
 unfolding gap further
-further_enough limit (some x) = omega arith
-further_enough limit none = go (eqb limit 1)
+further_enough limit (Some x) = omega arith
+further_enough limit None = go (eqb limit 1)
   where
     go : (b : Bool) → 1 ≤ pick b 2 1
     go true = omega arith

@@ -9,14 +9,14 @@ pub mod Full
 pub mod Memory
 pub mod Absolutes
 pub mod Parentheses
-use Rattle.std.specs.Prelude.{◌≡◌, true, List, ℕ, ◌+◌, ◌≤◌, max, eqb}
+use Rattle.std.specs.Prelude.{◌≡◌, true, List, ℕ, ◌+◌, ◌≤◌, max, eqb, Some, None}
 use native.Mathlib.Omega.{arith}
 use Rattle.names.specs.Kinds
 use Rattle.names.specs.Places.{Place, stands}
 use Rattle.names.specs.declared.tokens.Token.{Token}
 use Rattle.expressions.specs.Laws.{All, Law, call}
 use Rattle.expressions.proofs.Costs.{Clean}
-use Rattle.operand.specs.Operands.{Operand, some, none}
+use Rattle.operand.specs.Operands.{Operand}
 use Rattle.operand.specs.Operand
 use Rattle.expressions.specs.declared.reading.Setting.{Setting}
 use Rattle.operand.specs.Records.{size_o}
@@ -49,7 +49,7 @@ module _ (at : ℕ → Place) (w : ℕ) (clean : Clean at w) where
   unfolding All Operand.name_or_expression size_o
   name_cost z i l d r = record {
     all = (
-      (λ t x h p. call (register_operand_cost at w clean z _ _ _ _ _) λ j e s. elim [ some x ↦ omega arith | none ↦ omega arith ]),
+      (λ t x h p. call (register_operand_cost at w clean z _ _ _ _ _) λ j e s. elim [ Some x ↦ omega arith | None ↦ omega arith ]),
       λ p. ((λ t x h p₂. omega arith), λ p₂. (expression_operand_cost at w clean z _ _ _ _).all),
     );
   }
@@ -62,12 +62,12 @@ module _ (at : ℕ → Place) (w : ℕ) (clean : Clean at w) where
         all = (
           (λ k x h p. omega arith),
           λ p. (
-            (λ k x h p₂. call (immediate_cost at w clean z k _ _ _ _) λ j e s. elim [ some x ↦ omega arith | none ↦ omega arith ]),
+            (λ k x h p₂. call (immediate_cost at w clean z k _ _ _ _) λ j e s. elim [ Some x ↦ omega arith | None ↦ omega arith ]),
             λ p₂. (
-              (λ k x h p₃. call (parenthesised_operand_cost at w clean z k _ _ _ _) λ j e s. elim [ some x ↦ omega arith | none ↦ omega arith ]),
+              (λ k x h p₃. call (parenthesised_operand_cost at w clean z k _ _ _ _) λ j e s. elim [ Some x ↦ omega arith | None ↦ omega arith ]),
               λ p₃. (
                 (λ k x h p₄. (minus_cost z k x i l d (max (max r (i + 0)) (i + 0)) lim (let e : i + 0 ≡ i = omega arith in rw e at h) p₄ (omega arith)).all),
-                λ p₄. call (name_cost z _ _ _ _) λ j e s. elim [ some x ↦ omega arith | none ↦ omega arith ],
+                λ p₄. call (name_cost z _ _ _ _) λ j e s. elim [ Some x ↦ omega arith | None ↦ omega arith ],
               ),
             ),
           ),

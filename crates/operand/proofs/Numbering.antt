@@ -1,10 +1,10 @@
 -- The numbers of nodes: a child's is below its parent's, and all are below the nodes used. So in a valid input each is written whole (`Layouts.number_read`).
 -- Assumes nothing.
-use Rattle.std.specs.Prelude.{ℕ, ◌+◌, ◌<◌, ◌≤◌}
+use Rattle.std.specs.Prelude.{ℕ, ◌+◌, ◌<◌, ◌≤◌, Option, Some, None}
 use Rattle.std.proofs.Common.{arith}
 use Rattle.expressions.specs.Trees.{Expr, number, character_literal, symbol, current_address, unary, binary, size}
 use Rattle.expressions.proofs.Costs.{size_pos}
-use Rattle.operand.specs.Operands.{Displacement, displaced, undisplaced, Operand, Maybe, some, none}
+use Rattle.operand.specs.Operands.{Displacement, displaced, undisplaced, Operand}
 use Rattle.operand.specs.Operands as O
 use Rattle.operand.specs.Records.{size_d, size_o, size_m}
 use Rattle.operand.specs.Forms.{sized_of, record_of}
@@ -59,6 +59,6 @@ pub numbers_written : (a : Input) → Valid a → AnswerIn (most_tokens a.layout
 unfolding size_m
 numbers_written a v = let lim = (valid_limit a v).0 in go (reading_at a).value (omega (arith, nodes_bound a lim, (cursor_bounds a lim v).1, (valid_bounds a v).0))
   where
-    go : (z : Maybe Operand) → size_m z ≤ most_tokens a.layout → AnswerIn (most_tokens a.layout) z
-    go (some x) h = record_in _ x (some_tokens a.layout) h
-    go none h = tt
+    go : (z : Option Operand) → size_m z ≤ most_tokens a.layout → AnswerIn (most_tokens a.layout) z
+    go (Some x) h = record_in _ x (some_tokens a.layout) h
+    go None h = tt

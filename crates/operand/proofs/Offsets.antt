@@ -2,20 +2,19 @@
 -- Assumes nothing.
 pub mod Operands
 pub mod Readers
-use Rattle.std.specs.Prelude.{◌≡◌, refl, Bool, true, false, List, [], ◌∷◌, ℕ, zero, suc, ◌+◌, ◌*◌, ◌≤◌, ◌<◌, leb, length, get_or}
-use Rattle.std.proofs.Common.{arith, leb-true, leb-false}
+use Rattle.std.specs.Prelude.{◌≡◌, refl, Bool, true, false, List, [], ◌∷◌, ℕ, zero, suc, ◌+◌, ◌*◌, ◌≤◌, ◌<◌, leb, length, get_or, Option}
+use Rattle.std.proofs.Common.{Some, None, arith, leb-true, leb-false}
 use Rattle.names.specs.Choice.{pick}
 use Rattle.names.specs.Laws.{both_first, both_second}
 use Rattle.names.specs.Tokens.{count, token_from, token_at, detail_defined}
 use Rattle.names.specs.Places.{Place, stands, placed, place}
 use Rattle.names.specs.declared.tokens.Token.{Token}
-use Rattle.names.specs.declared.tokens.Peeked.TheVariants.{Is, End}
 use Rattle.records.specs.Spans.{span_of}
 use Rattle.records.specs.declared.spans.Span.{Span}
 use Rattle.expressions.specs.Reader.{Reading}
 use Rattle.expressions.specs.Laws.{Every}
 use Rattle.expressions.proofs.Offsets.{SpanIn, DiagnosticIn, TokensIn, Fits, answers, sees}
-use Rattle.operand.specs.Operands.{Operand, Maybe}
+use Rattle.operand.specs.Operands.{Operand}
 use Rattle.operand.specs.Operand.{parse_operand, reading_of}
 use Rattle.operand.specs.declared.layouts.Layout.{Layout}
 use Rattle.operand.specs.Layouts.{number, number_at, number_read, longest_line, numbers_fit}
@@ -28,7 +27,7 @@ use Readers.{operand_from_fits}
 -- ---- over whatever places
 
 -- every offset of the operand, and of each diagnostic
-pub record ReadingIn (m : ℕ) (r : Reading (Maybe Operand)) : Type 0 where
+pub record ReadingIn (m : ℕ) (r : Reading (Option Operand)) : Type 0 where
   pub value : MaybeIn (OperandIn m) r.value
   pub raised : Every (DiagnosticIn m) r.raised
 
@@ -65,7 +64,7 @@ pub tokens_in : (m : ℕ) (L T : List ℕ) → length L ≤ m → good_tokens L 
 unfolding place placed token_at
 tokens_in m L T long good = record { tokens = λ j k x h. go j k x (leb (count T) j) refl h }
   where
-    go : (j : ℕ) (k : Token) (x : List ℕ) (b : Bool) → leb (count T) j ≡ b → placed L (pick b End (Is (token_from T j))) ≡ stands k x → SpanIn m (span_of k)
+    go : (j : ℕ) (k : Token) (x : List ℕ) (b : Bool) → leb (count T) j ≡ b → placed L (pick b None (Some (token_from T j))) ≡ stands k x → SpanIn m (span_of k)
     go j k x true q h = let z : ◌≡◌ {A = ℕ} 0 1 = cc in absurd (omega arith)
     go j k x false q h =
         let e : token_from T j ≡ k = cc in

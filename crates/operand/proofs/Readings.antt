@@ -2,7 +2,7 @@
 -- Assumes nothing.
 use Rattle.std.proofs.Math.Path.{◌≡◌, refl}
 use Rattle.std.proofs.Common.{sym, ◌∙◌, ltb-false, le-ltb}
-use Rattle.std.specs.Prelude.{Bool, ℕ, ◌+◌, ◌≤◌, ◌<◌, max, length}
+use Rattle.std.specs.Prelude.{Bool, ℕ, ◌+◌, ◌≤◌, ◌<◌, max, length, Option, Some, None}
 use Rattle.std.proofs.Math.Bool.{true, false}
 use mathlib.Core.List.{List, []}
 use native.Mathlib.Omega.{arith}
@@ -15,21 +15,21 @@ use Rattle.expressions.specs.Reader.{answer, any, reading, run}
 use Rattle.expressions.specs.Laws as L
 use Rattle.expressions.specs.Laws.{holds, All, Law, call, law_run, Every, Fine, all_fine, met_yes, met_no}
 use Rattle.expressions.proofs.Costs.{Clean, all_clean, true_false}
-use Rattle.operand.specs.Operands.{Operand, Maybe, some, none}
+use Rattle.operand.specs.Operands.{Operand}
 use Rattle.operand.specs.Operand.{setting_from, parse_operand, operand_from, reading_of}
 use Rattle.operand.specs.Records.{size_m}
 use Rattle.operand.proofs.Costs.{operand_from_cost}
 use Rattle.operand.specs.Readings.{gap, from}
 
 module _ (limit : ℕ) (lim : 1 ≤ limit) (mark : ℕ) (at : ℕ → Place) (i : ℕ) where
-  abbrev Whole : ℕ → ℕ → ℕ → Maybe Operand → Type 0
+  abbrev Whole : ℕ → ℕ → ℕ → Option Operand → Type 0
   Whole j e r v = (size_m v + i ≤ j) × (e + i ≤ j + 1) × (r ≤ j + gap v)
 
   whole : Law (parse_operand limit mark) at Whole i 0 0 i
   unfolding All parse_operand size_m gap
   whole = record {
     all = (
-      (λ k x h q. call (operand_from_cost at 0 (all_clean at) _ i 0 0 (max i (i + 0)) lim (omega arith)) λ j e r. elim [ some x ↦ omega arith | none ↦ omega arith ]),
+      (λ k x h q. call (operand_from_cost at 0 (all_clean at) _ i 0 0 (max i (i + 0)) lim (omega arith)) λ j e r. elim [ Some x ↦ omega arith | None ↦ omega arith ]),
       λ n. omega arith,
     );
   }
@@ -68,14 +68,14 @@ unfolding from
 from_same i at j h = rw (le-ltb j i h)
 
 -- at the end there is no operand
-pub ended : (limit mark : ℕ) (at : ℕ → Place) (i : ℕ) → at i ≡ nothing → reading_of limit mark at i ≡ reading i 0 [] none
+pub ended : (limit mark : ℕ) (at : ℕ → Place) (i : ℕ) → at i ≡ nothing → reading_of limit mark at i ≡ reading i 0 [] None
 unfolding reading_of run parse_operand holds
-ended limit mark at i there = let e : i + 0 ≡ i = omega arith in met_no any (λ k x. run (operand_from (setting_from limit mark k)) at i 0) (λ u. run (answer none) at i 0) (at (i + 0)) (rw (e, there))
+ended limit mark at i there = let e : i + 0 ≡ i = omega arith in met_no any (λ k x. run (operand_from (setting_from limit mark k)) at i 0) (λ u. run (answer None) at i 0) (at (i + 0)) (rw (e, there))
 
 -- from a token on, the reading is that of `operand_from`
 pub started : (limit mark : ℕ) (at : ℕ → Place) (i : ℕ) (k : Token) (x : List ℕ) → at i ≡ stands k x → reading_of limit mark at i ≡ run (operand_from (setting_from limit mark k)) at i 0
 unfolding reading_of run parse_operand
-started limit mark at i k x there = let e : i + 0 ≡ i = omega arith in met_yes any (λ k x. run (operand_from (setting_from limit mark k)) at i 0) (λ u. run (answer none) at i 0) (at (i + 0)) k x (rw e there) refl
+started limit mark at i k x there = let e : i + 0 ≡ i = omega arith in met_yes any (λ k x. run (operand_from (setting_from limit mark k)) at i 0) (λ u. run (answer None) at i 0) (at (i + 0)) k x (rw e there) refl
 
 module _ (limit : ℕ) (lim : 1 ≤ limit) (mark : ℕ) (at : ℕ → Place) (i : ℕ) (k : Token) (x : List ℕ) (there : at i ≡ stands k x)
     (quiet : (j : ℕ) (t : Token) (y : List ℕ) → i ≤ j → at j ≡ stands t y → eqb t.kind Kinds.error ≡ false) where
@@ -92,7 +92,7 @@ module _ (limit : ℕ) (lim : 1 ≤ limit) (mark : ℕ) (at : ℕ → Place) (i 
       local limit lim mark at i (from i at) (λ j a b. from_same i at j a)
       ∙ started limit mark (from i at) i k x (sym (from_same i at i (omega arith)) ∙ there)
 
-  pub never_silent : (reading_of limit mark at i).value ≡ none → 0 < length (reading_of limit mark at i).raised
+  pub never_silent : (reading_of limit mark at i).value ≡ None → 0 < length (reading_of limit mark at i).raised
   never_silent e =
       let l = law_run (operand_from_cost (from i at) 1 clean_1 (setting_from limit mark k) i 0 0 i lim (omega arith)) in
       let n = rw same_from at e in

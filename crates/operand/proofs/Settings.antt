@@ -1,6 +1,6 @@
 -- Two settings that are read alike: marks that agree wherever a token stands, and limits at which an expression is read alike. Marks.antt and Limits.antt use it.
 -- Assumes nothing.
-use Rattle.std.specs.Prelude.{◌≡◌, Bool, not, eqb}
+use Rattle.std.specs.Prelude.{◌≡◌, Bool, not, eqb, Option, Some, None}
 use Rattle.std.proofs.Math.Path.{refl, ap}
 use Rattle.std.proofs.Common.{sym, ◌∙◌, arith}
 use mathlib.Core.List.{List, [], ◌∷◌, ◌++◌}
@@ -18,11 +18,10 @@ use Rattle.expressions.specs.Reader.{Reading, Reader, bind, ◌>>=◌}
 use Rattle.expressions.specs.Expressions.{Term, read, reported, absent, Suffix, suffixed, bare, parse_expression, expression_from}
 use Rattle.expressions.specs.Alike.{Alike, same_alike, path_alike, bind_alike, here_alike, bump_same, peek_same, bump_alike, peek_alike}
 use Rattle.expressions.specs.declared.reading.Setting.{Setting}
-use Rattle.operand.specs.Operands.{RegisterListItem, Displacement, displaced, undisplaced, Operand, Maybe, some, none}
+use Rattle.operand.specs.Operands.{RegisterListItem, Displacement, displaced, undisplaced, Operand}
 use Rattle.operand.specs.declared.forms.Register.{Register}
 use Rattle.operand.specs.declared.forms.IndexRegister.{IndexRegister}
 use Rattle.operand.specs.declared.forms.BaseRegister.{BaseRegister}
-use Rattle.operand.specs.declared.forms.Index.{Index}
 use Rattle.operand.specs.Operand
 use Rattle.operand.specs.Operand.{◌>>=?◌}
 use Rattle.operand.specs.Entry.{Input, refusal, reading_at, answer_of, nodes_after, diagnostics_after, outcome_of, outcome}
@@ -30,17 +29,17 @@ use Rattle.operand.specs.Settings.{with_setting}
 
 -- ---- what goes on with an answer: with what was read, a size, an expression
 
-try_alike : {P : Diagnostic → Type 0} {A B : Type 0} {at : ℕ → Place} {i l : ℕ} {p q : Reader (Maybe B)} {f g : B → Reader (Maybe A)}
+try_alike : {P : Diagnostic → Type 0} {A B : Type 0} {at : ℕ → Place} {i l : ℕ} {p q : Reader (Option B)} {f g : B → Reader (Option A)}
     → Alike P at i l p q → ((j m : ℕ) (b : B) → Alike P at j m (f b) (g b)) → Alike P at i l (p >>=? f) (q >>=? g)
 unfolding Operand.or_none
-try_alike h k = bind_alike h λ j m. elim [ some b ↦ λ e. k j m b | none ↦ λ e. same_alike ]
+try_alike h k = bind_alike h λ j m. elim [ Some b ↦ λ e. k j m b | None ↦ λ e. same_alike ]
 
 size_alike : {P : Diagnostic → Type 0} {A : Type 0} {at : ℕ → Place} {i l : ℕ} {p : Reader Suffix} {f g : Suffix → Reader A}
     → ((n : ℕ) (w : Span) → f (suffixed n w) ≡ g (suffixed n w)) → f bare ≡ g bare
     → Alike P at i l (bind p f) (bind p g)
 size_alike h z = bind_alike same_alike λ j m. elim [ suffixed n w ↦ λ e. path_alike (h n w) | bare ↦ λ e. path_alike z ]
 
-expression_alike : {P : Diagnostic → Type 0} {A : Type 0} {at : ℕ → Place} {i l : ℕ} {r r' : Reader Term} {p q : Reader (Maybe A)} {f g : Expr → Reader (Maybe A)}
+expression_alike : {P : Diagnostic → Type 0} {A : Type 0} {at : ℕ → Place} {i l : ℕ} {r r' : Reader Term} {p q : Reader (Option A)} {f g : Expr → Reader (Option A)}
     → Alike P at i l r r' → ((j m : ℕ) (e : Expr) → Alike P at j m (f e) (g e)) → p ≡ q → Alike P at i l (r >>= Operand.or_absent p f) (r' >>= Operand.or_absent q g)
 unfolding Operand.or_absent
 expression_alike t h z = bind_alike t λ j m. elim [ read e ↦ λ b. h j m e | reported ↦ λ b. same_alike | absent ↦ λ b. path_alike z ]
@@ -59,7 +58,7 @@ module _ (P : Diagnostic → Type 0) (at : ℕ → Place) (limit limit' start m 
 
   -- ---- the tests
 
-  unmarked_same : (i : ℕ) (f : Suppressed → Bool) (k : Token) (x : List ℕ) → at i ≡ stands k x → Operand.unmarked s i f k x ≡ Operand.unmarked t i f k x
+  unmarked_same : (i : ℕ) (f : Option Suppressed → Bool) (k : Token) (x : List ℕ) → at i ≡ stands k x → Operand.unmarked s i f k x ≡ Operand.unmarked t i f k x
   unfolding Operand.unmarked
   unmarked_same i f k x h = ap (λ b. both (not b) (Operand.name (λ y. f (suppressed_of y)) k x)) (agree i k x h)
 
@@ -181,15 +180,15 @@ module _ (P : Diagnostic → Type 0) (at : ℕ → Place) (limit limit' start m 
       (peek_same 0 (λ k x h. base_or_index_same i k x (sym (at_zero i) ∙ h)) (λ k x. with_registers_lem _ i l)
       (try_alike (sized_displacement i l) λ j m d. bump_alike (λ c x e q. with_registers_lem d _ _) same_alike)))
 
-  outer_displacement_lem : (x : Index) (z i l : ℕ) → Alike P at i l (Operand.outer_displacement s x z) (Operand.outer_displacement t x z)
+  outer_displacement_lem : (x : Option IndexRegister) (z i l : ℕ) → Alike P at i l (Operand.outer_displacement s x z) (Operand.outer_displacement t x z)
   outer_displacement_lem x z i l = bind_alike (sized_displacement i l) λ j m d h. same_alike
 
-  outer_index_lem : (x : Index) (i l : ℕ) → Alike P at i l (Operand.outer_index s x) (Operand.outer_index t x)
+  outer_index_lem : (x : Option IndexRegister) (i l : ℕ) → Alike P at i l (Operand.outer_index s x) (Operand.outer_index t x)
   unfolding Operand.outer_index Operand.outer_indexed Operand.stepped_over Operand.malformed
-  outer_index_lem (Index.Indexed x) i l = same_alike
-  outer_index_lem Index.Unindexed i l = try_alike (index_register_lem Shapes.memory_indirect i l) λ j m x. bump_alike (λ c y e q. outer_displacement_lem _ 2 _ _) same_alike
+  outer_index_lem (Some x) i l = same_alike
+  outer_index_lem None i l = try_alike (index_register_lem Shapes.memory_indirect i l) λ j m x. bump_alike (λ c y e q. outer_displacement_lem _ 2 _ _) same_alike
 
-  outer : (x : Index) (i l : ℕ) → Alike P at i l (Operand.parse_outer s x) (Operand.parse_outer t x)
+  outer : (x : Option IndexRegister) (i l : ℕ) → Alike P at i l (Operand.parse_outer s x) (Operand.parse_outer t x)
   unfolding Operand.parse_outer
   outer x i l =
       bump_alike (λ c y e q. here_alike (peek_same 0 (λ k z h. index_same (i + 1) k z (sym (at_zero (i + 1)) ∙ h)) (λ k z. outer_index_lem x _ _) (outer_displacement_lem x 1 _ _)))
@@ -206,7 +205,7 @@ module _ (P : Diagnostic → Type 0) (at : ℕ → Place) (limit limit' start m 
   unfolding Operand.finish_expression_operand Operand.absolute_size
   finish e i l = size_alike (λ z w. refl) refl
 
-  tail : (e : Expr) (i l : ℕ) (f g : Unit {0} → Reader (Maybe Operand)) → Alike P at i l (f tt) (g tt)
+  tail : (e : Expr) (i l : ℕ) (f g : Unit {0} → Reader (Option Operand)) → Alike P at i l (f tt) (g tt)
       → Alike P at i l (Operand.displacement_tail s e f) (Operand.displacement_tail t e g)
   unfolding Operand.displacement_tail
   tail e i l f g h = bump_alike (λ k x c q. base_and_index_lem k _ _ _) h
@@ -269,5 +268,5 @@ outcome_alike a mark limit e f = go (refusal a) ∙ ap (outcome_of (with_setting
   where
     go : (k : ℕ) → outcome_of a k ≡ outcome_of (with_setting a mark limit) k
     go zero =
-        ap (λ (r : Reading (Maybe Operand)). record { answer = answer_of a.layout r r.value; nodes = nodes_after a.layout r.value a.nodes; diagnostics = diagnostics_after a.layout r a.used a.diagnostics }) f
+        ap (λ (r : Reading (Option Operand)). record { answer = answer_of a.layout r r.value; nodes = nodes_after a.layout r.value a.nodes; diagnostics = diagnostics_after a.layout r a.used a.diagnostics }) f
     go (suc k) = refl

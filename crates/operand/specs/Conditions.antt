@@ -1,11 +1,11 @@
 -- The buyer's conditions, as theorems over the definition. Words in quotes are document 01's; what the theorems lean on is in Readings.antt and Fuel.antt.
 -- Assumes nothing.
-use Rattle.std.specs.Prelude.{◌≡◌, Bool, true, false, List, ℕ, ◌+◌, ◌*◌, ◌≤◌, eqb, length, take, drop, get_or}
+use Rattle.std.specs.Prelude.{◌≡◌, Bool, true, false, List, ℕ, ◌+◌, ◌*◌, ◌≤◌, eqb, length, take, drop, get_or, Option, Some, None}
 use Rattle.names.specs.Choice.{pick, both, either}
 use Rattle.names.specs.Places.{Place, nothing, stands}
 use Rattle.records.specs.DiagnosticKinds
 use Rattle.expressions.specs.Reader.{Reading}
-use Rattle.operand.specs.Operands.{Operand, Maybe, some, none}
+use Rattle.operand.specs.Operands.{Operand}
 use Rattle.operand.specs.Records.{size_m}
 use Rattle.operand.specs.Layout.{nodes_laid, diagnostics_laid, operand_record}
 use Rattle.operand.specs.RefusalNumbers
@@ -30,13 +30,13 @@ abbrev pub AlikeAt : Input → Input → ℕ → Type 0
 AlikeAt a b j = place_of a j ≡ place_of b j
 
 -- the operand's record, or none
-abbrev pub record_m : Layout → Maybe Operand → Maybe (List ℕ)
-record_m w (some x) = some (operand_record w x)
-record_m w none = none
+abbrev pub record_m : Layout → Option Operand → Option (List ℕ)
+record_m w (Some x) = Some (operand_record w x)
+record_m w None = None
 
 -- "Answers are the same if both have an operand, with the same record, or both have none; the cursor is the same; as many nodes are used, with the same
 -- records; and as many diagnostics are added, the same records in the same order." The records are those of a layout
-pub record SameAnswer (w : Layout) (r q : Reading (Maybe Operand)) : Type 0 where
+pub record SameAnswer (w : Layout) (r q : Reading (Option Operand)) : Type 0 where
   pub operand : record_m w r.value ≡ record_m w q.value
   pub cursor : r.cursor ≡ q.cursor
   pub nodes_used : size_m r.value ≡ size_m q.value
@@ -69,7 +69,7 @@ pub data SameButPlus (w : Layout) (p : Place) (x y : List ℕ) : Type 0 where
   plus : either (plus_at w p x) (plus_at w p y) ≡ true → drop 1 x ≡ drop 1 y → SameButPlus w p x y
 
 -- the same answers but for a kind 13 with its plus at this place
-pub record SameAnswerButPlus (w : Layout) (p : Place) (r q : Reading (Maybe Operand)) : Type 0 where
+pub record SameAnswerButPlus (w : Layout) (p : Place) (r q : Reading (Option Operand)) : Type 0 where
   pub operand : record_m w r.value ≡ record_m w q.value
   pub cursor : r.cursor ≡ q.cursor
   pub nodes_used : size_m r.value ≡ size_m q.value
@@ -78,6 +78,6 @@ pub record SameAnswerButPlus (w : Layout) (p : Place) (r q : Reading (Maybe Oper
   pub diagnostics : (i : ℕ) → SameButPlus w p (record_at w (diagnostics_laid w r.raised) i) (record_at w (diagnostics_laid w q.raised) i)
 
 -- how far past the cursor document 02 asks for agreement: one token where there is no operand, and two at limit 1
-unfoldable pub further : ℕ → Maybe Operand → ℕ
-further limit (some x) = 0
-further limit none = pick (eqb limit 1) 2 1
+unfoldable pub further : ℕ → Option Operand → ℕ
+further limit (Some x) = 0
+further limit None = pick (eqb limit 1) 2 1

@@ -1,6 +1,6 @@
 -- The call: what is lent and given, the refusals, and what comes back, with every byte of both stores.
 -- Assumes nothing.
-use Rattle.std.specs.Prelude.{◌≡◌, refl, Bool, true, false, not, List, [], ◌∷◌, ◌++◌, ℕ, zero, suc, ◌+◌, ◌-◌, ◌*◌, ◌/◌, ◌%◌, eqb, leb, ltb, length, take, drop, replicate}
+use Rattle.std.specs.Prelude.{◌≡◌, refl, Bool, true, false, not, List, [], ◌∷◌, ◌++◌, ℕ, zero, suc, ◌+◌, ◌-◌, ◌*◌, ◌/◌, ◌%◌, eqb, leb, ltb, length, take, drop, replicate, Option, Some, None}
 use Prim.Native.String.{String}
 use Rattle.std.proofs.Common.{arith, ne_eqb}
 use Rattle.names.specs.Choice.{pick, both, either}
@@ -10,7 +10,7 @@ use Rattle.names.specs.Places.{Place, place, text_of}
 use Rattle.names.specs.Letters.{bytes, same}
 use Rattle.expressions.specs.Reader.{Reading}
 use Rattle.operand.specs.RefusalNumbers
-use Rattle.operand.specs.Operands.{Operand, Maybe, some, none}
+use Rattle.operand.specs.Operands.{Operand}
 use Rattle.operand.specs.Operand.{reading_of}
 use Rattle.operand.specs.Records.{size_m}
 use Rattle.operand.specs.Forms.{mask_o}
@@ -93,12 +93,12 @@ good_tokens L p (k ∷ d ∷ []) = true
 good_tokens L p (k ∷ d ∷ s ∷ []) = true
 good_tokens L p (k ∷ d ∷ s ∷ e ∷ ts) = both (good_token L p k d s e) (good_tokens L e ts)
 
--- a refusal: its number, and whether its condition holds, which is looked at alone
-abbrev pub Refusal : Type 0
-Refusal = ℕ × Bool
+-- the number of a refusal, and whether its condition holds, which is looked at alone
+abbrev pub Check : Type 0
+Check = ℕ × Bool
 
 -- long line, foreign byte, bad list
-unfoldable pub line_and_list : Layout → List ℕ → List ℕ → List Refusal
+unfoldable pub line_and_list : Layout → List ℕ → List ℕ → List Check
 line_and_list w L T =
     (RefusalNumbers.long_line, ltb (longest_line w) (length L))
     ∷ (RefusalNumbers.foreign_byte, foreign L)
@@ -106,7 +106,7 @@ line_and_list w L T =
     ∷ []
 
 -- bad start, short nodes, short diagnostics, bad limit, by the tokens' number and the stores' lengths
-unfoldable pub start_stores_and_limit : Layout → ℕ → ℕ → ℕ → ℕ → ℕ → ℕ → List Refusal
+unfoldable pub start_stores_and_limit : Layout → ℕ → ℕ → ℕ → ℕ → ℕ → ℕ → List Check
 start_stores_and_limit w tokens start limit nodes diagnostics used =
     (RefusalNumbers.bad_start, ltb tokens start)
     ∷ (RefusalNumbers.short_nodes, ltb nodes (node_store w))
@@ -115,14 +115,14 @@ start_stores_and_limit w tokens start limit nodes diagnostics used =
     ∷ []
 
 -- the table, in the order in which it is looked through
-unfoldable pub refusals : Input → List Refusal
+unfoldable pub refusals : Input → List Check
 refusals a =
     line_and_list a.layout a.line a.tokens
     ++ ((RefusalNumbers.bad_token, not (good_tokens a.line 0 (tokens_of a)))
     ∷ start_stores_and_limit a.layout (count (tokens_of a)) a.start a.limit (length a.nodes) (length a.diagnostics) a.used)
 
 -- the number of the first that holds, and 0 if none does
-unfoldable pub first_of : List Refusal → ℕ
+unfoldable pub first_of : List Check → ℕ
 first_of [] = 0
 first_of (r ∷ rs) = pick r.1 r.0 (first_of rs)
 
@@ -165,19 +165,19 @@ pub record Outcome : Type 0 where
   pub diagnostics : List ℕ
 
 -- the reading of an input, at its nesting limit
-abbrev pub reading_at : Input → Reading (Maybe Operand)
+abbrev pub reading_at : Input → Reading (Option Operand)
 reading_at a = reading_of a.limit a.mark (place_of a) a.start
 
-unfoldable pub answer_of : Layout → Reading (Maybe Operand) → Maybe Operand → Answer
-answer_of w r (some x) = operand (operand_record w x) r.cursor (size_m (some x)) (length r.raised) (mask_o x)
-answer_of w r none = no_operand r.cursor (length r.raised)
+unfoldable pub answer_of : Layout → Reading (Option Operand) → Option Operand → Answer
+answer_of w r (Some x) = operand (operand_record w x) r.cursor (size_m (Some x)) (length r.raised) (mask_o x)
+answer_of w r None = no_operand r.cursor (length r.raised)
 
 -- the nodes' records, zeros up to the store's last record, and the bytes past them
-unfoldable pub nodes_after : Layout → Maybe Operand → List ℕ → List ℕ
+unfoldable pub nodes_after : Layout → Option Operand → List ℕ → List ℕ
 nodes_after w v N = nodes_laid w v ++ (replicate (node_store w - node_size w * size_m v) 0 ++ drop (node_store w) N)
 
 -- the used records, the added ones, and the bytes past them
-unfoldable pub diagnostics_after : Layout → Reading (Maybe Operand) → ℕ → List ℕ → List ℕ
+unfoldable pub diagnostics_after : Layout → Reading (Option Operand) → ℕ → List ℕ → List ℕ
 diagnostics_after w r used D = take (diagnostic_size w * used) D ++ (diagnostics_laid w r.raised ++ drop (diagnostic_size w * (used + length r.raised)) D)
 
 -- a refusal leaves both stores as they were
@@ -192,9 +192,9 @@ unfoldable pub outcome : Input → Outcome
 outcome a = outcome_of a (refusal a)
 
 -- the number of the case, by the refusal and by what is read
-unfoldable pub read_number : Maybe Operand → ℕ
-read_number (some x) = operand_number
-read_number none = no_operand_number
+unfoldable pub read_number : Option Operand → ℕ
+read_number (Some x) = operand_number
+read_number None = no_operand_number
 
 unfoldable pub outcome_number : Input → ℕ
 outcome_number a = pick (eqb (refusal a) 0) (read_number (reading_at a).value) refused_number
@@ -203,9 +203,9 @@ pub outcome_number_lem : (a : Input) → answer_number (outcome a).answer ≡ ou
 unfolding answer_number answer_of outcome outcome_of read_number outcome_number
 outcome_number_lem a = go (refusal a)
   where
-    at : (r : Reading (Maybe Operand)) (v : Maybe Operand) → answer_number (answer_of a.layout r v) ≡ read_number v
-    at r (some x) = refl
-    at r none = refl
+    at : (r : Reading (Option Operand)) (v : Option Operand) → answer_number (answer_of a.layout r v) ≡ read_number v
+    at r (Some x) = refl
+    at r None = refl
 
     go : (k : ℕ) → answer_number (outcome_of a k).answer ≡ pick (eqb k 0) (read_number (reading_at a).value) refused_number
     go zero = at (reading_at a) (reading_at a).value

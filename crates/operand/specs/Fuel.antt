@@ -1,6 +1,6 @@
 -- The fuel of the register list never decides.
 -- Assumes nothing.
-use Rattle.std.specs.Prelude.{◌≡◌, List, [], ◌∷◌, ◌++◌}
+use Rattle.std.specs.Prelude.{◌≡◌, List, [], ◌∷◌, ◌++◌, Some, None}
 use Rattle.std.proofs.Common.{◌∙◌, ap, arith}
 use Prim.Native.Nat.{ℕ, zero, suc, ◌+◌, ◌≤◌, ◌<◌}
 use Rattle.names.specs.Places.{Place, stands}
@@ -10,7 +10,7 @@ use Rattle.expressions.specs.Reader.{Reader, after, answer, bind, run}
 use Rattle.expressions.specs.Expressions.{fuel}
 use Rattle.expressions.specs.Alike.{Alike, Any, alike_run, flip, same_alike, bind_alike, bump_alike}
 use Rattle.expressions.specs.Fuel.{bump_past}
-use Rattle.operand.specs.Operands.{RegisterListItem, single, some, none}
+use Rattle.operand.specs.Operands.{RegisterListItem, single}
 use Rattle.operand.specs.declared.forms.Register.{Register}
 use Rattle.operand.specs.Operand.{or_none, ◌>>=?◌, list_item, listed, next_item, list_loop}
 
@@ -28,7 +28,7 @@ module _ (at : ℕ → Place) (count : ℕ) (ends : (j : ℕ) (k : Token) (x : L
       → Alike Any at i l (list_item r >>=? next_item (list_loop g s) s items) (listed s (items ++ (single r ∷ [])))
   unfolding list_item next_item or_none
   list_past g items r i l h =
-      then (answer_bind (some (single r)) (bump_past (λ k x e. omega (arith, ends i k x e)))) (bump_past (λ k x e. omega (arith, ends i k x e)))
+      then (answer_bind (Some (single r)) (bump_past (λ k x e. omega (arith, ends i k x e)))) (bump_past (λ k x e. omega (arith, ends i k x e)))
 
   list_fuel : (f g : ℕ) (items : List RegisterListItem) (r : Register) (i l : ℕ) → count ≤ f + i → count ≤ g + i
       → Alike Any at i l (list_loop f s items r) (list_loop g s items r)
@@ -37,10 +37,10 @@ module _ (at : ℕ → Place) (count : ℕ) (ends : (j : ℕ) (k : Token) (x : L
   list_fuel zero (suc g) items r i l a b = flip (list_past g items r i l (omega arith))
   list_fuel (suc f) zero items r i l a b = list_past f items r i l (omega arith)
   list_fuel (suc f) (suc g) items r i l a b = bind_alike same_alike λ j m. elim [
-    | some x ↦ λ h. bump_alike
+    | Some x ↦ λ h. bump_alike
         (λ k y e q. bump_alike (λ t z e₂ q₂. list_fuel f g _ _ (j + 1 + 1) _ (omega arith) (omega arith)) same_alike)
         same_alike
-    | none ↦ λ h. same_alike
+    | None ↦ λ h. same_alike
   ]
 
 -- the list loop satisfies its own equation, for every list that has no more tokens than the fuel

@@ -1,21 +1,21 @@
 -- The bytes of docs/FORMAT.md: how the numbers of a reading are laid out.
 -- Assumes nothing.
-use Rattle.std.specs.Prelude.{List, [], ◌∷◌, ◌++◌, ℕ, zero, suc, ◌+◌, ◌*◌, ◌%◌, eqb, length, get_or}
+use Rattle.std.specs.Prelude.{List, [], ◌∷◌, ◌++◌, ℕ, zero, suc, ◌+◌, ◌*◌, ◌%◌, eqb, length, get_or, Option, Some, None}
 use Rattle.names.specs.Choice.{pick}
 use Rattle.records.specs.Spans.{no_span}
 use Rattle.records.specs.Nodes.{absent, zeros, low_first}
 use Rattle.records.specs.declared.spans.Span.{Span}
 use Rattle.records.specs.declared.diagnostics.Diagnostic.{Diagnostic}
 use Rattle.expressions.specs.Reader.{Reading}
-use Rattle.operand.specs.Operands.{Operand, Maybe, some, none}
+use Rattle.operand.specs.Operands.{Operand}
 use Rattle.operand.specs.Records.{flag, size_o, size_m, nodes_m}
 use Rattle.operand.specs.Layouts.{number}
 use Rattle.operand.specs.declared.layouts.Layout.{Layout}
 use Rattle.operand.specs.Forms.{record_of}
 use Rattle.operand.specs.declared.forms.BaseRegister.{BaseRegister}
-use Rattle.operand.specs.declared.forms.Index.{Index}
-use Rattle.operand.specs.declared.forms.SizedDisplacement.{SizedDisplacement}
 use Rattle.operand.specs.declared.forms.OperandRecord.{OperandRecord}
+use Rattle.operand.specs.declared.forms.IndexRegister.{IndexRegister}
+use Rattle.operand.specs.declared.forms.Sized.{Sized}
 
 -- a byte's number, and an absent register: its low byte
 abbrev pub low : ℕ → ℕ
@@ -49,7 +49,7 @@ abbrev pub node_bytes : Layout → List ℕ → ℕ → List ℕ
 node_bytes w N n = records_laid (node_from w) N n
 
 -- an operand's, or none
-abbrev pub nodes_laid : Layout → Maybe Operand → List ℕ
+abbrev pub nodes_laid : Layout → Option Operand → List ℕ
 nodes_laid w v = node_bytes w (nodes_m v) (size_m v)
 
 -- ---- diagnostics
@@ -74,9 +74,9 @@ abbrev pub spanned : Layout → ℕ → Span → List ℕ
 spanned w n s = n ∷ span_laid w s
 
 -- the node and the size of a displacement
-unfoldable pub sized_part : Layout → SizedDisplacement → List ℕ
-sized_part w (SizedDisplacement.Is d) = number w d.node ++ (d.size ∷ [])
-sized_part w SizedDisplacement.Not = number w absent ++ (0 ∷ [])
+unfoldable pub sized_part : Layout → Option Sized → List ℕ
+sized_part w (Some d) = number w d.node ++ (d.size ∷ [])
+sized_part w None = number w absent ++ (0 ∷ [])
 
 -- a base has its span only where it is a register that stands there; a suppressed address register has the number 0 to 7
 unfoldable pub base_part : Layout → BaseRegister → List ℕ
@@ -87,9 +87,9 @@ base_part w BaseRegister.SuppressedProgramCounter = spanned w 33 no_span
 base_part w BaseRegister.Omitted = spanned w (low absent) no_span
 
 -- register and its span; size, scale, suppressed, and the whole span
-unfoldable pub index_part : Layout → Index → List ℕ
-index_part w (Index.Indexed x) = spanned w x.register.index x.register.span ++ (x.size ∷ x.scale ∷ spanned w (flag x.suppressed) x.span)
-index_part w Index.Unindexed = spanned w (low absent) no_span ++ (0 ∷ 0 ∷ spanned w 0 no_span)
+unfoldable pub index_part : Layout → Option IndexRegister → List ℕ
+index_part w (Some x) = spanned w x.register.index x.register.span ++ (x.size ∷ x.scale ∷ spanned w (flag x.suppressed) x.span)
+index_part w None = spanned w (low absent) no_span ++ (0 ∷ 0 ∷ spanned w 0 no_span)
 
 -- form and span; displacement; base; index; indirection; outer displacement; special register, or 1 for long
 unfoldable pub bytes_of : Layout → OperandRecord → List ℕ
@@ -117,7 +117,7 @@ unfoldable pub head_laid : Layout → ℕ → ℕ → ℕ → ℕ → List ℕ
 head_laid w k cursor n d = k ∷ (number w cursor ++ (number w n ++ low_first 2 d))
 
 -- and the records
-unfoldable pub answer_line : Layout → Reading (Maybe Operand) → Maybe Operand → List ℕ
-answer_line w r (some x) =
-    head_laid w operand_number r.cursor (size_o x) (length r.raised) ++ (operand_record w x ++ (nodes_laid w (some x) ++ diagnostics_laid w r.raised))
-answer_line w r none = head_laid w no_operand_number r.cursor 0 (length r.raised) ++ diagnostics_laid w r.raised
+unfoldable pub answer_line : Layout → Reading (Option Operand) → Option Operand → List ℕ
+answer_line w r (Some x) =
+    head_laid w operand_number r.cursor (size_o x) (length r.raised) ++ (operand_record w x ++ (nodes_laid w (Some x) ++ diagnostics_laid w r.raised))
+answer_line w r None = head_laid w no_operand_number r.cursor 0 (length r.raised) ++ diagnostics_laid w r.raised

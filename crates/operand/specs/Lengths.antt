@@ -1,6 +1,6 @@
 -- How long the records are: a node and a diagnostic have ten numbers, and as many bytes as their layout says.
 -- Assumes nothing.
-use Rattle.std.specs.Prelude.{◌≡◌, refl, Bool, true, false, List, [], ◌∷◌, ℕ, zero, suc, ◌+◌, ◌*◌, ◌%◌, eqb, length, get_or}
+use Rattle.std.specs.Prelude.{◌≡◌, refl, Bool, true, false, List, [], ◌∷◌, ℕ, zero, suc, ◌+◌, ◌*◌, ◌%◌, eqb, length, get_or, Option, Some, None}
 use Rattle.std.proofs.Common.{sym, ◌∙◌, ap₂, add_comm, mul-zero, mul-suc, arith, length-append}
 use Rattle.names.specs.Choice.{pick}
 use Rattle.records.specs.Spans.{no_span}
@@ -9,16 +9,16 @@ use Rattle.records.specs.declared.spans.Span.{Span}
 use Rattle.records.specs.declared.diagnostics.Diagnostic.{Diagnostic}
 use Rattle.records.specs.Diagnostics.{diagnostic_record}
 use Rattle.expressions.specs.Records as Expressions
-use Rattle.operand.specs.Operands.{Displacement, displaced, undisplaced, RegisterListItem, single, range, Operand, Maybe, some, none}
+use Rattle.operand.specs.Operands.{Displacement, displaced, undisplaced, RegisterListItem, single, range, Operand}
 use Rattle.operand.specs.Operands as O
 use Rattle.operand.specs.Records.{item_record, item_records, size_d, nodes_d, size_o, nodes_o, size_m, nodes_m, diagnostic_records}
 use Rattle.operand.specs.declared.layouts.Layout.{Layout}
 use Rattle.operand.specs.Layouts.{width, number, node_size, diagnostic_size, operand_size}
 use Rattle.operand.specs.Layout.{low, records_laid, four_words, last_eight, node_from, node_bytes, diagnostic_laid, diagnostics_laid, spanned, sized_part, base_part, index_part, bytes_of}
 use Rattle.operand.specs.declared.forms.BaseRegister.{BaseRegister}
-use Rattle.operand.specs.declared.forms.Index.{Index}
-use Rattle.operand.specs.declared.forms.SizedDisplacement.{SizedDisplacement}
 use Rattle.operand.specs.declared.forms.OperandRecord.{OperandRecord}
+use Rattle.operand.specs.declared.forms.IndexRegister.{IndexRegister}
+use Rattle.operand.specs.declared.forms.Sized.{Sized}
 
 length_displacement : (b : ℕ) (d : Displacement) → length (nodes_d b d) ≡ 10 * size_d d
 unfolding nodes_d size_d
@@ -52,10 +52,10 @@ length_operand (O.full_index d b x n e s) = simp length-append (omega (arith, le
 length_operand (O.absolute e n s) = Expressions.length_nodes 0 e
 length_operand (O.register_list items s) = length_items items
 
-pub length_nodes : (v : Maybe Operand) → length (nodes_m v) ≡ 10 * size_m v
+pub length_nodes : (v : Option Operand) → length (nodes_m v) ≡ 10 * size_m v
 unfolding nodes_m size_m
-length_nodes (some x) = length_operand x
-length_nodes none = refl
+length_nodes (Some x) = length_operand x
+length_nodes None = refl
 
 pub length_diagnostic : (d : Diagnostic) → length (diagnostic_record d) ≡ 10
 unfolding diagnostic_record
@@ -114,12 +114,12 @@ length_laid w (d ∷ ds) =
 
 -- ---- the operand
 
-length_sized : (w : Layout) (d : SizedDisplacement) → length (sized_part w d) ≡ width w + 1
+length_sized : (w : Layout) (d : Option Sized) → length (sized_part w d) ≡ width w + 1
 unfolding sized_part number low_first
-length_sized Layout.Narrow (SizedDisplacement.Is d) = refl
-length_sized Layout.Narrow SizedDisplacement.Not = refl
-length_sized Layout.Wide (SizedDisplacement.Is d) = refl
-length_sized Layout.Wide SizedDisplacement.Not = refl
+length_sized Layout.Narrow (Some d) = refl
+length_sized Layout.Narrow None = refl
+length_sized Layout.Wide (Some d) = refl
+length_sized Layout.Wide None = refl
 
 length_spanned : (w : Layout) (n : ℕ) (s : Span) → length (spanned w n s) ≡ 2 * width w + 1
 unfolding number low_first
@@ -134,12 +134,12 @@ length_base w (BaseRegister.SuppressedAddress n) = length_spanned w (24 + n % 8)
 length_base w BaseRegister.SuppressedProgramCounter = length_spanned w 33 no_span
 length_base w BaseRegister.Omitted = length_spanned w (low absent) no_span
 
-length_index : (w : Layout) (x : Index) → length (index_part w x) ≡ 4 * width w + 4
+length_index : (w : Layout) (x : Option IndexRegister) → length (index_part w x) ≡ 4 * width w + 4
 unfolding index_part number low_first
-length_index Layout.Narrow (Index.Indexed x) = refl
-length_index Layout.Narrow Index.Unindexed = refl
-length_index Layout.Wide (Index.Indexed x) = refl
-length_index Layout.Wide Index.Unindexed = refl
+length_index Layout.Narrow (Some x) = refl
+length_index Layout.Narrow None = refl
+length_index Layout.Wide (Some x) = refl
+length_index Layout.Wide None = refl
 
 pub length_bytes : (w : Layout) (x : OperandRecord) → length (bytes_of w x) ≡ operand_size w
 unfolding bytes_of

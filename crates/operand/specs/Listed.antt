@@ -1,7 +1,7 @@
 -- What is said of a list of tokens that is good, from a token on.
 -- Assumes nothing.
 use Rattle.std.proofs.Math.Path.{◌≡◌, refl}
-use Rattle.std.proofs.Common.{◌∙◌, ap, arith, add-one, leb-false, length-drop, drop-cons}
+use Rattle.std.proofs.Common.{Some, None, ◌∙◌, ap, arith, add-one, leb-false, length-drop, drop-cons}
 use Rattle.std.specs.Prelude.{Bool, ℕ, ◌+◌, ◌*◌, ◌≤◌, ◌<◌, length, get_or, drop}
 use Rattle.std.proofs.Math.Bool.{true, false}
 use mathlib.Core.List.{List, [], ◌∷◌}
@@ -9,7 +9,6 @@ use Rattle.std.proofs.Math.Dec.{leb}
 use Rattle.names.specs.Choice.{pick, both}
 use Rattle.names.specs.Tokens.{count, token_from, token_at}
 use Rattle.names.specs.declared.tokens.Token.{Token}
-use Rattle.names.specs.declared.tokens.Peeked.TheVariants.{Is, End}
 use Rattle.operand.specs.Entry.{good_token, good_tokens}
 
 -- the element at i, and the list from behind it on
@@ -17,11 +16,11 @@ pub from : (l : List ℕ) (i j : ℕ) → j ≡ i + 1 → i < length l → drop 
 from l i j e h = rw (e, add-one, drop-cons l i 0)
 
 module _ (T : List ℕ) (i : ℕ) where
-  pub token_below : (t : Token) → token_at T i ≡ Is t → (i < count T) × (token_from T i ≡ t)
+  pub token_below : (t : Token) → token_at T i ≡ Some t → (i < count T) × (token_from T i ≡ t)
   unfolding token_at
   token_below t h = go (leb (count T) i) refl h
     where
-      go : (b : Bool) → leb (count T) i ≡ b → pick b End (Is (token_from T i)) ≡ Is t → (i < count T) × (token_from T i ≡ t)
+      go : (b : Bool) → leb (count T) i ≡ b → pick b None (Some (token_from T i)) ≡ Some t → (i < count T) × (token_from T i ≡ t)
       go true q g = let z : ◌≡◌ {A = ℕ} 0 1 = cc in absurd (omega arith)
       go false q g = (leb-false (count T) i q, cc)
 
@@ -50,7 +49,7 @@ module _ (L : List ℕ) (p : ℕ) where
     unfolding good_tokens
     tokens_from h = rw (four T i h)
 
-    module _ (t : Token) (h : token_at T i ≡ Is t) (b : Bool) (e : b ≡ good_token L p t.kind t.detail t.start t.end) where
+    module _ (t : Token) (h : token_at T i ≡ Some t) (b : Bool) (e : b ≡ good_token L p t.kind t.detail t.start t.end) where
       tokens_at : good_tokens L p (drop (4 * i) T) ≡ both b (good_tokens L t.end (drop (4 * (i + 1)) T))
       tokens_at = let w = token_below T i t h in tokens_from w.0 ∙ rw (e, ← w.1)
 

@@ -1,11 +1,11 @@
 -- The numbers of nodes: a child's is below its parent's, and all are below the nodes used. So in a valid input each is written whole (`Layouts.number_read`).
 -- Assumes nothing.
-use Rattle.std.specs.Prelude.{ℕ, ◌+◌, ◌-◌, ◌<◌}
+use Rattle.std.specs.Prelude.{ℕ, ◌+◌, ◌-◌, ◌<◌, Option, Some, None}
 use Rattle.expressions.specs.Trees.{Expr, number, character_literal, symbol, current_address, unary, binary, size}
-use Rattle.operand.specs.Operands.{Operand, Maybe, some, none}
+use Rattle.operand.specs.Operands.{Operand}
 use Rattle.operand.specs.Forms.{record_of}
-use Rattle.operand.specs.declared.forms.SizedDisplacement.{SizedDisplacement}
 use Rattle.operand.specs.declared.forms.OperandRecord.{OperandRecord}
+use Rattle.operand.specs.declared.forms.Sized.{Sized}
 
 -- ---- within a tree
 
@@ -20,13 +20,13 @@ ChildrenIn m b (binary o l r s) = ChildrenIn m b l × ChildrenIn m (b + size l) 
 
 -- ---- in the operand's record
 
-unfoldable pub NodeIn : ℕ → SizedDisplacement → Type 0
-NodeIn m (SizedDisplacement.Is d) = d.node < m
-NodeIn m SizedDisplacement.Not = Unit {0}
+unfoldable pub NodeIn : ℕ → Option Sized → Type 0
+NodeIn m (Some d) = d.node < m
+NodeIn m None = Unit {0}
 
 abbrev pub NodesIn : ℕ → OperandRecord → Type 0
 NodesIn m r = NodeIn m r.displacement × NodeIn m r.outer
 
-abbrev pub AnswerIn : ℕ → Maybe Operand → Type 0
-AnswerIn m (some x) = NodesIn m (record_of x)
-AnswerIn m none = Unit {0}
+abbrev pub AnswerIn : ℕ → Option Operand → Type 0
+AnswerIn m (Some x) = NodesIn m (record_of x)
+AnswerIn m None = Unit {0}

@@ -14,7 +14,7 @@ pub mod Full
 pub mod Memory
 pub mod Absolutes
 pub mod Parentheses
-use Rattle.std.specs.Prelude.{List, ℕ, eqb, leb}
+use Rattle.std.specs.Prelude.{List, ℕ, eqb, leb, Option, Some, None}
 use Rattle.names.specs.Choice.{pick, either}
 use Rattle.names.specs.Kinds
 use Rattle.names.specs.Places.{Place}
@@ -29,7 +29,7 @@ use Rattle.records.specs.declared.spans.Span.{Span}
 use Rattle.expressions.specs.declared.reading.Setting.{Setting}
 use Rattle.records.specs.Diagnostics.{operand_expected}
 use Rattle.expressions.specs.Reader.{is, any, Reading, Reader, answer, raise, bump, peek, run, choose}
-use Rattle.operand.specs.Operands.{Operand, Maybe, some, none}
+use Rattle.operand.specs.Operands.{Operand}
 use Rattle.operand.specs.declared.forms.Register.{Register}
 use Rattle.operand.specs.Operands as O
 unfoldable pub use Tries.{or_none, ◌>>=?◌, or_absent, expression_or}
@@ -48,13 +48,13 @@ unfoldable pub use Parentheses.{grouped_expression, grouped_operand, sized_base,
 -- ---- parse_predecrement
 
 -- `")"` behind the register r, whose token is k
-unfoldable pub predecrement_close : Setting → Token → Token → Token → Register → Reader (Maybe Operand)
+unfoldable pub predecrement_close : Setting → Token → Token → Token → Register → Reader (Option Operand)
 predecrement_close s minus paren k r =
-    choose (leb 8 r.index) (expect_close s paren Shapes.predecrement >>=? λ end. answer (some (O.predecrement r (span minus.start end))))
+    choose (leb 8 r.index) (expect_close s paren Shapes.predecrement >>=? λ end. answer (Some (O.predecrement r (span minus.start end))))
     (not_an_address_register s Shapes.predecrement k)
 
 -- `predecrement = "-" "(" address_register ")"`, at the minus
-unfoldable pub parse_predecrement : Setting → Token → Token → Token → List ℕ → Reader (Maybe Operand)
+unfoldable pub parse_predecrement : Setting → Token → Token → Token → List ℕ → Reader (Option Operand)
 parse_predecrement s minus paren k x = over (over (over (predecrement_close s minus paren k (register_from k x))))
 
 -- ---- parse_register_operand
@@ -63,34 +63,34 @@ unfoldable pub register_direct : Register → Span → Operand
 register_direct r z = pick (leb 8 r.index) (O.address_register_direct r z) (O.data_register_direct r z)
 
 -- a lone register r, or the first item of a register list where a `-` or a `/` follows it
-unfoldable pub parse_register_operand : Setting → Register → Reader (Maybe Operand)
+unfoldable pub parse_register_operand : Setting → Register → Reader (Option Operand)
 parse_register_operand s r =
     peek 0 (λ k x. either (eqb k.kind Kinds.minus) (eqb k.kind Kinds.slash)) (λ k x. parse_register_list s r) λ u.
-    answer (some (register_direct r r.span))
+    answer (Some (register_direct r r.span))
 
 -- ---- parse_operand
 
-unfoldable pub special_index : SpecialRegister → ℕ
+unfoldable pub special_index : Option SpecialRegister → ℕ
 special_index special = special_number special
 
 -- a register or a list of them, a special register, or an expression
-unfoldable pub name_or_expression : Setting → Reader (Maybe Operand)
+unfoldable pub name_or_expression : Setting → Reader (Option Operand)
 name_or_expression s =
     bump a_register (λ k x. parse_register_operand s (register_from k x)) λ u.
-    bump (name λ x. is_special (special_of x)) (λ k x. answer (some (O.special_register (special_index (special_of x)) (span_of k)))) λ u.
+    bump (name λ x. is_special (special_of x)) (λ k x. answer (Some (O.special_register (special_index (special_of x)) (span_of k)))) λ u.
     parse_expression_operand s
 
 -- `looks_like_predecrement`: a predecrement where a parenthesis and a register follow the minus
-unfoldable pub minus_operand : Setting → Token → Reader (Maybe Operand)
+unfoldable pub minus_operand : Setting → Token → Reader (Option Operand)
 minus_operand s minus =
     peek 1 (is Kinds.left_paren)
     (λ paren x. peek 2 a_register (λ k x. parse_predecrement s minus paren k x) λ u. parse_expression_operand s) λ u.
     parse_expression_operand s
 
 -- `operand`: one operand, whatever it turns out to be
-unfoldable pub operand_from : Setting → Reader (Maybe Operand)
+unfoldable pub operand_from : Setting → Reader (Option Operand)
 operand_from s =
-    peek 0 (is Kinds.comma) (λ k x. raise (operand_expected (span_of k)) (answer none)) λ u.
+    peek 0 (is Kinds.comma) (λ k x. raise (operand_expected (span_of k)) (answer None)) λ u.
     bump (is Kinds.hash) (λ hash x. parse_immediate s hash) λ u.
     bump (is Kinds.left_paren) (λ paren x. parse_parenthesised_operand s paren) λ u.
     peek 0 (is Kinds.minus) (λ minus x. minus_operand s minus) λ u.
@@ -101,9 +101,9 @@ abbrev pub setting_from : ℕ → ℕ → Token → Setting
 setting_from limit mark k = record { limit = limit; mark = mark; start = k.start }
 
 -- at a nesting limit and a symbol mark
-unfoldable pub parse_operand : ℕ → ℕ → Reader (Maybe Operand)
-parse_operand limit mark = peek 0 any (λ k x. operand_from (setting_from limit mark k)) λ u. answer none
+unfoldable pub parse_operand : ℕ → ℕ → Reader (Option Operand)
+parse_operand limit mark = peek 0 any (λ k x. operand_from (setting_from limit mark k)) λ u. answer None
 
 -- the reading of an operand from a place on. The end of the token before it is never read
-unfoldable pub reading_of : ℕ → ℕ → (ℕ → Place) → ℕ → Reading (Maybe Operand)
+unfoldable pub reading_of : ℕ → ℕ → (ℕ → Place) → ℕ → Reading (Option Operand)
 reading_of limit mark at start = run (parse_operand limit mark) at start 0

@@ -1,12 +1,11 @@
 -- Operands as the Rust has them. What holds no expression is as the code declares it (forms.rt). A register is its mask index, 0 to 15.
 -- Assumes nothing.
-use Rattle.std.specs.Prelude.{Bool, List, ℕ}
+use Rattle.std.specs.Prelude.{Bool, List, ℕ, Option}
 use Rattle.expressions.specs.Trees.{Expr}
 use Rattle.records.specs.declared.spans.Span.{Span}
 use Rattle.operand.specs.declared.forms.Register.{Register}
 use Rattle.operand.specs.declared.forms.IndexRegister.{IndexRegister}
 use Rattle.operand.specs.declared.forms.BaseRegister.{BaseRegister}
-use Rattle.operand.specs.declared.forms.Index.{Index}
 
 -- `Option<SizedDisplacement>`: with its size, 0 for none
 pub data Displacement : Type 0 where
@@ -30,11 +29,6 @@ pub data Operand : Type 0 where
   index : Displacement → Register → IndexRegister → Span → Operand
   pc_displacement : Expr → Span → Operand
   pc_index : Displacement → IndexRegister → Span → Operand
-  full_index : Displacement → BaseRegister → Index → ℕ → Displacement → Span → Operand
+  full_index : Displacement → BaseRegister → Option IndexRegister → ℕ → Displacement → Span → Operand
   absolute : Expr → ℕ → Span → Operand
   register_list : List RegisterListItem → Span → Operand
-
--- `Option`
-pub data Maybe (A : Type 0) : Type 0 where
-  some : A → Maybe A
-  none : Maybe A

@@ -1,12 +1,12 @@
 -- A reading's nodes and diagnostics as numbers, ten a record.
 -- Assumes nothing.
-use Rattle.std.specs.Prelude.{Bool, true, false, List, [], ◌∷◌, ◌++◌, ℕ, ◌+◌, length}
+use Rattle.std.specs.Prelude.{Bool, true, false, List, [], ◌∷◌, ◌++◌, ℕ, ◌+◌, length, Option, Some, None}
 use Rattle.expressions.specs.Trees.{size}
 use Rattle.records.specs.Diagnostics.{diagnostic_record}
 use Rattle.records.specs.declared.diagnostics.Diagnostic.{Diagnostic}
 use Rattle.records.specs.Nodes.{node_record}
 use Rattle.expressions.specs.Records.{nodes}
-use Rattle.operand.specs.Operands.{Displacement, displaced, undisplaced, RegisterListItem, single, range, Operand, Maybe, some, none}
+use Rattle.operand.specs.Operands.{Displacement, displaced, undisplaced, RegisterListItem, single, range, Operand}
 use Rattle.operand.specs.Operands as O
 
 unfoldable pub flag : Bool → ℕ
@@ -69,13 +69,13 @@ nodes_o (O.register_list items s) = item_records items
 
 -- ---- the answer
 
-unfoldable pub size_m : Maybe Operand → ℕ
-size_m (some x) = size_o x
-size_m none = 0
+unfoldable pub size_m : Option Operand → ℕ
+size_m (Some x) = size_o x
+size_m None = 0
 
-unfoldable pub nodes_m : Maybe Operand → List ℕ
-nodes_m (some x) = nodes_o x
-nodes_m none = []
+unfoldable pub nodes_m : Option Operand → List ℕ
+nodes_m (Some x) = nodes_o x
+nodes_m None = []
 
 unfoldable pub diagnostic_records : List Diagnostic → List ℕ
 diagnostic_records [] = []

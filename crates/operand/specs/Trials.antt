@@ -1,6 +1,6 @@
 -- The trial lines that document 01 marks, and those of the nesting limit (document 02): one table, and one theorem.
 -- Assumes nothing.
-use Rattle.std.specs.Prelude.{◌≡◌, refl, Bool, true, false, List, [], ◌∷◌, ◌++◌, ℕ, zero, suc, ◌+◌, ◌*◌, eqb, replicate}
+use Rattle.std.specs.Prelude.{◌≡◌, refl, Bool, true, false, List, [], ◌∷◌, ◌++◌, ℕ, zero, suc, ◌+◌, ◌*◌, eqb, replicate, Option, Some, None}
 use Prim.Native.String.{String}
 use Rattle.names.specs.Choice.{both}
 use Rattle.names.specs.Kinds
@@ -11,7 +11,7 @@ use Rattle.expressions.specs.Trees.{Expr, span_e}
 use Rattle.records.specs.declared.diagnostics.Diagnostic.{Diagnostic}
 use Rattle.expressions.specs.Reader.{Reading}
 use Rattle.expressions.specs.Examples.{shown, own_is}
-use Rattle.operand.specs.Operands.{Displacement, displaced, undisplaced, Operand, Maybe, some, none}
+use Rattle.operand.specs.Operands.{Displacement, displaced, undisplaced, Operand}
 use Rattle.operand.specs.Operands as O
 use Rattle.operand.specs.Operand.{reading_of}
 use Rattle.operand.specs.Forms.{record_of}
@@ -67,25 +67,25 @@ hexadecimal [] = []
 hexadecimal (c ∷ []) = []
 hexadecimal (c ∷ d ∷ cs) = (16 * figure c + figure d) ∷ hexadecimal cs
 
-unfoldable pub tree_d : Displacement → Maybe Expr
-tree_d (displaced e n) = some e
-tree_d undisplaced = none
+unfoldable pub tree_d : Displacement → Option Expr
+tree_d (displaced e n) = Some e
+tree_d undisplaced = None
 
-unfoldable pub tree_o : Operand → Maybe Expr
-tree_o (O.immediate e l s) = some e
-tree_o (O.data_register_direct r s) = none
-tree_o (O.address_register_direct r s) = none
-tree_o (O.special_register n s) = none
-tree_o (O.indirect r s) = none
-tree_o (O.postincrement r s) = none
-tree_o (O.predecrement r s) = none
-tree_o (O.displacement e r s) = some e
+unfoldable pub tree_o : Operand → Option Expr
+tree_o (O.immediate e l s) = Some e
+tree_o (O.data_register_direct r s) = None
+tree_o (O.address_register_direct r s) = None
+tree_o (O.special_register n s) = None
+tree_o (O.indirect r s) = None
+tree_o (O.postincrement r s) = None
+tree_o (O.predecrement r s) = None
+tree_o (O.displacement e r s) = Some e
 tree_o (O.index d r x s) = tree_d d
-tree_o (O.pc_displacement e s) = some e
+tree_o (O.pc_displacement e s) = Some e
 tree_o (O.pc_index d x s) = tree_d d
 tree_o (O.full_index d b x n e s) = tree_d d
-tree_o (O.absolute e n s) = some e
-tree_o (O.register_list items s) = none
+tree_o (O.absolute e n s) = Some e
+tree_o (O.register_list items s) = None
 
 unfoldable pub kinds_of : List Diagnostic → List ℕ
 kinds_of [] = []
@@ -95,31 +95,31 @@ unfoldable pub problem_is : ℕ → List Diagnostic → Bool
 problem_is n [] = false
 problem_is n (d ∷ ds) = eqb d.problem n
 
-unfoldable pub tree_is : String → Maybe Expr → Bool
-tree_is t (some e) = same (shown e) (bytes t)
-tree_is t none = false
+unfoldable pub tree_is : String → Option Expr → Bool
+tree_is t (Some e) = same (shown e) (bytes t)
+tree_is t None = false
 
-unfoldable pub span_is : ℕ → ℕ → Maybe Expr → Bool
-span_is s n (some e) = both (eqb (span_e e).start s) (eqb (span_e e).end n)
-span_is s n none = false
+unfoldable pub span_is : ℕ → ℕ → Option Expr → Bool
+span_is s n (Some e) = both (eqb (span_e e).start s) (eqb (span_e e).end n)
+span_is s n None = false
 
-unfoldable pub name_is : ℕ → ℕ → Maybe Expr → Bool
-name_is s n (some e) = own_is s n e
-name_is s n none = false
+unfoldable pub name_is : ℕ → ℕ → Option Expr → Bool
+name_is s n (Some e) = own_is s n e
+name_is s n None = false
 
-unfoldable pub tree_m : Maybe Operand → Maybe Expr
-tree_m (some x) = tree_o x
-tree_m none = none
+unfoldable pub tree_m : Option Operand → Option Expr
+tree_m (Some x) = tree_o x
+tree_m None = None
 
-unfoldable pub form_is : ℕ → Maybe Operand → Bool
-form_is n (some x) = eqb (record_of x).form n
-form_is n none = false
+unfoldable pub form_is : ℕ → Option Operand → Bool
+form_is n (Some x) = eqb (record_of x).form n
+form_is n None = false
 
-unfoldable pub is_none : Maybe Operand → Bool
-is_none (some x) = false
-is_none none = true
+unfoldable pub is_none : Option Operand → Bool
+is_none (Some x) = false
+is_none None = true
 
-unfoldable pub meets : Reading (Maybe Operand) → Claim → Bool
+unfoldable pub meets : Reading (Option Operand) → Claim → Bool
 meets r (answers w t) = same (answer_line w r r.value) (hexadecimal (bytes t))
 meets r (form n) = form_is n r.value
 meets r no_operand = is_none r.value
@@ -130,7 +130,7 @@ meets r (tree t) = tree_is t (tree_m r.value)
 meets r (span s n) = span_is s n (tree_m r.value)
 meets r (name s n) = name_is s n (tree_m r.value)
 
-unfoldable pub meets_all : Reading (Maybe Operand) → List Claim → Bool
+unfoldable pub meets_all : Reading (Option Operand) → List Claim → Bool
 meets_all r [] = true
 meets_all r (c ∷ cs) = both (meets r c) (meets_all r cs)
 
@@ -229,5 +229,5 @@ table =
 
 -- each line is read as claimed
 pub trials : hold_for_all table ≡ true
-unfolding Expressions-as-Examples.shown Expressions-as-Examples.own_is Names-as-Tokens.token_at Names-as-Tokens.detail_defined Names-as-Places.text_of Names-as-Places.placed Names-as-Places.place Names-as-Letters.lower Names-as-Letters.lowered Names-as-Letters.same Names-as-Letters.spelled Names-as-Registers.pair Names-as-Registers.register Names-as-Registers.register_of Names-as-Registers.program_counter Names-as-Registers.numbered Names-as-Registers.special_of Names-as-Registers.suppressing Names-as-Registers.suppressed Names-as-Registers.suppressed_of Names-as-Registers.one_of Names-as-Registers.reserved Names-as-Sizes.run_of Names-as-Sizes.letter_size Names-as-Sizes.size_of Names-as-Numbers.radix_of Names-as-Numbers.width Names-as-Numbers.figure Names-as-Numbers.scan Names-as-Numbers.digits_of Names-as-Numbers.in_base Names-as-Numbers.base_of Names-as-Numbers.number_of Expressions-as-Trees.span_e Expressions-as-Trees.with_span Expressions-as-Trees.size Records-as-Diagnostics.diagnostic_record Expressions-as-Reader.met Expressions-as-Reader.run Expressions-as-Reader.reach Expressions-as-Expressions.known Expressions-as-Expressions.suffix_run Expressions-as-Expressions.take_size_suffix Expressions-as-Expressions.precedence Expressions-as-Expressions.binary_operator Expressions-as-Expressions.operator Expressions-as-Expressions.operated Expressions-as-Expressions.parse_expression_from Expressions-as-Expressions.climbed Expressions-as-Expressions.parse_expression_of Expressions-as-Expressions.is_unary Expressions-as-Expressions.unary_operator Expressions-as-Expressions.negated Expressions-as-Expressions.plussed Expressions-as-Expressions.valued Expressions-as-Expressions.named Expressions-as-Expressions.grouped Expressions-as-Expressions.number_term Expressions-as-Expressions.leaf_term Expressions-as-Expressions.parse_prefix_term Expressions-as-Expressions.too_deep Expressions-as-Expressions.parse_prefix Expressions-as-Expressions.fuel Expressions-as-Expressions.parse_expression Expressions-as-Expressions.expression_from Records-as-Nodes.low_first Records-as-Nodes.words Expressions-as-Records.nodes Operand-as-Operand.is_address Operand-as-Operand.is_suppressed Operand-as-Operand.is_suppressed_register Operand-as-Operand.is_suppressed_address Operand-as-Operand.a_register Operand-as-Operand.an_address_register Operand-as-Operand.a_program_counter Operand-as-Operand.unmarked Operand-as-Operand.an_index Operand-as-Operand.a_base_or_an_index Operand-as-Operand.index_of Operand-as-Operand.suppressed_index Operand-as-Operand.register_from Operand-as-Operand.malformed Operand-as-Operand.unclosed Operand-as-Operand.stepped_over Operand-as-Operand.not_an_address_register Operand-as-Operand.immediate_size Operand-as-Operand.or_absent Operand-as-Operand.parse_immediate Operand-as-Operand.expect_close Operand-as-Operand.over Operand-as-Operand.or_none Operand-as-Operand.predecrement_close Operand-as-Operand.parse_predecrement Operand-as-Operand.register_expected Operand-as-Operand.ranged Operand-as-Operand.list_item Operand-as-Operand.listed Operand-as-Operand.next_item Operand-as-Operand.list_loop Operand-as-Operand.parse_register_list Operand-as-Operand.register_direct Operand-as-Operand.parse_register_operand Operand-as-Operand.scale_of Operand-as-Operand.scaled Operand-as-Operand.index_scale Operand-as-Operand.index_size Operand-as-Operand.index_register Operand-as-Operand.parse_index_register Operand-as-Operand.base_shape Operand-as-Operand.indexed_operand Operand-as-Operand.closed_base Operand-as-Operand.after_base Operand-as-Operand.closed_counter Operand-as-Operand.after_counter Operand-as-Operand.parse_base_and_index Operand-as-Operand.after_base_register Operand-as-Operand.size_or_scale Operand-as-Operand.no_base Operand-as-Operand.parse_base_and_index_registers Operand-as-Operand.closes Operand-as-Operand.starts_a_full_index Operand-as-Operand.parse_full_index Operand-as-Operand.sized Operand-as-Operand.parse_sized_displacement Operand-as-Operand.inner_displaced Operand-as-Operand.parse_inner Operand-as-Operand.outer_indexed Operand-as-Operand.outer_index Operand-as-Operand.parse_outer Operand-as-Operand.parse_memory_indirect Operand-as-Operand.absolute_size Operand-as-Operand.finish_expression_operand Operand-as-Operand.displacement_tail Operand-as-Operand.parse_expression_operand Operand-as-Operand.sized_base Operand-as-Operand.unexpected Operand-as-Operand.after_expression Operand-as-Operand.parenthesised Operand-as-Operand.starts_a_base Operand-as-Operand.parse_parenthesised_operand Operand-as-Operand.special_index Operand-as-Operand.name_or_expression Operand-as-Operand.minus_operand Operand-as-Operand.operand_from Operand-as-Operand.parse_operand Operand-as-Operand.reading_of Operand-as-Records.item_record Operand-as-Records.item_records Operand-as-Records.size_d Operand-as-Records.nodes_d Operand-as-Records.size_o Operand-as-Records.nodes_o Operand-as-Records.flag Operand-as-Records.size_m Operand-as-Records.nodes_m Operand-as-Records.diagnostic_records Operand-as-Forms.sized_of Operand-as-Forms.record_of Operand-as-Layout.last_eight Operand-as-Layout.node_from Operand-as-Layout.records_laid Operand-as-Layouts.number Operand-as-Layout.diagnostic_laid Operand-as-Layout.diagnostics_laid Operand-as-Layout.head_laid Operand-as-Layout.sized_part Operand-as-Layout.base_part Operand-as-Layout.index_part Operand-as-Layout.bytes_of Operand-as-Layout.answer_line hexadecimal tree_d tree_o kinds_of problem_is tree_is span_is name_is tree_m form_is is_none meets meets_all holds_for hold_for_all minus_tokens minuses behind_spaces table
+unfolding Expressions-as-Examples.shown Expressions-as-Examples.own_is Names-as-Tokens.token_at Names-as-Tokens.detail_defined Names-as-Places.text_of Names-as-Places.placed Names-as-Places.place Names-as-Letters.lower Names-as-Letters.lowered Names-as-Letters.same Names-as-Letters.spelled Names-as-Registers.pair Names-as-Registers.register Names-as-Registers.register_of Names-as-Registers.program_counter Names-as-Registers.named Names-as-Registers.special_of Names-as-Registers.suppressing Names-as-Registers.suppressed Names-as-Registers.suppressed_of Names-as-Registers.one_of Names-as-Registers.reserved Names-as-Sizes.run_of Names-as-Sizes.letter_size Names-as-Sizes.size_of Names-as-Numbers.radix_of Names-as-Numbers.width Names-as-Numbers.figure Names-as-Numbers.scan Names-as-Numbers.digits_of Names-as-Numbers.in_base Names-as-Numbers.base_of Names-as-Numbers.number_of Expressions-as-Trees.span_e Expressions-as-Trees.with_span Expressions-as-Trees.size Records-as-Diagnostics.diagnostic_record Expressions-as-Reader.met Expressions-as-Reader.run Expressions-as-Reader.reach Expressions-as-Expressions.known Expressions-as-Expressions.suffix_run Expressions-as-Expressions.take_size_suffix Expressions-as-Expressions.precedence Expressions-as-Expressions.binary_operator Expressions-as-Expressions.operator Expressions-as-Expressions.operated Expressions-as-Expressions.parse_expression_from Expressions-as-Expressions.climbed Expressions-as-Expressions.parse_expression_of Expressions-as-Expressions.is_unary Expressions-as-Expressions.unary_operator Expressions-as-Expressions.negated Expressions-as-Expressions.plussed Expressions-as-Expressions.valued Expressions-as-Expressions.named Expressions-as-Expressions.grouped Expressions-as-Expressions.number_term Expressions-as-Expressions.leaf_term Expressions-as-Expressions.parse_prefix_term Expressions-as-Expressions.too_deep Expressions-as-Expressions.parse_prefix Expressions-as-Expressions.fuel Expressions-as-Expressions.parse_expression Expressions-as-Expressions.expression_from Records-as-Nodes.low_first Records-as-Nodes.words Expressions-as-Records.nodes Operand-as-Operand.is_address Operand-as-Operand.is_suppressed Operand-as-Operand.is_suppressed_register Operand-as-Operand.is_suppressed_address Operand-as-Operand.a_register Operand-as-Operand.an_address_register Operand-as-Operand.a_program_counter Operand-as-Operand.unmarked Operand-as-Operand.an_index Operand-as-Operand.a_base_or_an_index Operand-as-Operand.index_of Operand-as-Operand.suppressed_index Operand-as-Operand.register_from Operand-as-Operand.malformed Operand-as-Operand.unclosed Operand-as-Operand.stepped_over Operand-as-Operand.not_an_address_register Operand-as-Operand.immediate_size Operand-as-Operand.or_absent Operand-as-Operand.parse_immediate Operand-as-Operand.expect_close Operand-as-Operand.over Operand-as-Operand.or_none Operand-as-Operand.predecrement_close Operand-as-Operand.parse_predecrement Operand-as-Operand.register_expected Operand-as-Operand.ranged Operand-as-Operand.list_item Operand-as-Operand.listed Operand-as-Operand.next_item Operand-as-Operand.list_loop Operand-as-Operand.parse_register_list Operand-as-Operand.register_direct Operand-as-Operand.parse_register_operand Operand-as-Operand.scale_of Operand-as-Operand.scaled Operand-as-Operand.index_scale Operand-as-Operand.index_size Operand-as-Operand.index_register Operand-as-Operand.parse_index_register Operand-as-Operand.base_shape Operand-as-Operand.indexed_operand Operand-as-Operand.closed_base Operand-as-Operand.after_base Operand-as-Operand.closed_counter Operand-as-Operand.after_counter Operand-as-Operand.parse_base_and_index Operand-as-Operand.after_base_register Operand-as-Operand.size_or_scale Operand-as-Operand.no_base Operand-as-Operand.parse_base_and_index_registers Operand-as-Operand.closes Operand-as-Operand.starts_a_full_index Operand-as-Operand.parse_full_index Operand-as-Operand.sized Operand-as-Operand.parse_sized_displacement Operand-as-Operand.inner_displaced Operand-as-Operand.parse_inner Operand-as-Operand.outer_indexed Operand-as-Operand.outer_index Operand-as-Operand.parse_outer Operand-as-Operand.parse_memory_indirect Operand-as-Operand.absolute_size Operand-as-Operand.finish_expression_operand Operand-as-Operand.displacement_tail Operand-as-Operand.parse_expression_operand Operand-as-Operand.sized_base Operand-as-Operand.unexpected Operand-as-Operand.after_expression Operand-as-Operand.parenthesised Operand-as-Operand.starts_a_base Operand-as-Operand.parse_parenthesised_operand Operand-as-Operand.special_index Operand-as-Operand.name_or_expression Operand-as-Operand.minus_operand Operand-as-Operand.operand_from Operand-as-Operand.parse_operand Operand-as-Operand.reading_of Operand-as-Records.item_record Operand-as-Records.item_records Operand-as-Records.size_d Operand-as-Records.nodes_d Operand-as-Records.size_o Operand-as-Records.nodes_o Operand-as-Records.flag Operand-as-Records.size_m Operand-as-Records.nodes_m Operand-as-Records.diagnostic_records Operand-as-Forms.sized_of Operand-as-Forms.record_of Operand-as-Layout.last_eight Operand-as-Layout.node_from Operand-as-Layout.records_laid Operand-as-Layouts.number Operand-as-Layout.diagnostic_laid Operand-as-Layout.diagnostics_laid Operand-as-Layout.head_laid Operand-as-Layout.sized_part Operand-as-Layout.base_part Operand-as-Layout.index_part Operand-as-Layout.bytes_of Operand-as-Layout.answer_line hexadecimal tree_d tree_o kinds_of problem_is tree_is span_is name_is tree_m form_is is_none meets meets_all holds_for hold_for_all minus_tokens minuses behind_spaces table
 trials = refl

@@ -1,4 +1,5 @@
 // The forms of operands: the Rust's `Operand`, from 1 in the enum's order.
+// Numbers, not an enum: a record that a caller gives may hold any form.
 pub const IMMEDIATE: u8 = 1;
 
 pub const DATA_REGISTER_DIRECT: u8 = 2;

@@ -8,7 +8,8 @@ pub struct Register {
     pub span: Span,
 }
 
-// Size 1 to 4 and scale 1, 2, 4 or 8, 0 for none; the last span is that of `d1.w*4`.
+// Size 1 to 4 and scale 1, 2, 4 or 8, 0 for none; the last span is that of `d1.w*4`. Numbers, here and below, as the record's bytes:
+// `write_operand` takes any.
 #[derive(Clone, Copy)]
 pub struct IndexRegister {
     pub register: Register,
@@ -18,7 +19,7 @@ pub struct IndexRegister {
     pub span: Span,
 }
 
-// A suppressed address register is its number, 0 to 7.
+// As the Rust has it, `Omitted` among its bases. A suppressed address register is its number, 0 to 7.
 #[derive(Clone, Copy)]
 pub enum BaseRegister {
     Address(Register),
@@ -28,17 +29,11 @@ pub enum BaseRegister {
     Omitted,
 }
 
-#[derive(Clone, Copy)]
-pub enum Index {
-    Indexed(IndexRegister),
-    Unindexed,
-}
-
 // The base and the index of a full index.
 #[derive(Clone, Copy)]
 pub struct Registers {
     pub base: BaseRegister,
-    pub index: Index,
+    pub index: Option<IndexRegister>,
 }
 
 // An expression and its size, 0 for none.
@@ -48,20 +43,14 @@ pub struct Sized {
     pub size: u8,
 }
 
-#[derive(Clone, Copy)]
-pub enum SizedDisplacement {
-    Is(Sized),
-    Not,
-}
-
 // The fields of the operand's record (docs/FORMAT.md), and the mask of a register list, which has sixteen bits. Order and widths are such that the pieces
 // in which a record is copied do not overlap.
 #[derive(Clone, Copy)]
 pub struct OperandRecord {
     pub base: BaseRegister,
-    pub index: Index,
-    pub displacement: SizedDisplacement,
-    pub outer: SizedDisplacement,
+    pub index: Option<IndexRegister>,
+    pub displacement: Option<Sized>,
+    pub outer: Option<Sized>,
     pub span: Span,
     pub mask: u32,
     pub form: u8,
@@ -69,66 +58,10 @@ pub struct OperandRecord {
     pub special: u8,
 }
 
-// ---- what the functions answer, each with the counters behind it
-
-#[derive(Clone, Copy)]
-pub enum OperandRead {
-    Is(OperandRecord),
-    Not,
-}
-
+// What the reader of an operand answers, with the counters behind it.
 #[derive(Clone, Copy)]
 pub struct OperandStep {
-    pub operand: OperandRead,
-    pub counters: Counters,
-}
-
-#[derive(Clone, Copy)]
-pub enum IndexRead {
-    Is(IndexRegister),
-    Not,
-}
-
-#[derive(Clone, Copy)]
-pub struct IndexStep {
-    pub index: IndexRead,
-    pub counters: Counters,
-}
-
-#[derive(Clone, Copy)]
-pub enum RegistersRead {
-    Is(Registers),
-    Not,
-}
-
-#[derive(Clone, Copy)]
-pub struct RegistersStep {
-    pub registers: RegistersRead,
-    pub counters: Counters,
-}
-
-#[derive(Clone, Copy)]
-pub enum DisplacementRead {
-    Is(SizedDisplacement),
-    Not,
-}
-
-#[derive(Clone, Copy)]
-pub struct DisplacementStep {
-    pub displacement: DisplacementRead,
-    pub counters: Counters,
-}
-
-// The end of a parenthesis.
-#[derive(Clone, Copy)]
-pub enum Close {
-    Is(u16),
-    Not,
-}
-
-#[derive(Clone, Copy)]
-pub struct CloseStep {
-    pub close: Close,
+    pub operand: Option<OperandRecord>,
     pub counters: Counters,
 }
 
@@ -137,16 +70,4 @@ pub struct CloseStep {
 pub struct Suffixed {
     pub size: u8,
     pub span: Span,
-}
-
-#[derive(Clone, Copy)]
-pub enum SuffixRead {
-    Is(Suffixed),
-    Not,
-}
-
-#[derive(Clone, Copy)]
-pub struct SuffixStep {
-    pub suffix: SuffixRead,
-    pub counters: Counters,
 }

@@ -8,92 +8,105 @@ pub enum Layout {
     Wide,
 }
 
-// How many tokens lie in so many bytes. Each size is divided by as a constant, which is faster.
-pub fn token_count(layout: Layout, bytes: usize) -> usize
-    ensures { result ≡ bytes / token_size layout }
-{
-    match layout {
-        Layout::Narrow => bytes / 4,
-        Layout::Wide => bytes / 6,
+// A match each: a const parameter would need the layout as a type, and it is a value of the call.
+impl Layout {
+    // How many tokens lie in so many bytes. Each size is divided by as a constant, which is faster.
+    pub fn token_count(self, bytes: usize) -> usize
+        ensures { result ≡ bytes / token_size self }
+    {
+        match self {
+            Layout::Narrow => bytes / 4,
+            Layout::Wide => bytes / 6,
+        }
     }
-}
 
-// How many diagnostic records lie in so many bytes.
-pub fn diagnostic_count(layout: Layout, bytes: usize) -> usize
-    ensures { result ≡ bytes / diagnostic_size layout }
-{
-    match layout {
-        Layout::Narrow => bytes / 10,
-        Layout::Wide => bytes / 16,
+    // How many diagnostic records lie in so many bytes.
+    pub fn diagnostic_count(self, bytes: usize) -> usize
+        ensures { result ≡ bytes / diagnostic_size self }
+    {
+        match self {
+            Layout::Narrow => bytes / 10,
+            Layout::Wide => bytes / 16,
+        }
     }
-}
 
-// The bytes of a node record.
-pub fn node_size(layout: Layout) -> usize
-    ensures { result ≡ node_size layout }
-{
-    match layout {
-        Layout::Narrow => 14,
-        Layout::Wide => 18,
+    // The bytes of a token.
+    pub fn token_size(self) -> usize
+        ensures { result ≡ token_size self }
+    {
+        match self {
+            Layout::Narrow => 4,
+            Layout::Wide => 6,
+        }
     }
-}
 
-// The bytes of a diagnostic record.
-pub fn diagnostic_size(layout: Layout) -> usize
-    ensures { result ≡ diagnostic_size layout }
-{
-    match layout {
-        Layout::Narrow => 10,
-        Layout::Wide => 16,
+    // The bytes of a node record.
+    pub fn node_size(self) -> usize
+        ensures { result ≡ node_size self }
+    {
+        match self {
+            Layout::Narrow => 14,
+            Layout::Wide => 18,
+        }
     }
-}
 
-// The bytes of the operand's record.
-pub fn operand_size(layout: Layout) -> usize
-    ensures { result ≡ operand_size layout }
-{
-    match layout {
-        Layout::Narrow => 20,
-        Layout::Wide => 30,
+    // The bytes of a diagnostic record.
+    pub fn diagnostic_size(self) -> usize
+        ensures { result ≡ diagnostic_size self }
+    {
+        match self {
+            Layout::Narrow => 10,
+            Layout::Wide => 16,
+        }
     }
-}
 
-// The bytes of the longest line.
-pub fn longest_line(layout: Layout) -> usize
-    ensures { result ≡ longest_line layout }
-{
-    match layout {
-        Layout::Narrow => 255,
-        Layout::Wide => 4095,
+    // The bytes of the operand's record.
+    pub fn operand_size(self) -> usize
+        ensures { result ≡ operand_size self }
+    {
+        match self {
+            Layout::Narrow => 20,
+            Layout::Wide => 30,
+        }
     }
-}
 
-// The tokens of the longest list, and the records of a node store.
-pub fn most_tokens(layout: Layout) -> usize
-    ensures { result ≡ most_tokens layout }
-{
-    match layout {
-        Layout::Narrow => 255,
-        Layout::Wide => 1023,
+    // The bytes of the longest line.
+    pub fn longest_line(self) -> usize
+        ensures { result ≡ longest_line self }
+    {
+        match self {
+            Layout::Narrow => 255,
+            Layout::Wide => 4095,
+        }
     }
-}
 
-// The bytes of a node store.
-pub fn node_store(layout: Layout) -> usize
-    ensures { result ≡ node_store layout }
-{
-    match layout {
-        Layout::Narrow => 3570,
-        Layout::Wide => 18414,
+    // The tokens of the longest list, and the records of a node store.
+    pub fn most_tokens(self) -> usize
+        ensures { result ≡ most_tokens self }
+    {
+        match self {
+            Layout::Narrow => 255,
+            Layout::Wide => 1023,
+        }
     }
-}
 
-// The diagnostic records that must be free.
-pub fn free_records(layout: Layout) -> usize
-    ensures { result ≡ free_records layout }
-{
-    match layout {
-        Layout::Narrow => 511,
-        Layout::Wide => 2047,
+    // The bytes of a node store.
+    pub fn node_store(self) -> usize
+        ensures { result ≡ node_store self }
+    {
+        match self {
+            Layout::Narrow => 3570,
+            Layout::Wide => 18414,
+        }
+    }
+
+    // The diagnostic records that must be free.
+    pub fn free_records(self) -> usize
+        ensures { result ≡ free_records self }
+    {
+        match self {
+            Layout::Narrow => 511,
+            Layout::Wide => 2047,
+        }
     }
 }

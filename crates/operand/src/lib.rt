@@ -3,12 +3,11 @@
 
 pub mod form_numbers;
 mod forms;
-pub mod layouts;
-pub mod refusal_numbers;
+mod layouts;
+mod refusals;
 
 pub use forms::{
-    BaseRegister, Close, CloseStep, DisplacementRead, DisplacementStep, Index, IndexRead,
-    IndexRegister, IndexStep, OperandRead, OperandRecord, OperandStep, Register, Registers,
-    RegistersRead, RegistersStep, Sized, SizedDisplacement, SuffixRead, SuffixStep, Suffixed,
+    BaseRegister, IndexRegister, OperandRecord, OperandStep, Register, Registers, Sized, Suffixed,
 };
 pub use layouts::Layout;
+pub use refusals::Refusal;

@@ -8,7 +8,6 @@ use lib.ListN.{length}
 use Rattle.names.specs.Tokens.{count, token_at}
 use Rattle.names.specs.Places.{place, below, live}
 use Rattle.names.specs.declared.tokens.Token.{Token}
-use Rattle.names.specs.declared.tokens.Peeked.TheVariants as peeked
 use Rattle.records.specs.declared.counters.Counters.{Counters}
 use Rattle.expressions.specs.declared.reading.Setting.{Setting}
 use Rattle.expressions.proofs.Costs.{all_clean, suffix_cost}
@@ -17,59 +16,39 @@ use Rattle.expressions.specs.Laws as laws
 use Rattle.expressions.specs.Laws.{Law, law_run}
 use Rattle.expressions.specs.Reader.{Reader, run}
 use Rattle.records.specs.Counters.{stepped}
-use Rattle.operand.specs.Operands.{Maybe, some, none}
 use Rattle.operand.specs.Operand.{parse_index_register, parse_base_and_index_registers}
 use Rattle.operand.proofs.Costs.{Left}
 use Rattle.operand.proofs.Costs as cost
-use Rattle.operand.specs.Forms.{index_read, registers_read, close_read, suffix_read}
+use Rattle.operand.specs.Forms.{suffix_read}
 use Rattle.records.specs.Rooms.{Room}
 use Rattle.expressions.specs.Told.{Told}
 use Rattle.operand.specs.declared.forms.IndexRegister.{IndexRegister}
-use Rattle.operand.specs.declared.forms.IndexRead.{IndexRead}
 use Rattle.operand.specs.declared.forms.Registers.{Registers}
-use Rattle.operand.specs.declared.forms.RegistersRead.{RegistersRead}
-use Rattle.operand.specs.declared.forms.Close.{Close}
 use Rattle.operand.specs.declared.forms.Suffixed.{Suffixed}
-use Rattle.operand.specs.declared.forms.SuffixRead.{SuffixRead}
+use Rattle.std.specs.Prelude.{Option, Some, None, option_map}
 
 -- ---- the definition's answer, by the code's
 
-pub index_is : (m : Maybe IndexRegister) {x : IndexRegister} → index_read m ≡ IndexRead.Is x → m ≡ some x
-unfolding index_read
-index_is (some y) h = cc
-index_is none h = let z : ◌≡◌ {A = ℕ} 0 1 = cc in absurd (omega arith)
+-- the answer that the code has a value for
+pub record MappedAs {A B : Type 0} (f : A → B) (m : Option A) (y : B) : Type 0 where
+  pub part : A
+  pub is : m ≡ Some part
+  pub form : f part ≡ y
 
-pub index_not : (m : Maybe IndexRegister) → index_read m ≡ IndexRead.Not → m ≡ none
-unfolding index_read
-index_not (some y) h = let z : ◌≡◌ {A = ℕ} 0 1 = cc in absurd (omega arith)
-index_not none h = refl
+pub map_is : {A B : Type 0} (f : A → B) (m : Option A) {y : B} → option_map f m ≡ Some y → MappedAs f m y
+map_is f (Some x) h = record { part = x; is = refl; form = cc }
+map_is f None h = let z : ◌≡◌ {A = ℕ} 0 1 = cc in absurd (omega arith)
 
-pub registers_is : (m : Maybe Registers) {x : Registers} → registers_read m ≡ RegistersRead.Is x → m ≡ some x
-unfolding registers_read
-registers_is (some y) h = cc
-registers_is none h = let z : ◌≡◌ {A = ℕ} 0 1 = cc in absurd (omega arith)
+pub map_not : {A B : Type 0} (f : A → B) (m : Option A) → option_map f m ≡ None → m ≡ None
+map_not f (Some x) h = let z : ◌≡◌ {A = ℕ} 0 1 = cc in absurd (omega arith)
+map_not f None h = refl
 
-pub registers_not : (m : Maybe Registers) → registers_read m ≡ RegistersRead.Not → m ≡ none
-unfolding registers_read
-registers_not (some y) h = let z : ◌≡◌ {A = ℕ} 0 1 = cc in absurd (omega arith)
-registers_not none h = refl
-
-pub close_is : (m : Maybe ℕ) {e : ℕ} → close_read m ≡ Close.Is e → m ≡ some e
-unfolding close_read
-close_is (some y) h = cc
-close_is none h = let z : ◌≡◌ {A = ℕ} 0 1 = cc in absurd (omega arith)
-
-pub close_not : (m : Maybe ℕ) → close_read m ≡ Close.Not → m ≡ none
-unfolding close_read
-close_not (some y) h = let z : ◌≡◌ {A = ℕ} 0 1 = cc in absurd (omega arith)
-close_not none h = refl
-
-pub suffix_is : (m : Suffix) {x : Suffixed} → suffix_read m ≡ SuffixRead.Is x → m ≡ suffixed x.size x.span
+pub suffix_is : (m : Suffix) {x : Suffixed} → suffix_read m ≡ Some x → m ≡ suffixed x.size x.span
 unfolding suffix_read
 suffix_is (suffixed n s) h = cc
 suffix_is bare h = let z : ◌≡◌ {A = ℕ} 0 1 = cc in absurd (omega arith)
 
-pub suffix_not : (m : Suffix) → suffix_read m ≡ SuffixRead.Not → m ≡ bare
+pub suffix_not : (m : Suffix) → suffix_read m ≡ None → m ≡ bare
 unfolding suffix_read
 suffix_not (suffixed n s) h = let z : ◌≡◌ {A = ℕ} 0 1 = cc in absurd (omega arith)
 suffix_not bare h = refl
@@ -77,7 +56,7 @@ suffix_not bare h = refl
 -- ---- room
 
 -- behind a token
-pub room_step : {T : List ℕ} {c c₁ : Counters} {k : Token} {n : ℕ} → Room T c n 1 → token_at T c.at ≡ peeked.Is k → c₁ ≡ stepped c k → Room T c₁ n 1
+pub room_step : {T : List ℕ} {c c₁ : Counters} {k : Token} {n : ℕ} → Room T c n 1 → token_at T c.at ≡ Some k → c₁ ≡ stepped c k → Room T c₁ n 1
 room_step {T} {c} {k = k} h t e = let l = live T c.at k t in rw e (omega (arith, h, l))
 
 -- behind a reader that has raised no more than it has consumed
@@ -90,23 +69,23 @@ room_behind {p = p} {L = L} {T = T} {c = c} h t q = record {
   seen_fit = omega (arith, h.seen_fit, t.at, t.seen);
 }
 
-pub suffix_room : (from : ℕ) {Q : Suffix → Counters → Type 0} {L T D D₁ : List ℕ} {c : Counters} {v : SuffixRead} {c₁ : Counters} {n : ℕ}
+pub suffix_room : (from : ℕ) {Q : Suffix → Counters → Type 0} {L T D D₁ : List ℕ} {c : Counters} {v : Option Suffixed} {c₁ : Counters} {n : ℕ}
     → Room T c n 1 → Told suffix_read Q (take_size_suffix from) L T D D₁ c v c₁ → Room T c₁ 0 1
 suffix_room from {L = L} {T = T} {c = c} h t =
     room_behind h t (omega (arith, (law_run (suffix_cost (place L T) 0 (all_clean (place L T)) from c.at c.end 0 0)).0))
 
 -- behind a reader that has answered something
-pub left_room : {A B : Type 0} {f : Maybe A → B} {Q : Maybe A → Counters → Type 0} {p : Reader (Maybe A)} {L T D D₁ : List ℕ} {c : Counters} {v : B} {c₁ : Counters} (g : A → ℕ) (least given far : ℕ) {x : A} {n : ℕ}
+pub left_room : {A B : Type 0} {f : Option A → B} {Q : Option A → Counters → Type 0} {p : Reader (Option A)} {L T D D₁ : List ℕ} {c : Counters} {v : B} {c₁ : Counters} (g : A → ℕ) (least given far : ℕ) {x : A} {n : ℕ}
     → Law p (place L T) (Left (place L T) 0 (all_clean (place L T)) g least given far c.at 0 0) c.at c.end 0 0
-    → (run p (place L T) c.at c.end).value ≡ some x → Room T c n 1 → Told f Q p L T D D₁ c v c₁ → Room T c₁ 0 1
+    → (run p (place L T) c.at c.end).value ≡ Some x → Room T c n 1 → Told f Q p L T D D₁ c v c₁ → Room T c₁ 0 1
 left_room g least given far law w h t = let q = rw w at (law_run law) in room_behind h t (omega (arith, q.2))
 
-pub index_room : (s : Setting) (shape : ℕ) {Q : Maybe IndexRegister → Counters → Type 0} {L T D D₁ : List ℕ} {c : Counters} {v : IndexRead} {c₁ : Counters} {x : IndexRegister}
-    → Room T c 0 1 → Told index_read Q (parse_index_register s shape) L T D D₁ c v c₁ → v ≡ IndexRead.Is x → Room T c₁ 0 1
+pub index_room : (s : Setting) (shape : ℕ) {Q : Option IndexRegister → Counters → Type 0} {L T D D₁ : List ℕ} {c : Counters} {v : Option IndexRegister} {c₁ : Counters} {x : IndexRegister}
+    → Room T c 0 1 → Told (λ z. z) Q (parse_index_register s shape) L T D D₁ c v c₁ → v ≡ Some x → Room T c₁ 0 1
 index_room s shape {L = L} {T = T} {c = c} h t w =
-    left_room (cost.nil (place L T) 0 (all_clean (place L T))) 1 0 0 (cost.index_cost (place L T) 0 (all_clean (place L T)) s shape c.at c.end 0 0) (index_is _ (sym t.what ∙ w)) h t
+    left_room (cost.nil (place L T) 0 (all_clean (place L T))) 1 0 0 (cost.index_cost (place L T) 0 (all_clean (place L T)) s shape c.at c.end 0 0) (sym t.what ∙ w) h t
 
-pub registers_room : (s : Setting) (shape : ℕ) {Q : Maybe Registers → Counters → Type 0} {L T D D₁ : List ℕ} {c : Counters} {v : RegistersRead} {c₁ : Counters} {x : Registers}
-    → Room T c 0 1 → Told registers_read Q (parse_base_and_index_registers s shape) L T D D₁ c v c₁ → v ≡ RegistersRead.Is x → Room T c₁ 0 1
+pub registers_room : (s : Setting) (shape : ℕ) {Q : Option Registers → Counters → Type 0} {L T D D₁ : List ℕ} {c : Counters} {v : Option Registers} {c₁ : Counters} {x : Registers}
+    → Room T c 0 1 → Told (λ z. z) Q (parse_base_and_index_registers s shape) L T D D₁ c v c₁ → v ≡ Some x → Room T c₁ 0 1
 registers_room s shape {L = L} {T = T} {c = c} h t w =
-    left_room (cost.nil (place L T) 0 (all_clean (place L T))) 1 0 1 (cost.registers_cost (place L T) 0 (all_clean (place L T)) s shape c.at c.end 0 0) (registers_is _ (sym t.what ∙ w)) h t
+    left_room (cost.nil (place L T) 0 (all_clean (place L T))) 1 0 1 (cost.registers_cost (place L T) 0 (all_clean (place L T)) s shape c.at c.end 0 0) (sym t.what ∙ w) h t

@@ -1,3 +1,2 @@
 -- What the proofs of expressed.rt share.
-pub mod Fitting
 pub mod Trees

@@ -1,6 +1,6 @@
 -- What stands behind the base of a parenthesis, of an address register and of the program counter alike.
 -- Assumes nothing.
-use Rattle.std.specs.Prelude.{Bool, true, false, List, ℕ}
+use Rattle.std.specs.Prelude.{Bool, true, false, List, ℕ, Option}
 use Rattle.names.specs.Choice.{pick}
 use Rattle.names.specs.Kinds
 use Rattle.names.specs.declared.tokens.Token.{Token}
@@ -11,7 +11,7 @@ use Rattle.records.specs.Problems
 use Rattle.records.specs.declared.spans.Span.{Span}
 use Rattle.operand.specs.FormNumbers
 use Rattle.operand.specs.Operands as O
-use Rattle.operand.specs.Operands.{Maybe, Operand, Displacement}
+use Rattle.operand.specs.Operands.{Operand, Displacement}
 use Rattle.operand.specs.Operand.{an_address_register, a_program_counter, register_from, base_shape, closed_base, closed_counter, base_and_index, unclosed}
 use Rattle.operand.specs.declared.forms.BaseRegister.{BaseRegister}
 use Rattle.operand.specs.declared.forms.IndexRegister.{IndexRegister}
@@ -48,7 +48,7 @@ index_shape base = address_or Shapes.index Shapes.pc_index base
 unfoldable pub index_form : BaseRegister → ℕ
 index_form base = address_or FormNumbers.index FormNumbers.pc_index base
 
-unfoldable pub closed : Setting → BaseRegister → Displacement → Token → Reader (Maybe Operand)
+unfoldable pub closed : Setting → BaseRegister → Displacement → Token → Reader (Option Operand)
 closed s (BaseRegister.Address r) d close = closed_base s r d close
 closed s BaseRegister.ProgramCounter d close = closed_counter s d close
 closed s (BaseRegister.SuppressedAddress n) d close = closed_counter s d close
@@ -64,7 +64,7 @@ indexed_by BaseRegister.SuppressedProgramCounter d x = O.pc_index d x
 indexed_by BaseRegister.Omitted d x = O.pc_index d x
 
 -- `after_base` and `after_counter` in one
-unfoldable pub behind_base : Setting → Token → BaseRegister → Displacement → Reader (Maybe Operand)
+unfoldable pub behind_base : Setting → Token → BaseRegister → Displacement → Reader (Option Operand)
 behind_base s k base d =
     bump (is Kinds.right_paren) (λ close x. closed s base d close) λ u.
     bump (is Kinds.comma) (λ c x. base_and_index s k (index_shape base) base d (indexed_by base d)) λ u.

@@ -7,3 +7,4 @@ pub mod Lists
 pub mod Memory
 pub mod Absolutes
 pub mod Reading
+pub mod Told

@@ -1,12 +1,11 @@
 -- What stands at a place, as the code asks it: the value that a name is, and whether a full index or a base begins there.
 -- Assumes nothing.
-use Rattle.std.specs.Prelude.{Bool, true, false, not, List, ℕ, ◌+◌, ◌-◌, eqb, leb}
+use Rattle.std.specs.Prelude.{Bool, true, false, not, List, ℕ, ◌+◌, ◌-◌, eqb, leb, Option, Some, None}
 use Rattle.names.specs.Choice.{pick, both, either}
 use Rattle.names.specs.Kinds
 use Rattle.names.specs.Places.{Place}
 use Rattle.names.specs.Registers.{register_of, suppressed_of}
 use Rattle.names.specs.declared.tokens.Token.{Token}
-use Rattle.names.specs.declared.registers.Reg.{Reg}
 use Rattle.names.specs.declared.registers.Suppressed.{Suppressed}
 use Rattle.records.specs.Spans.{span, span_of}
 use Rattle.expressions.specs.Laws.{holds}
@@ -16,26 +15,26 @@ use Rattle.operand.specs.Operand.{a_register, an_address_register, a_program_cou
 use Rattle.operand.specs.declared.forms.Register.{Register}
 use Rattle.operand.specs.declared.forms.BaseRegister.{BaseRegister}
 use Rattle.operand.specs.declared.forms.IndexRegister.{IndexRegister}
-use Rattle.operand.specs.declared.forms.SuffixRead.{SuffixRead}
+use Rattle.operand.specs.declared.forms.Suffixed.{Suffixed}
 
 -- the register that a token is
-unfoldable pub reg_at : Token → List ℕ → Reg
-reg_at t x = pick (eqb t.kind Kinds.identifier) (register_of x) Reg.Not
+unfoldable pub reg_at : Token → List ℕ → Option ℕ
+reg_at t x = pick (eqb t.kind Kinds.identifier) (register_of x) None
 
 -- `address_register_at`
-unfoldable pub address_of : Reg → Reg
-address_of (Reg.Is r) = pick (leb 8 r) (Reg.Is r) Reg.Not
-address_of Reg.Not = Reg.Not
+unfoldable pub address_of : Option ℕ → Option ℕ
+address_of (Some r) = pick (leb 8 r) (Some r) None
+address_of None = None
 
 -- the suppressed register that the token at the place i is, if the mark does not turn it into a symbol
-unfoldable pub suppressed_at : Setting → ℕ → Token → List ℕ → Suppressed
-suppressed_at s i t x = pick (eqb s.mark i) Suppressed.Not (pick (eqb t.kind Kinds.identifier) (suppressed_of x) Suppressed.Not)
+unfoldable pub suppressed_at : Setting → ℕ → Token → List ℕ → Option Suppressed
+suppressed_at s i t x = pick (eqb s.mark i) None (pick (eqb t.kind Kinds.identifier) (suppressed_of x) None)
 
 -- the register that a suppressed name is, as an index
-unfoldable pub suppressed_reg : Suppressed → Reg
-suppressed_reg (Suppressed.Register r) = Reg.Is r
-suppressed_reg Suppressed.ProgramCounter = Reg.Not
-suppressed_reg Suppressed.Not = Reg.Not
+unfoldable pub suppressed_reg : Option Suppressed → Option ℕ
+suppressed_reg (Some (Suppressed.Register r)) = Some r
+suppressed_reg (Some Suppressed.ProgramCounter) = None
+suppressed_reg None = None
 
 -- whether `starts_a_full_index` hits at the place i
 unfoldable pub full_index_starts : Setting → (ℕ → Place) → ℕ → Bool
@@ -51,19 +50,19 @@ base_starts at i =
     (either (not (holds any (at (i + 1)))) (holds (λ t x. either (eqb t.kind Kinds.right_paren) (eqb t.kind Kinds.comma)) (at (i + 1))))
 
 -- the base that a register is: a data register is none
-unfoldable pub address_base : Reg → Token → BaseRegister → BaseRegister
-address_base (Reg.Is r) t b = pick (leb 8 r) (BaseRegister.Address (record { index = r; span = span_of t })) b
-address_base Reg.Not t b = b
+unfoldable pub address_base : Option ℕ → Token → BaseRegister → BaseRegister
+address_base (Some r) t b = pick (leb 8 r) (BaseRegister.Address (record { index = r; span = span_of t })) b
+address_base None t b = b
 
-unfoldable pub suppressed_base : Suppressed → BaseRegister
-suppressed_base (Suppressed.Register r) = pick (leb 8 r) (BaseRegister.SuppressedAddress (r - 8)) BaseRegister.Omitted
-suppressed_base Suppressed.ProgramCounter = BaseRegister.Omitted
-suppressed_base Suppressed.Not = BaseRegister.Omitted
+unfoldable pub suppressed_base : Option Suppressed → BaseRegister
+suppressed_base (Some (Suppressed.Register r)) = pick (leb 8 r) (BaseRegister.SuppressedAddress (r - 8)) BaseRegister.Omitted
+suppressed_base (Some Suppressed.ProgramCounter) = BaseRegister.Omitted
+suppressed_base None = BaseRegister.Omitted
 
-unfoldable pub is_counter : Suppressed → Bool
-is_counter (Suppressed.Register r) = false
-is_counter Suppressed.ProgramCounter = true
-is_counter Suppressed.Not = false
+unfoldable pub is_counter : Option Suppressed → Bool
+is_counter (Some (Suppressed.Register r)) = false
+is_counter (Some Suppressed.ProgramCounter) = true
+is_counter None = false
 
 -- `base_at`: the base that the token t with the text x is at the place i, omitted where it is none
 unfoldable pub base_at : Setting → (ℕ → Place) → ℕ → Token → List ℕ → BaseRegister
@@ -81,7 +80,7 @@ is_base BaseRegister.SuppressedProgramCounter = true
 is_base BaseRegister.Omitted = false
 
 -- an index with the size of its suffix, if it has one
-unfoldable pub sized_index : Register → Bool → SuffixRead → IndexRegister
-sized_index r suppressed SuffixRead.Not = record { register = r; size = 0; scale = 0; suppressed = suppressed; span = r.span }
-sized_index r suppressed (SuffixRead.Is x) =
+unfoldable pub sized_index : Register → Bool → Option Suffixed → IndexRegister
+sized_index r suppressed None = record { register = r; size = 0; scale = 0; suppressed = suppressed; span = r.span }
+sized_index r suppressed (Some x) =
     record { register = r; size = x.size; scale = 0; suppressed = suppressed; span = span r.span.start x.span.end }

@@ -1,54 +1,34 @@
-// Expressions of an operand, for which there is always room. A slice that is lent anew (`&*line`) is handed on in registers, not through
-// memory.
+// Expressions of an operand, for which there is always room.
+ghost use Rattle.std.specs.Prelude.{◌≡◌};
 ghost use Rattle.records.specs.Rooms.{NodeRoom};
-ghost use Rattle.expressions_code.specs.Reading.{ExpressionFits, FromFits};
+ghost use Rattle.operand_code.specs.Told.{ExpressionTells, FromTells};
 
-use expressions::Setting;
-use expressions_code::{
-    Chain, ChainAnswer, ExpressionAnswer, Parsed, Step, expression, expression_from,
-};
-use records::{Counters, Span};
+use expressions::Source;
+use expressions_code::{TermError, expression, expression_from};
+use records::{Progress, Span};
 
 pub(crate) fn expression_at(
-    line: &[u8],
-    tokens: &[u16],
+    source: &Source,
     nodes: &mut [u16],
-    diagnostics: &mut [u16],
-    c: Counters,
-    s: Setting,
-) -> Step
-    requires { NodeRoom tokens.now nodes.old c 0 0 1 }
-    ensures { ExpressionFits line.now tokens.now nodes.old diagnostics.old nodes.new diagnostics.new c s.limit result }
+    out: &mut Progress,
+) -> Result<Span, TermError>
+    requires { NodeRoom source.now.tokens.now nodes.old out.old.counters 0 0 1 }
+    ensures lent { out.new.diagnostics.ghost_name ≡ out.old.diagnostics.ghost_name }
+    ensures told { ExpressionTells source.now nodes.old out.old nodes.new out.new result }
 {
-    let r = expression(&*line, &*tokens, nodes, diagnostics, c, s);
-    match r {
-        ExpressionAnswer::Is(x) => x,
-        ExpressionAnswer::Unfit => Step {
-            parsed: Parsed::Absent,
-            counters: c,
-        },
-    }
+    expression(source, nodes, out).unwrap_or(Err(TermError::Absent))
 }
 
 // The expression that goes on from a group, whose tree is the last that was read.
 pub(crate) fn expression_behind(
-    line: &[u8],
-    tokens: &[u16],
+    source: &Source,
     nodes: &mut [u16],
-    diagnostics: &mut [u16],
-    c: Counters,
+    out: &mut Progress,
     group: Span,
-    s: Setting,
-) -> Chain
-    requires { NodeRoom tokens.now nodes.old c 1 0 1 }
-    ensures { FromFits line.now tokens.now nodes.old diagnostics.old nodes.new diagnostics.new c group s.limit result }
+) -> Span
+    requires { NodeRoom source.now.tokens.now nodes.old out.old.counters 1 0 1 }
+    ensures lent { out.new.diagnostics.ghost_name ≡ out.old.diagnostics.ghost_name }
+    ensures told { FromTells source.now nodes.old out.old nodes.new out.new group result }
 {
-    let r = expression_from(line, tokens, nodes, diagnostics, c, group, s);
-    match r {
-        ChainAnswer::Is(x) => x,
-        ChainAnswer::Unfit => Chain {
-            span: group,
-            counters: c,
-        },
-    }
+    expression_from(source, nodes, out, group).unwrap_or(group)
 }

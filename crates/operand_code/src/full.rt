@@ -2,195 +2,126 @@
 ghost use Rattle.std.specs.Prelude.{◌≡◌};
 ghost use Rattle.records.specs.Rooms.{Room};
 ghost use Rattle.operand.specs.Operand.{after_base_register, no_base, parse_base_and_index_registers, parse_full_index, with_index, comma_and_index};
-ghost use Rattle.operand.specs.Forms.{registers_read};
-ghost use Rattle.expressions.specs.Told.{Told, Same};
-ghost use Rattle.operand_code.specs.Operands.{TailTold};
-ghost use Rattle.operand.specs.declared.forms.RegistersRead.{RegistersRead};
+ghost use Rattle.expressions.specs.Told.{Same};
+ghost use Rattle.operand_code.specs.Told.{Tells};
+ghost use Rattle.operand_code.specs.Operands.{TailBy};
 
 use crate::indexes::parse_index_register;
 use crate::lookahead::{base_at, is_an_index_at, is_base};
 use crate::malformed::{expect_close, stepped_over};
-use crate::steps::{an_operand, indexed, no_operand, step_over};
-use expressions::Setting;
-use names::{Peeked, Token, kinds};
-use operand::{
-    BaseRegister, Close, Index, IndexRead, OperandStep, Registers, RegistersRead, RegistersStep,
-    SizedDisplacement, form_numbers,
-};
+use crate::steps::indexed;
+use expressions::Source;
+use names::{Token, kinds};
+use operand::{BaseRegister, OperandRecord, Registers, Sized, form_numbers};
 use records::problems::BASE_OR_INDEX_MISSING;
-use records::{Counters, Span, shapes};
-
-fn registers(base: BaseRegister, index: Index, c: Counters) -> RegistersStep
-    ensures { (result.registers ≡ RegistersRead.Is (record { base = base; index = index })) × (result.counters ≡ c) }
-{
-    RegistersStep {
-        registers: RegistersRead::Is(Registers {
-            base: base,
-            index: index,
-        }),
-        counters: c,
-    }
-}
-
-fn no_registers(c: Counters) -> RegistersStep
-    ensures { (result.registers ≡ RegistersRead.Not) × (result.counters ≡ c) }
-{
-    RegistersStep {
-        registers: RegistersRead::Not,
-        counters: c,
-    }
-}
+use records::{Progress, Span, shapes};
 
 // The index that stands at the cursor, behind this base.
 fn with_index(
-    line: &[u8],
-    tokens: &[u16],
-    diagnostics: &mut [u16],
-    c: Counters,
-    s: Setting,
+    source: &Source,
+    out: &mut Progress,
     shape: u16,
     base: BaseRegister,
-) -> RegistersStep
-    requires { Room tokens.now c 0 1 }
-    ensures { Told registers_read (Same c.nodes) (with_index s shape base) line.now tokens.now diagnostics.old diagnostics.new c result.registers result.counters }
+) -> Option<Registers>
+    requires { Room source.now.tokens.now out.old.counters 0 1 }
+    ensures lent { out.new.diagnostics.ghost_name ≡ out.old.diagnostics.ghost_name }
+    ensures told { Tells (λ z. z) (Same out.old.counters.nodes) (with_index source.now.setting shape base) source.now out.old out.new result }
 {
-    let i = parse_index_register(line, tokens, diagnostics, c, s, shape);
-    let e = i.counters;
-    let index = i.index;
-    match index {
-        IndexRead::Not => no_registers(e),
-        IndexRead::Is(x) => registers(base, Index::Indexed(x), e),
-    }
+    let x = parse_index_register(source, out, shape)?;
+    Some(Registers {
+        base,
+        index: Some(x),
+    })
 }
 
 // A comma and the index behind it, or neither.
 fn comma_and_index(
-    line: &[u8],
-    tokens: &[u16],
-    diagnostics: &mut [u16],
-    c: Counters,
-    s: Setting,
+    source: &Source,
+    out: &mut Progress,
     shape: u16,
     base: BaseRegister,
-) -> RegistersStep
-    requires { Room tokens.now c 0 1 }
-    ensures { Told registers_read (Same c.nodes) (comma_and_index s shape base) line.now tokens.now diagnostics.old diagnostics.new c result.registers result.counters }
+) -> Option<Registers>
+    requires { Room source.now.tokens.now out.old.counters 0 1 }
+    ensures lent { out.new.diagnostics.ghost_name ≡ out.old.diagnostics.ghost_name }
+    ensures told { Tells (λ z. z) (Same out.old.counters.nodes) (comma_and_index source.now.setting shape base) source.now out.old out.new result }
 {
-    let at = c.at as usize;
-    let p = names::token_at(tokens, at);
-    match p {
-        Peeked::End => registers(base, Index::Unindexed, c),
-        Peeked::Is(t) => {
-            if t.kind != kinds::COMMA {
-                return registers(base, Index::Unindexed, c);
-            }
-            with_index(line, tokens, diagnostics, step_over(c, t), s, shape, base)
-        }
+    let Some(t) = source.peek(out.counters) else {
+        return Some(Registers { base, index: None });
+    };
+    if t.kind != kinds::COMMA {
+        return Some(Registers { base, index: None });
     }
+    out.counters.step_over(t);
+    with_index(source, out, shape, base)
 }
 
 // Behind a base.
 fn after_base_register(
-    line: &[u8],
-    tokens: &[u16],
-    diagnostics: &mut [u16],
-    c: Counters,
-    s: Setting,
+    source: &Source,
+    out: &mut Progress,
     shape: u16,
     base: BaseRegister,
-) -> RegistersStep
-    requires { Room tokens.now c 0 1 }
-    ensures { Told registers_read (Same c.nodes) (after_base_register s shape base) line.now tokens.now diagnostics.old diagnostics.new c result.registers result.counters }
+) -> Option<Registers>
+    requires { Room source.now.tokens.now out.old.counters 0 1 }
+    ensures lent { out.new.diagnostics.ghost_name ≡ out.old.diagnostics.ghost_name }
+    ensures told { Tells (λ z. z) (Same out.old.counters.nodes) (after_base_register source.now.setting shape base) source.now out.old out.new result }
 {
-    let at = c.at as usize;
-    if is_an_index_at(line, tokens, at + 1, s) {
-        return comma_and_index(line, tokens, diagnostics, c, s, shape, base);
+    let at = out.counters.at as usize;
+    if is_an_index_at(source, at + 1) {
+        return comma_and_index(source, out, shape, base);
     }
-    registers(base, Index::Unindexed, c)
+    Some(Registers { base, index: None })
 }
 
 // An index without a base.
-fn no_base(
-    line: &[u8],
-    tokens: &[u16],
-    diagnostics: &mut [u16],
-    c: Counters,
-    s: Setting,
-    shape: u16,
-) -> RegistersStep
-    requires { Room tokens.now c 0 1 }
-    ensures { Told registers_read (Same c.nodes) (no_base s shape) line.now tokens.now diagnostics.old diagnostics.new c result.registers result.counters }
+fn no_base(source: &Source, out: &mut Progress, shape: u16) -> Option<Registers>
+    requires { Room source.now.tokens.now out.old.counters 0 1 }
+    ensures lent { out.new.diagnostics.ghost_name ≡ out.old.diagnostics.ghost_name }
+    ensures told { Tells (λ z. z) (Same out.old.counters.nodes) (no_base source.now.setting shape) source.now out.old out.new result }
 {
-    let at = c.at as usize;
-    if is_an_index_at(line, tokens, at, s) {
-        return with_index(
-            line,
-            tokens,
-            diagnostics,
-            c,
-            s,
-            shape,
-            BaseRegister::Omitted,
-        );
+    if is_an_index_at(source, out.counters.at as usize) {
+        return with_index(source, out, shape, BaseRegister::Omitted);
     }
-    no_registers(stepped_over(tokens, diagnostics, c, s, shape, BASE_OR_INDEX_MISSING))
+    stepped_over(source, out, shape, BASE_OR_INDEX_MISSING);
+    None
 }
 
 pub(crate) fn parse_base_and_index_registers(
-    line: &[u8],
-    tokens: &[u16],
-    diagnostics: &mut [u16],
-    c: Counters,
-    s: Setting,
+    source: &Source,
+    out: &mut Progress,
     shape: u16,
-) -> RegistersStep
-    requires { Room tokens.now c 0 1 }
-    ensures { Told registers_read (Same c.nodes) (parse_base_and_index_registers s shape) line.now tokens.now diagnostics.old diagnostics.new c result.registers result.counters }
+) -> Option<Registers>
+    requires { Room source.now.tokens.now out.old.counters 0 1 }
+    ensures lent { out.new.diagnostics.ghost_name ≡ out.old.diagnostics.ghost_name }
+    ensures told { Tells (λ z. z) (Same out.old.counters.nodes) (parse_base_and_index_registers source.now.setting shape) source.now out.old out.new result }
 {
-    let at = c.at as usize;
-    let p = names::token_at(tokens, at);
-    let Peeked::Is(t) = p else {
-        return no_base(line, tokens, diagnostics, c, s, shape);
+    let at = out.counters.at as usize;
+    let Some(t) = source.token_at(at) else {
+        return no_base(source, out, shape);
     };
-    let base = base_at(line, tokens, at, s, t);
+    let base = base_at(source, at, t);
     if is_base(base) {
-        let e = step_over(c, t);
-        return after_base_register(line, tokens, diagnostics, e, s, shape, base);
+        out.counters.step_over(t);
+        return after_base_register(source, out, shape, base);
     }
-    no_base(line, tokens, diagnostics, c, s, shape)
+    no_base(source, out, shape)
 }
 
 pub(crate) fn parse_full_index(
-    line: &[u8],
-    tokens: &[u16],
-    diagnostics: &mut [u16],
-    c: Counters,
-    s: Setting,
+    source: &Source,
+    out: &mut Progress,
     paren: Token,
-    d: SizedDisplacement,
-) -> OperandStep
-    requires { Room tokens.now c 0 1 }
-    ensures { TailTold (λ y. parse_full_index s paren y) line.now tokens.now diagnostics.old diagnostics.new c d result }
+    d: Option<Sized>,
+) -> Option<OperandRecord>
+    requires { Room source.now.tokens.now out.old.counters 0 1 }
+    ensures lent { out.new.diagnostics.ghost_name ≡ out.old.diagnostics.ghost_name }
+    ensures told { TailBy (λ y. parse_full_index source.now.setting paren y) source.now out.old out.new d result }
 {
-    let r = parse_base_and_index_registers(line, tokens, diagnostics, c, s, shapes::INDEX);
-    let e = r.counters;
-    let both = r.registers;
-    let RegistersRead::Is(x) = both else {
-        return no_operand(e);
+    let x = parse_base_and_index_registers(source, out, shapes::INDEX)?;
+    let end = expect_close(source, out, paren, shapes::INDEX)?;
+    let span = Span {
+        start: source.setting.start,
+        end,
     };
-    let f = expect_close(tokens, diagnostics, e, s, paren, shapes::INDEX);
-    let g = f.counters;
-    let close = f.close;
-    match close {
-        Close::Not => no_operand(g),
-        Close::Is(end) => {
-            let span = Span {
-                start: s.start,
-                end: end,
-            };
-            let base = x.base;
-            let index = x.index;
-            an_operand(indexed(form_numbers::FULL_INDEX, span, d, base, index), g)
-        }
-    }
+    Some(indexed(form_numbers::FULL_INDEX, span, d, x.base, x.index))
 }

@@ -1,223 +1,171 @@
-// Scales and index registers. A slice that is lent anew (`&*line`) is handed on in registers, not through memory.
-ghost use Rattle.std.specs.Prelude.{◌≡◌, List, ℕ, ◌<◌};
+// Scales and index registers.
+ghost use Rattle.std.specs.Prelude.{◌≡◌, ◌<◌};
 ghost use Rattle.records.specs.Rooms.{Room};
 ghost use Rattle.names.specs.Places.{text_of};
-ghost use Rattle.records.specs.Spans.{span};
 ghost use Rattle.operand.specs.Operand.{scale_of, scaled, scale_value, index_scale, index_register, parse_index_register};
-ghost use Rattle.operand.specs.Forms.{index_read};
-ghost use Rattle.expressions.specs.Told.{Told, Same};
+ghost use Rattle.expressions.specs.Told.{Same};
+ghost use Rattle.operand_code.specs.Told.{Tells};
 ghost use Rattle.operand_code.specs.Lookahead.{sized_index};
-ghost use Rattle.operand.specs.declared.forms.IndexRead.{IndexRead};
 
 use crate::lookahead::{register_at, register_of, suppressed_index_at};
-use crate::malformed::{malformed, raise, stepped_over};
-use crate::steps::step_over;
+use crate::malformed::{malformed, stepped_over};
 use crate::suffixes::take_size_suffix;
-use expressions::Setting;
-use names::{Number, Peeked, Reg, Token, kinds};
-use operand::{IndexRead, IndexRegister, IndexStep, Register, SuffixRead};
+use expressions::Source;
+use names::{NumberError, Token, kinds};
+use operand::{IndexRegister, Register, Suffixed};
 use records::diagnostic_kinds::NUMBER_TOO_LARGE;
 use records::problems::{BAD_SCALE, INDEX_MISSING, NO_PROBLEM};
 use records::shapes::NO_SHAPE;
-use records::{Counters, Span, diagnostic, span_of};
+use records::{Progress, Span, diagnostic, span_of};
 
-fn an_index(x: IndexRegister, c: Counters) -> IndexStep
-    ensures { (result.index ≡ IndexRead.Is x) × (result.counters ≡ c) }
-{
-    IndexStep {
-        index: IndexRead::Is(x),
-        counters: c,
-    }
-}
-
-fn no_index(c: Counters) -> IndexStep
-    ensures { (result.index ≡ IndexRead.Not) × (result.counters ≡ c) }
-{
-    IndexStep {
-        index: IndexRead::Not,
-        counters: c,
-    }
-}
-
+#[tactic(auto, unfolding(operand::specs::Operand::scale_of))]
 fn is_scale(value: u64) -> bool
     ensures { result ≡ scale_of value }
 {
-    match value {
-        1 => true,
-        2 => true,
-        4 => true,
-        8 => true,
-        _ => false,
-    }
+    matches!(value, 1 | 2 | 4 | 8)
 }
 
-// A scale, once its value is known.
+// The index with its scale, once the scale's value is known.
 fn scaled(
-    diagnostics: &mut [u16],
-    c: Counters,
-    s: Setting,
+    source: &Source,
+    out: &mut Progress,
     shape: u16,
     x: IndexRegister,
     token: Token,
     value: u64,
-) -> IndexStep
-    requires { c.diagnostics < 65535 }
-    ensures { (L T : List ℕ) → Told index_read (Same c.nodes) (scaled s shape x token value) L T diagnostics.old diagnostics.new c result.index result.counters }
+) -> Option<IndexRegister>
+    requires { out.old.counters.diagnostics < 65535 }
+    ensures lent { out.new.diagnostics.ghost_name ≡ out.old.diagnostics.ghost_name }
+    ensures told { Tells (λ z. z) (Same out.old.counters.nodes) (scaled source.now.setting shape x token value) source.now out.old out.new result }
 {
-    if is_scale(value) {
-        let register = x.register;
-        let y = IndexRegister {
-            register: register,
-            size: x.size,
-            scale: value as u8,
-            suppressed: x.suppressed,
-            span: Span {
-                start: x.span.start,
-                end: token.end,
-            },
-        };
-        return an_index(y, c);
+    if !is_scale(value) {
+        malformed(source, out, shape, BAD_SCALE);
+        return None;
     }
-    no_index(malformed(diagnostics, c, s, shape, BAD_SCALE))
+    Some(IndexRegister {
+        scale: value as u8,
+        span: Span {
+            start: x.span.start,
+            end: token.end,
+        },
+        ..x
+    })
 }
 
 // Behind the number of a scale. One that is too large is told, and is no scale either.
 fn index_scale_value(
-    line: &[u8],
-    diagnostics: &mut [u16],
-    c: Counters,
-    s: Setting,
+    source: &Source,
+    out: &mut Progress,
     shape: u16,
     x: IndexRegister,
     token: Token,
-) -> IndexStep
-    requires { c.diagnostics < 65534 }
-    ensures { (T : List ℕ) → Told index_read (Same c.nodes) (scale_value s shape x token (text_of line.now token.start token.end)) line.now T diagnostics.old diagnostics.new c result.index result.counters }
+) -> Option<IndexRegister>
+    requires { out.old.counters.diagnostics < 65534 }
+    ensures lent { out.new.diagnostics.ghost_name ≡ out.old.diagnostics.ghost_name }
+    ensures told { Tells (λ z. z) (Same out.old.counters.nodes) (scale_value source.now.setting shape x token (text_of source.now.line.now token.start token.end)) source.now out.old out.new result }
 {
-    let span = span_of(token);
-    let number = names::parse_number(token.detail, names::text_of(line, token));
-    match number {
-        Number::Value(v) => scaled(diagnostics, c, s, shape, x, token, v),
-        Number::TooLarge => {
-            let e = raise(
-                diagnostics,
-                c,
-                diagnostic(NUMBER_TOO_LARGE, NO_SHAPE, NO_PROBLEM, span, span),
-            );
-            scaled(diagnostics, e, s, shape, x, token, 0)
+    match names::parse_number(token.detail, source.text_of(token)) {
+        Ok(v) => scaled(source, out, shape, x, token, v),
+        Err(NumberError::TooLarge) => {
+            let span = span_of(token);
+            out.raise(diagnostic(NUMBER_TOO_LARGE, NO_SHAPE, NO_PROBLEM, span, span));
+            scaled(source, out, shape, x, token, 0)
         }
-        Number::Invalid => scaled(diagnostics, c, s, shape, x, token, 0),
+        Err(NumberError::Invalid) => scaled(source, out, shape, x, token, 0),
     }
 }
 
 fn index_scale(
-    line: &[u8],
-    tokens: &[u16],
-    diagnostics: &mut [u16],
-    c: Counters,
-    s: Setting,
+    source: &Source,
+    out: &mut Progress,
     shape: u16,
     x: IndexRegister,
-) -> IndexStep
-    requires { Room tokens.now c 0 1 }
-    ensures { Told index_read (Same c.nodes) (index_scale s shape x) line.now tokens.now diagnostics.old diagnostics.new c result.index result.counters }
+) -> Option<IndexRegister>
+    requires { Room source.now.tokens.now out.old.counters 0 1 }
+    ensures lent { out.new.diagnostics.ghost_name ≡ out.old.diagnostics.ghost_name }
+    ensures told { Tells (λ z. z) (Same out.old.counters.nodes) (index_scale source.now.setting shape x) source.now out.old out.new result }
 {
-    let at = c.at as usize;
-    let p = names::token_at(tokens, at);
-    let Peeked::Is(star) = p else {
-        return an_index(x, c);
+    let Some(star) = source.peek(out.counters) else {
+        return Some(x);
     };
     if star.kind != kinds::STAR {
-        return an_index(x, c);
+        return Some(x);
     }
-    let e = step_over(c, star);
-    let next = e.at as usize;
-    let q = names::token_at(tokens, next);
-    let Peeked::Is(t) = q else {
-        return no_index(stepped_over(tokens, diagnostics, e, s, shape, BAD_SCALE));
+    out.counters.step_over(star);
+    let Some(t) = source.peek(out.counters) else {
+        stepped_over(source, out, shape, BAD_SCALE);
+        return None;
     };
     if t.kind != kinds::NUMBER {
-        return no_index(stepped_over(tokens, diagnostics, e, s, shape, BAD_SCALE));
+        stepped_over(source, out, shape, BAD_SCALE);
+        return None;
     }
-    index_scale_value(line, diagnostics, step_over(e, t), s, shape, x, t)
+    out.counters.step_over(t);
+    index_scale_value(source, out, shape, x, t)
 }
 
-// An index with no scale yet, which ends at `end`.
-fn unscaled(register: Register, size: u8, suppressed: bool, end: u16) -> IndexRegister
-    ensures { result ≡ record { register = register; size = size; scale = 0; suppressed = suppressed; span = span register.span.start end } }
-{
-    let own = register.span;
-    IndexRegister {
-        register: register,
-        size: size,
-        scale: 0,
-        suppressed: suppressed,
-        span: Span {
-            start: own.start,
-            end: end,
-        },
-    }
-}
-
-// An index with the size of its suffix, if it has one.
-fn sized_index(register: Register, suppressed: bool, suffix: SuffixRead) -> IndexRegister
+// An index with no scale yet, behind its size if it has one.
+#[tactic(auto, unfolding(crate::specs::Lookahead::sized_index))]
+fn sized_index(register: Register, suppressed: bool, suffix: Option<Suffixed>) -> IndexRegister
     ensures { result ≡ sized_index register suppressed suffix }
 {
-    let own = register.span;
-    match suffix {
-        SuffixRead::Not => unscaled(register, 0, suppressed, own.end),
-        SuffixRead::Is(x) => unscaled(register, x.size, suppressed, x.span.end),
+    let start = register.span.start;
+    let (size, end) = match suffix {
+        Some(x) => (x.size, x.span.end),
+        None => (0, register.span.end),
+    };
+    IndexRegister {
+        register,
+        size,
+        scale: 0,
+        suppressed,
+        span: Span { start, end },
     }
 }
 
-// Behind the register of an index.
+// Behind the index's register.
 fn index_register(
-    line: &[u8],
-    tokens: &[u16],
-    diagnostics: &mut [u16],
-    c: Counters,
-    s: Setting,
+    source: &Source,
+    out: &mut Progress,
     shape: u16,
     register: Register,
     suppressed: bool,
-) -> IndexStep
-    requires { Room tokens.now c 0 1 }
-    ensures { Told index_read (Same c.nodes) (index_register s shape register suppressed) line.now tokens.now diagnostics.old diagnostics.new c result.index result.counters }
+) -> Option<IndexRegister>
+    requires { Room source.now.tokens.now out.old.counters 0 1 }
+    ensures lent { out.new.diagnostics.ghost_name ≡ out.old.diagnostics.ghost_name }
+    ensures told { Tells (λ z. z) (Same out.old.counters.nodes) (index_register source.now.setting shape register suppressed) source.now out.old out.new result }
 {
-    let own = register.span;
-    let start = own.start;
-    let z = take_size_suffix(&*line, &*tokens, diagnostics, c, start);
-    let e = z.counters;
-    let suffix = z.suffix;
-    let x = sized_index(register, suppressed, suffix);
-    index_scale(&*line, &*tokens, diagnostics, e, s, shape, x)
+    let suffix = take_size_suffix(source, out, register.span.start);
+    index_scale(
+        source,
+        out,
+        shape,
+        sized_index(register, suppressed, suffix),
+    )
 }
 
 pub(crate) fn parse_index_register(
-    line: &[u8],
-    tokens: &[u16],
-    diagnostics: &mut [u16],
-    c: Counters,
-    s: Setting,
+    source: &Source,
+    out: &mut Progress,
     shape: u16,
-) -> IndexStep
-    requires { Room tokens.now c 0 1 }
-    ensures { Told index_read (Same c.nodes) (parse_index_register s shape) line.now tokens.now diagnostics.old diagnostics.new c result.index result.counters }
+) -> Option<IndexRegister>
+    requires { Room source.now.tokens.now out.old.counters 0 1 }
+    ensures lent { out.new.diagnostics.ghost_name ≡ out.old.diagnostics.ghost_name }
+    ensures told { Tells (λ z. z) (Same out.old.counters.nodes) (parse_index_register source.now.setting shape) source.now out.old out.new result }
 {
-    let at = c.at as usize;
-    let p = names::token_at(&*tokens, at);
-    let Peeked::Is(t) = p else {
-        return no_index(stepped_over(&*tokens, diagnostics, c, s, shape, INDEX_MISSING));
+    let at = out.counters.at as usize;
+    let Some(t) = source.token_at(at) else {
+        stepped_over(source, out, shape, INDEX_MISSING);
+        return None;
     };
-    let e = step_over(c, t);
-    let z = suppressed_index_at(&*line, t, at, s);
-    if let Reg::Is(i) = z {
-        let register = register_of(i, t);
-        return index_register(&*line, &*tokens, diagnostics, e, s, shape, register, true);
+    if let Some(index) = suppressed_index_at(source, t, at) {
+        out.counters.step_over(t);
+        return index_register(source, out, shape, register_of(index, t), true);
     }
-    let Reg::Is(index) = register_at(&*line, t) else {
-        return no_index(stepped_over(&*tokens, diagnostics, c, s, shape, INDEX_MISSING));
+    let Some(index) = register_at(source, t) else {
+        stepped_over(source, out, shape, INDEX_MISSING);
+        return None;
     };
-    let register = register_of(index, t);
-    index_register(&*line, &*tokens, diagnostics, e, s, shape, register, false)
+    out.counters.step_over(t);
+    index_register(source, out, shape, register_of(index, t), false)
 }

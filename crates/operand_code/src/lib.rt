@@ -1,4 +1,5 @@
-// The reader of one operand: every addressing mode. Its parts, in reading order:
+// The reader of one operand: every addressing mode. A cursor's `at` is widened by `as usize`: with `usize::from` each answer that reads it needs a
+// step more (tried). Its parts, in reading order:
 #![tactic(auto)]
 
 // what the forms share
@@ -33,4 +34,4 @@ mod parentheses;
 // the public function
 mod reading;
 
-pub use reading::{OperandAnswer, operand_at};
+pub use reading::operand_at;

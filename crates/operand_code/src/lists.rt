@@ -7,23 +7,18 @@ ghost use Rattle.records.specs.Stores.{PutAsks};
 ghost use Rattle.expressions_code.specs.Terms.{NodeTold};
 ghost use Rattle.operand.specs.Operand.{parse_register_list};
 ghost use Rattle.operand.specs.Mask.{bits_from};
-ghost use Rattle.expressions.specs.Told.{Raised};
-ghost use Rattle.operand_code.specs.Operands.{OperandTold};
-ghost use Rattle.operand_code.specs.Lists.{expected_at, RegisterTold, RangedTold, single_step, ItemTold, item_bytes, slashed, list_step, ListAsks};
+ghost use Rattle.operand_code.specs.Told.{RaisedBy};
+ghost use Rattle.operand_code.specs.Operands.{OperandBy};
+ghost use Rattle.operand_code.specs.Lists.{expected_at, RegisterBy, RangedBy, ItemBy, item_bytes, slashed, list_record, ListAsks};
 
-use crate::lookahead::register_at;
-use crate::malformed::raise;
-use crate::steps::{no_operand, step_over};
-use expressions::Setting;
-use names::{Peeked, Reg, kinds};
-use operand::{
-    BaseRegister, Index, OperandRead, OperandRecord, OperandStep, Register, Sized,
-    SizedDisplacement, form_numbers,
-};
+use crate::lookahead::{register_at, register_of};
+use expressions::Source;
+use names::{Token, kinds};
+use operand::{BaseRegister, OperandRecord, Register, Sized, form_numbers};
 use records::diagnostic_kinds::{REGISTER_EXPECTED_IN_REGISTER_LIST, REGISTER_RANGE_OUT_OF_ORDER};
 use records::problems::{AFTER_MINUS, AFTER_SLASH, NO_PROBLEM};
 use records::shapes::NO_SHAPE;
-use records::{Counters, Span, diagnostic, put_node, span_of};
+use records::{Counters, Progress, Span, diagnostic, put_node, span_of};
 
 // A register (kind 7) or a range (kind 8), as its node has it.
 #[derive(Clone, Copy)]
@@ -34,197 +29,106 @@ pub struct Item {
     pub span: Span,
 }
 
-#[derive(Clone, Copy)]
-pub enum ItemRead {
-    Is(Item),
-    Not,
-}
-
-#[derive(Clone, Copy)]
-pub struct ItemStep {
-    pub item: ItemRead,
-    pub counters: Counters,
-}
-
-// A register that stands at the cursor.
-#[derive(Clone, Copy)]
-pub enum RegisterRead {
-    Is(Register),
-    Not,
-}
-
-#[derive(Clone, Copy)]
-pub struct RegisterStep {
-    pub register: RegisterRead,
-    pub counters: Counters,
-}
-
-// Where a list ends: the counters, with the cursor and the end of its last token, and the mask of its items.
-#[derive(Clone, Copy)]
-pub struct ListEnd {
-    pub counters: Counters,
-    pub mask: u16,
-}
-
 // A register was expected behind this sign: at what stands there instead, or at the end.
-fn register_expected(tokens: &[u16], diagnostics: &mut [u16], c: Counters, sign: u16) -> Counters
-    requires { c.diagnostics < 65535 }
-    ensures { Raised diagnostics.old diagnostics.new c (register_expected_in_register_list sign (expected_at (token_at tokens.now c.at) c.end)) result }
+fn register_expected(source: &Source, out: &mut Progress, sign: u16)
+    requires { out.old.counters.diagnostics < 65535 }
+    ensures lent { out.new.diagnostics.ghost_name ≡ out.old.diagnostics.ghost_name }
+    ensures told { RaisedBy out.old out.new (register_expected_in_register_list sign (expected_at (token_at source.now.tokens.now out.old.counters.at) out.old.counters.end)) }
 {
+    let span = match source.peek(out.counters) {
+        Some(t) => span_of(t),
+        None => Span {
+            start: out.counters.end,
+            end: out.counters.end,
+        },
+    };
     let none = Span { start: 0, end: 0 };
-    let at = c.at as usize;
-    let p = names::token_at(tokens, at);
-    match p {
-        Peeked::Is(t) => raise(
-            diagnostics,
-            c,
-            diagnostic(
-                REGISTER_EXPECTED_IN_REGISTER_LIST,
-                NO_SHAPE,
-                sign,
-                span_of(t),
-                none,
-            ),
-        ),
-        Peeked::End => {
-            let last = Span {
-                start: c.end,
-                end: c.end,
-            };
-            raise(
-                diagnostics,
-                c,
-                diagnostic(
-                    REGISTER_EXPECTED_IN_REGISTER_LIST,
-                    NO_SHAPE,
-                    sign,
-                    last,
-                    none,
-                ),
-            )
-        }
-    }
+    out.raise(diagnostic(
+        REGISTER_EXPECTED_IN_REGISTER_LIST,
+        NO_SHAPE,
+        sign,
+        span,
+        none,
+    ));
 }
 
 // The register behind this sign.
-fn expect_register(
-    line: &[u8],
-    tokens: &[u16],
-    diagnostics: &mut [u16],
-    c: Counters,
-    sign: u16,
-) -> RegisterStep
-    requires { Room tokens.now c 0 1 }
-    ensures { RegisterTold line.now tokens.now diagnostics.old diagnostics.new c sign result }
+fn expect_register(source: &Source, out: &mut Progress, sign: u16) -> Option<Register>
+    requires { Room source.now.tokens.now out.old.counters 0 1 }
+    ensures lent { out.new.diagnostics.ghost_name ≡ out.old.diagnostics.ghost_name }
+    ensures told { RegisterBy source.now out.old out.new sign result }
 {
-    let at = c.at as usize;
-    let p = names::token_at(tokens, at);
-    let Peeked::Is(t) = p else {
-        return RegisterStep {
-            register: RegisterRead::Not,
-            counters: register_expected(tokens, diagnostics, c, sign),
-        };
+    let Some(t) = source.peek(out.counters) else {
+        register_expected(source, out, sign);
+        return None;
     };
-    let Reg::Is(index) = register_at(line, t) else {
-        return RegisterStep {
-            register: RegisterRead::Not,
-            counters: register_expected(tokens, diagnostics, c, sign),
-        };
+    let Some(index) = register_at(source, t) else {
+        register_expected(source, out, sign);
+        return None;
     };
-    RegisterStep {
-        register: RegisterRead::Is(Register {
-            index: index,
-            span: span_of(t),
-        }),
-        counters: step_over(c, t),
-    }
+    out.counters.step_over(t);
+    Some(register_of(index, t))
 }
 
 // A range that runs backwards is told, and kept.
-fn ranged(diagnostics: &mut [u16], c: Counters, from: Register, to: Register) -> ItemStep
-    requires { c.diagnostics < 65535 }
-    ensures { RangedTold diagnostics.old diagnostics.new c from to result }
+fn ranged(out: &mut Progress, from: Register, to: Register) -> Item
+    requires { out.old.counters.diagnostics < 65535 }
+    ensures lent { out.new.diagnostics.ghost_name ≡ out.old.diagnostics.ghost_name }
+    ensures told { RangedBy out.old out.new from to result }
 {
     let span = Span {
         start: from.span.start,
         end: to.span.end,
     };
-    let item = ItemRead::Is(Item {
+    let item = Item {
         kind: 8,
-        from: from,
-        to: to,
-        span: span,
-    });
+        from,
+        to,
+        span,
+    };
     if to.index < from.index {
         let both = Span {
-            start: from.index as u16,
-            end: to.index as u16,
+            start: u16::from(from.index),
+            end: u16::from(to.index),
         };
-        return ItemStep {
-            item: item,
-            counters: raise(
-                diagnostics,
-                c,
-                diagnostic(
-                    REGISTER_RANGE_OUT_OF_ORDER,
-                    NO_SHAPE,
-                    NO_PROBLEM,
-                    span,
-                    both,
-                ),
-            ),
-        };
+        out.raise(diagnostic(
+            REGISTER_RANGE_OUT_OF_ORDER,
+            NO_SHAPE,
+            NO_PROBLEM,
+            span,
+            both,
+        ));
+        return item;
     }
-    ItemStep {
-        item: item,
-        counters: c,
-    }
+    item
 }
 
-fn single(c: Counters, r: Register) -> ItemStep
-    ensures { result ≡ single_step c r }
+fn single(r: Register) -> Item
+    ensures { result ≡ record { kind = 7; from = r; to = r; span = r.span } }
 {
-    let span = r.span;
-    ItemStep {
-        item: ItemRead::Is(Item {
-            kind: 7,
-            from: r,
-            to: r,
-            span: span,
-        }),
-        counters: c,
+    Item {
+        kind: 7,
+        from: r,
+        to: r,
+        span: r.span,
     }
 }
 
 // The item that begins with this register.
-fn list_item(
-    line: &[u8],
-    tokens: &[u16],
-    diagnostics: &mut [u16],
-    c: Counters,
-    r: Register,
-) -> ItemStep
-    requires { Room tokens.now c 0 1 × (r.index < 16) }
-    ensures { ItemTold line.now tokens.now diagnostics.old diagnostics.new c r result }
+fn list_item(source: &Source, out: &mut Progress, r: Register) -> Option<Item>
+    requires { Room source.now.tokens.now out.old.counters 0 1 × (r.index < 16) }
+    ensures lent { out.new.diagnostics.ghost_name ≡ out.old.diagnostics.ghost_name }
+    ensures told { ItemBy source.now out.old out.new r result }
 {
-    let at = c.at as usize;
-    let p = names::token_at(tokens, at);
-    let Peeked::Is(t) = p else {
-        return single(c, r);
+    let Some(t) = source.peek(out.counters) else {
+        return Some(single(r));
     };
     if t.kind != kinds::MINUS {
-        return single(c, r);
+        return Some(single(r));
     }
-    let q = expect_register(line, tokens, diagnostics, step_over(c, t), AFTER_MINUS);
-    let e = q.counters;
-    let register = q.register;
-    match register {
-        RegisterRead::Is(to) => ranged(diagnostics, e, r, to),
-        RegisterRead::Not => ItemStep {
-            item: ItemRead::Not,
-            counters: e,
-        },
-    }
+    out.counters.step_over(t);
+    let to = expect_register(source, out, AFTER_MINUS)?;
+    Some(ranged(out, r, to))
 }
 
 // The bits of the registers from one through another.
@@ -232,19 +136,17 @@ fn range_bits(from: u8, to: u8) -> u16
     requires { to < 16 }
     ensures { result ≡ bits_from from (to + 1 - from) }
 {
-    let mut bits: u16 = 0;
-    let mut i = from;
-    while i <= to {
-        bits = bits | (1 << i);
-        i += 1;
+    let mut bits = 0;
+    for i in from..=to {
+        bits |= 1 << i;
     }
     bits
 }
 
-// Puts the node of an item.
-fn put_item(nodes: &mut [u16], c: Counters, item: Item) -> Counters
-    requires { PutAsks nodes.old c.nodes }
-    ensures { NodeTold nodes.old nodes.new c (item_bytes item) result }
+// Puts the node of an item. It widens by `as`: with `from` the answer needs a step for each (tried).
+fn put_item(nodes: &mut [u16], c: &mut Counters, item: Item)
+    requires { PutAsks nodes.old c.old.nodes }
+    ensures { NodeTold nodes.old nodes.new c.old (item_bytes item) c.new }
 {
     let from = item.from.span;
     let to = item.to.span;
@@ -253,89 +155,61 @@ fn put_item(nodes: &mut [u16], c: Counters, item: Item) -> Counters
     let left = item.from.index as u16;
     let right = item.to.index as u16;
     put_node(nodes, c.nodes, item.kind, 0, left, right, item.span, value);
-    Counters {
-        at: c.at,
-        end: c.end,
-        nodes: c.nodes + 1,
-        diagnostics: c.diagnostics,
-    }
+    c.nodes += 1;
 }
 
-fn listed(start: u16, c: Counters, mask: u16) -> OperandStep
-    ensures { result ≡ list_step start c mask }
+// The list from an offset to where its last token ended, with the mask of its items.
+fn listed(start: u16, end: u16, mask: u16) -> OperandRecord
+    ensures { result ≡ list_record start end mask }
 {
-    let span = Span {
-        start: start,
-        end: c.end,
-    };
-    let x = OperandRecord {
+    OperandRecord {
         form: form_numbers::REGISTER_LIST,
-        span: span,
-        displacement: SizedDisplacement::Is(Sized { node: 0, size: 0 }),
+        span: Span { start, end },
+        displacement: Some(Sized { node: 0, size: 0 }),
         base: BaseRegister::Omitted,
-        index: Index::Unindexed,
+        index: None,
         indirection: 0,
-        outer: SizedDisplacement::Not,
+        outer: None,
         special: 0,
-        mask: mask as u32,
-    };
-    OperandStep {
-        operand: OperandRead::Is(x),
-        counters: c,
+        mask: u32::from(mask),
     }
 }
 
 // A slash goes on, and anything else ends the list.
-fn slash_at(tokens: &[u16], i: usize) -> Peeked
-    ensures { result ≡ slashed (token_at tokens.now i) }
+fn slash_at(source: &Source, c: Counters) -> Option<Token>
+    ensures { result ≡ slashed (token_at source.now.tokens.now c.at) }
 {
-    let p = names::token_at(tokens, i);
-    let Peeked::Is(t) = p else {
-        return Peeked::End;
+    let Some(t) = source.peek(c) else {
+        return None;
     };
     if t.kind != kinds::SLASH {
-        return Peeked::End;
+        return None;
     }
-    p
+    Some(t)
 }
 
 // The list that begins with this register.
 pub(crate) fn parse_register_list(
-    line: &[u8],
-    tokens: &[u16],
+    source: &Source,
     nodes: &mut [u16],
-    diagnostics: &mut [u16],
-    c: Counters,
-    s: Setting,
+    out: &mut Progress,
     first: Register,
-) -> OperandStep
-    requires { ListAsks tokens.now nodes.old c first }
-    ensures { OperandTold (parse_register_list s first) line.now tokens.now diagnostics.old nodes.new diagnostics.new c result }
+) -> Option<OperandRecord>
+    requires { ListAsks source.now.tokens.now nodes.old out.old.counters first }
+    ensures lent { out.new.diagnostics.ghost_name ≡ out.old.diagnostics.ghost_name }
+    ensures told { OperandBy (parse_register_list source.now.setting first) source.now out.old nodes.new out.new result }
 {
     let mut mask: u16 = 0;
-    let mut e = c;
     let mut r = first;
-    let end = loop {
-        let i = list_item(line, tokens, diagnostics, e, r);
-        let read = i.item;
-        let ItemRead::Is(item) = read else {
-            return no_operand(i.counters);
+    loop {
+        let item = list_item(source, out, r)?;
+        mask |= range_bits(item.from.index, item.to.index);
+        put_item(nodes, &mut out.counters, item);
+        let Some(t) = slash_at(source, out.counters) else {
+            break;
         };
-        mask = mask | range_bits(item.from.index, item.to.index);
-        e = put_item(nodes, i.counters, item);
-        let Peeked::Is(t) = slash_at(tokens, e.at as usize) else {
-            break ListEnd {
-                counters: e,
-                mask: mask,
-            };
-        };
-        let q = expect_register(line, tokens, diagnostics, step_over(e, t), AFTER_SLASH);
-        e = q.counters;
-        let register = q.register;
-        let RegisterRead::Is(next) = register else {
-            return no_operand(e);
-        };
-        r = next;
-    };
-    listed(s.start, end.counters, end.mask)
+        out.counters.step_over(t);
+        r = expect_register(source, out, AFTER_SLASH)?;
+    }
+    Some(listed(source.setting.start, out.counters.end, mask))
 }

@@ -1,5 +1,5 @@
 // What stands at a place, as the Rust's `register_at` and its like ask. A token has been looked at already.
-ghost use Rattle.std.specs.Prelude.{◌≡◌, true, false, not, List, ℕ, ◌+◌, ◌≤◌, eqb};
+ghost use Rattle.std.specs.Prelude.{◌≡◌, true, false, not, ◌+◌, ◌≤◌, eqb};
 ghost use Rattle.names.specs.Choice.{pick, both, either};
 ghost use Rattle.names.specs.Kinds;
 ghost use Rattle.names.specs.Places.{text_of, place};
@@ -11,28 +11,26 @@ ghost use Rattle.operand.specs.Operand.{a_register, an_address_register, a_progr
 ghost use Rattle.operand_code.specs.Lookahead.{address_of, reg_at, suppressed_at, suppressed_reg, full_index_starts, base_starts, address_base, suppressed_base, base_at, is_base};
 ghost use Rattle.operand.specs.declared.forms.BaseRegister.{BaseRegister};
 
-use expressions::Setting;
-use names::{Peeked, Reg, Suppressed, Token, kinds};
+use expressions::Source;
+use names::{Suppressed, Token, kinds};
 use operand::{BaseRegister, Register};
 use records::span_of;
 
-pub(crate) fn register_at(line: &[u8], token: Token) -> Reg
-    ensures { result ≡ reg_at token (text_of line.now token.start token.end) }
+#[tactic(auto, unfolding(crate::specs::Lookahead::reg_at))]
+pub(crate) fn register_at(source: &Source, token: Token) -> Option<u8>
+    ensures { result ≡ reg_at token (text_of source.now.line.now token.start token.end) }
 {
     if token.kind != kinds::IDENTIFIER {
-        return Reg::Not;
+        return None;
     }
-    Reg::parse(names::text_of(line, token))
+    names::parse_register(source.text_of(token))
 }
 
-pub(crate) fn is_register_at(line: &[u8], token: Token) -> bool
-    ensures { result ≡ a_register token (text_of line.now token.start token.end) }
+#[tactic(auto, using(crate::proofs::lookahead::Names::a_register_lem))]
+pub(crate) fn is_register_at(source: &Source, token: Token) -> bool
+    ensures { result ≡ a_register token (text_of source.now.line.now token.start token.end) }
 {
-    let r = register_at(line, token);
-    match r {
-        Reg::Is(_) => true,
-        Reg::Not => false,
-    }
+    register_at(source, token).is_some()
 }
 
 // A register with the span of its token.
@@ -40,228 +38,173 @@ pub(crate) fn register_of(index: u8, token: Token) -> Register
     ensures { result ≡ record { index = index; span = span_of token } }
 {
     Register {
-        index: index,
+        index,
         span: span_of(token),
     }
 }
 
-pub(crate) fn address_register_at(line: &[u8], token: Token) -> Reg
-    ensures { result ≡ address_of (reg_at token (text_of line.now token.start token.end)) }
+#[tactic(auto, unfolding(crate::specs::Lookahead::address_of))]
+pub(crate) fn address_register_at(source: &Source, token: Token) -> Option<u8>
+    ensures { result ≡ address_of (reg_at token (text_of source.now.line.now token.start token.end)) }
 {
-    let r = register_at(line, token);
-    let Reg::Is(index) = r else {
-        return Reg::Not;
+    let Some(index) = register_at(source, token) else {
+        return None;
     };
     if 8 <= index {
-        return r;
+        return Some(index);
     }
-    Reg::Not
+    None
 }
 
-pub(crate) fn program_counter_at(line: &[u8], token: Token) -> bool
-    ensures { result ≡ a_program_counter token (text_of line.now token.start token.end) }
+#[tactic(auto, unfolding(operand::specs::Operand::a_program_counter))]
+pub(crate) fn program_counter_at(source: &Source, token: Token) -> bool
+    ensures { result ≡ a_program_counter token (text_of source.now.line.now token.start token.end) }
 {
-    if token.kind != kinds::IDENTIFIER {
-        return false;
-    }
-    names::is_program_counter(names::text_of(line, token))
+    token.kind == kinds::IDENTIFIER && names::is_program_counter(source.text_of(token))
 }
 
-// The mark may turn the place i into a symbol.
-pub(crate) fn suppressed_register_at(line: &[u8], token: Token, i: usize, s: Setting) -> Suppressed
-    ensures { result ≡ suppressed_at s i token (text_of line.now token.start token.end) }
+// A register or the program counter. A function of its own: as a part of a longer test each proof would take its two cases apart (tried).
+fn is_register_or_counter_at(source: &Source, token: Token) -> bool
+    ensures { result ≡ either (a_register token (text_of source.now.line.now token.start token.end)) (a_program_counter token (text_of source.now.line.now token.start token.end)) }
 {
-    if s.mark as usize == i {
-        return Suppressed::Not;
+    is_register_at(source, token) || program_counter_at(source, token)
+}
+
+// The mark may turn the place i into a symbol. It is a `u32`, of which there is no `usize::from`.
+#[tactic(auto, unfolding(crate::specs::Lookahead::suppressed_at))]
+pub(crate) fn suppressed_register_at(source: &Source, token: Token, i: usize) -> Option<Suppressed>
+    ensures { result ≡ suppressed_at source.now.setting i token (text_of source.now.line.now token.start token.end) }
+{
+    if source.setting.mark as usize == i || token.kind != kinds::IDENTIFIER {
+        return None;
     }
-    if token.kind != kinds::IDENTIFIER {
-        return Suppressed::Not;
-    }
-    names::suppressed_register(names::text_of(line, token))
+    names::suppressed_register(source.text_of(token))
 }
 
 // The suppressed register at the place i, if it is one that may be an index.
-pub(crate) fn suppressed_index_at(line: &[u8], token: Token, i: usize, s: Setting) -> Reg
-    ensures { result ≡ suppressed_reg (suppressed_at s i token (text_of line.now token.start token.end)) }
+#[tactic(auto, unfolding(crate::specs::Lookahead::suppressed_reg))]
+pub(crate) fn suppressed_index_at(source: &Source, token: Token, i: usize) -> Option<u8>
+    ensures { result ≡ suppressed_reg (suppressed_at source.now.setting i token (text_of source.now.line.now token.start token.end)) }
 {
-    let z = suppressed_register_at(line, token, i, s);
-    match z {
-        Suppressed::Register(index) => Reg::Is(index),
-        Suppressed::ProgramCounter => Reg::Not,
-        Suppressed::Not => Reg::Not,
+    match suppressed_register_at(source, token, i) {
+        Some(Suppressed::Register(index)) => Some(index),
+        _ => None,
     }
 }
 
 // `is_an_index_at`
-pub(crate) fn is_an_index_at(line: &[u8], tokens: &[u16], i: usize, s: Setting) -> bool
-    ensures { result ≡ holds (an_index s i) (place line.now tokens.now i) }
+pub(crate) fn is_an_index_at(source: &Source, i: usize) -> bool
+    ensures { result ≡ holds (an_index source.now.setting i) (place source.now.line.now source.now.tokens.now i) }
 {
-    let p = names::token_at(tokens, i);
-    let Peeked::Is(t) = p else {
+    let Some(t) = source.token_at(i) else {
         return false;
     };
-    let r = register_at(line, t);
-    if let Reg::Is(_) = r {
-        return true;
-    }
-    let z = suppressed_register_at(line, t, i, s);
-    match z {
-        Suppressed::Register(_) => true,
-        Suppressed::ProgramCounter => false,
-        Suppressed::Not => false,
-    }
+    is_register_at(source, t) || suppressed_index_at(source, t, i).is_some()
 }
 
 // `is_a_base_or_an_index`
-pub(crate) fn is_a_base_or_an_index(line: &[u8], token: Token, i: usize, s: Setting) -> bool
-    ensures { result ≡ a_base_or_an_index s i token (text_of line.now token.start token.end) }
+pub(crate) fn is_a_base_or_an_index(source: &Source, token: Token, i: usize) -> bool
+    ensures { result ≡ a_base_or_an_index source.now.setting i token (text_of source.now.line.now token.start token.end) }
 {
-    if program_counter_at(line, token) {
-        return true;
-    }
-    let r = register_at(line, token);
-    if let Reg::Is(_) = r {
-        return true;
-    }
-    let z = suppressed_register_at(line, token, i, s);
-    match z {
-        Suppressed::Register(_) => true,
-        Suppressed::ProgramCounter => true,
-        Suppressed::Not => false,
-    }
+    is_register_or_counter_at(source, token) || suppressed_register_at(source, token, i).is_some()
 }
 
 // Whether the place holds a size or a scale, or a parenthesis or a comma where these may follow.
-pub(crate) fn closes_at(tokens: &[u16], i: usize, paren: bool, comma: bool) -> bool
-    ensures { (L : List ℕ) → result ≡ holds (closes paren comma) (place L tokens.now i) }
+pub(crate) fn closes_at(source: &Source, i: usize, paren: bool, comma: bool) -> bool
+    ensures { result ≡ holds (closes paren comma) (place source.now.line.now source.now.tokens.now i) }
 {
-    let p = names::token_at(tokens, i);
-    let Peeked::Is(t) = p else {
+    let Some(t) = source.token_at(i) else {
         return false;
     };
-    let kind = t.kind;
-    match kind {
-        kinds::SIZE_SUFFIX => true,
-        kinds::STAR => true,
+    match t.kind {
+        kinds::SIZE_SUFFIX | kinds::STAR => true,
         kinds::RIGHT_PAREN => paren,
         kinds::COMMA => comma,
         _ => false,
     }
 }
 
-// A suppressed register, a data register that is no base, or an address register with a size or a scale.
-pub(crate) fn starts_a_full_index(line: &[u8], tokens: &[u16], i: usize, s: Setting) -> bool
+// A suppressed register, a data register that is no base, or an address register with a size or a scale. Here and below `i ≤ 1023` keeps
+// i + 1 in range: `i.saturating_add(1)` is the contracts' i + 1 only under such a bound, so that each goal would have a step more.
+pub(crate) fn starts_a_full_index(source: &Source, i: usize) -> bool
     requires { i ≤ 1023 }
-    ensures { result ≡ full_index_starts s (place line.now tokens.now) i }
+    ensures { result ≡ full_index_starts source.now.setting (place source.now.line.now source.now.tokens.now) i }
 {
-    let p = names::token_at(tokens, i);
-    let Peeked::Is(t) = p else {
+    let Some(t) = source.token_at(i) else {
         return false;
     };
-    let z = suppressed_register_at(line, t, i, s);
-    match z {
-        Suppressed::Not => register_starts(line, tokens, i, t),
-        Suppressed::Register(_) => closes_at(tokens, i + 1, true, true),
-        Suppressed::ProgramCounter => closes_at(tokens, i + 1, true, true),
+    match suppressed_register_at(source, t, i) {
+        None => register_starts(source, i, t),
+        Some(_) => closes_at(source, i + 1, true, true),
     }
 }
 
 // A register that a full index begins with, by what follows it.
-fn register_starts(line: &[u8], tokens: &[u16], i: usize, token: Token) -> bool
+fn register_starts(source: &Source, i: usize, token: Token) -> bool
     requires { i ≤ 1023 }
-    ensures { result ≡ pick (an_address_register token (text_of line.now token.start token.end)) (holds (closes false false) (place line.now tokens.now (i + 1))) (both (a_register token (text_of line.now token.start token.end)) (holds (closes true false) (place line.now tokens.now (i + 1)))) }
+    ensures { result ≡ pick (an_address_register token (text_of source.now.line.now token.start token.end)) (holds (closes false false) (place source.now.line.now source.now.tokens.now (i + 1))) (both (a_register token (text_of source.now.line.now token.start token.end)) (holds (closes true false) (place source.now.line.now source.now.tokens.now (i + 1)))) }
 {
-    let r = register_at(line, token);
-    match r {
-        Reg::Not => false,
-        Reg::Is(index) => closes_at(tokens, i + 1, index < 8, false),
+    match register_at(source, token) {
+        None => false,
+        Some(index) => closes_at(source, i + 1, index < 8, false),
     }
 }
 
 // A register or the program counter, and then a parenthesis, a comma or the end.
-pub(crate) fn starts_a_base(line: &[u8], tokens: &[u16], i: usize) -> bool
+pub(crate) fn starts_a_base(source: &Source, i: usize) -> bool
     requires { i ≤ 1023 }
-    ensures { result ≡ base_starts (place line.now tokens.now) i }
+    ensures { result ≡ base_starts (place source.now.line.now source.now.tokens.now) i }
 {
-    let p = names::token_at(tokens, i);
-    let Peeked::Is(t) = p else {
+    let Some(t) = source.token_at(i) else {
         return false;
     };
-    let r = register_at(line, t);
-    if let Reg::Is(_) = r {
-        return ends_a_base(tokens, i + 1);
-    }
-    if program_counter_at(line, t) {
-        return ends_a_base(tokens, i + 1);
-    }
-    false
+    is_register_or_counter_at(source, t) && ends_a_base(source, i + 1)
 }
 
 // A parenthesis, a comma or the end.
-fn ends_a_base(tokens: &[u16], i: usize) -> bool
-    ensures { (L : List ℕ) → result ≡ either (not (holds any (place L tokens.now i))) (holds (λ t x. either (eqb t.kind Kinds.right_paren) (eqb t.kind Kinds.comma)) (place L tokens.now i)) }
+fn ends_a_base(source: &Source, i: usize) -> bool
+    ensures { result ≡ either (not (holds any (place source.now.line.now source.now.tokens.now i))) (holds (λ t x. either (eqb t.kind Kinds.right_paren) (eqb t.kind Kinds.comma)) (place source.now.line.now source.now.tokens.now i)) }
 {
-    let p = names::token_at(tokens, i);
-    let Peeked::Is(t) = p else {
+    let Some(t) = source.token_at(i) else {
         return true;
     };
-    let kind = t.kind;
-    match kind {
-        kinds::RIGHT_PAREN => true,
-        kinds::COMMA => true,
-        _ => false,
-    }
+    t.kind == kinds::RIGHT_PAREN || t.kind == kinds::COMMA
 }
 
 // The base that the token at the place i is, if it is one: a size or a scale makes an address register an index.
-pub(crate) fn base_at(
-    line: &[u8],
-    tokens: &[u16],
-    i: usize,
-    s: Setting,
-    token: Token,
-) -> BaseRegister
+pub(crate) fn base_at(source: &Source, i: usize, token: Token) -> BaseRegister
     requires { i ≤ 1023 }
-    ensures { result ≡ base_at s (place line.now tokens.now) i token (text_of line.now token.start token.end) }
+    ensures { result ≡ base_at source.now.setting (place source.now.line.now source.now.tokens.now) i token (text_of source.now.line.now token.start token.end) }
 {
-    if program_counter_at(line, token) {
+    if program_counter_at(source, token) {
         return BaseRegister::ProgramCounter;
     }
-    let z = suppressed_register_at(line, token, i, s);
-    match z {
-        Suppressed::ProgramCounter => BaseRegister::SuppressedProgramCounter,
-        Suppressed::Register(index) => address_at(
-            line,
-            tokens,
+    match suppressed_register_at(source, token, i) {
+        Some(Suppressed::ProgramCounter) => BaseRegister::SuppressedProgramCounter,
+        Some(Suppressed::Register(index)) => address_at(
+            source,
             i,
             token,
             suppressed_address(index),
         ),
-        Suppressed::Not => address_at(line, tokens, i, token, BaseRegister::Omitted),
+        None => address_at(source, i, token, BaseRegister::Omitted),
     }
 }
 
 // An address register, or else the other base; none with a size or a scale.
-fn address_at(
-    line: &[u8],
-    tokens: &[u16],
-    i: usize,
-    token: Token,
-    other: BaseRegister,
-) -> BaseRegister
+fn address_at(source: &Source, i: usize, token: Token, other: BaseRegister) -> BaseRegister
     requires { i ≤ 1023 }
-    ensures { result ≡ pick (holds size_or_scale (place line.now tokens.now (i + 1))) BaseRegister.Omitted (address_base (reg_at token (text_of line.now token.start token.end)) token other) }
+    ensures { result ≡ pick (holds size_or_scale (place source.now.line.now source.now.tokens.now (i + 1))) BaseRegister.Omitted (address_base (reg_at token (text_of source.now.line.now token.start token.end)) token other) }
 {
-    if closes_at(tokens, i + 1, false, false) {
+    if closes_at(source, i + 1, false, false) {
         return BaseRegister::Omitted;
     }
-    let r = register_at(line, token);
-    match r {
-        Reg::Not => other,
-        Reg::Is(index) => {
+    match register_at(source, token) {
+        None => other,
+        Some(index) => {
             if 8 <= index {
                 BaseRegister::Address(Register {
-                    index: index,
+                    index,
                     span: span_of(token),
                 })
             } else {
@@ -272,8 +215,9 @@ fn address_at(
 }
 
 // A suppressed data register is no base.
+#[tactic(auto, unfolding(crate::specs::Lookahead::suppressed_base))]
 fn suppressed_address(index: u8) -> BaseRegister
-    ensures { result ≡ suppressed_base (Suppressed.Register index) }
+    ensures { result ≡ suppressed_base (Some (Suppressed.Register index)) }
 {
     if index < 8 {
         return BaseRegister::Omitted;
@@ -281,14 +225,9 @@ fn suppressed_address(index: u8) -> BaseRegister
     BaseRegister::SuppressedAddress(index - 8)
 }
 
+#[tactic(auto, unfolding(crate::specs::Lookahead::is_base))]
 pub(crate) fn is_base(base: BaseRegister) -> bool
     ensures { result ≡ is_base base }
 {
-    match base {
-        BaseRegister::Address(_) => true,
-        BaseRegister::ProgramCounter => true,
-        BaseRegister::SuppressedAddress(_) => true,
-        BaseRegister::SuppressedProgramCounter => true,
-        BaseRegister::Omitted => false,
-    }
+    !matches!(base, BaseRegister::Omitted)
 }

@@ -2,18 +2,17 @@
 ghost use Rattle.std.specs.Prelude.{◌≡◌};
 ghost use Rattle.records.specs.Rooms.{Room, NodeRoom};
 ghost use Rattle.operand.specs.Operand.{parse_memory_indirect};
-ghost use Rattle.operand_code.specs.Operands.{OperandTold};
-ghost use Rattle.operand_code.specs.Memory.{indirect_record, ClosedTold, BehindTold};
+ghost use Rattle.operand_code.specs.Operands.{OperandBy};
+ghost use Rattle.operand_code.specs.Memory.{indirect_record, ClosedBy, BehindBy};
 
 use crate::malformed::{expect_close, unclosed};
-use crate::memory_inner::{InnerPart, InnerRead, parse_inner};
-use crate::memory_outer::{OuterPart, OuterRead, parse_outer};
-use crate::steps::{an_operand, no_operand, step_over};
-use expressions::Setting;
-use names::{Peeked, Token, kinds};
-use operand::{Close, OperandRecord, OperandStep, form_numbers};
+use crate::memory_inner::{InnerPart, parse_inner};
+use crate::memory_outer::{OuterPart, parse_outer};
+use expressions::Source;
+use names::{Token, kinds};
+use operand::{OperandRecord, form_numbers};
 use records::problems::BRACKET_MISSING;
-use records::{Counters, Span, shapes};
+use records::{Progress, Span, shapes};
 
 // What closes the brackets.
 const CLOSE: u16 = kinds::RIGHT_BRACKET;
@@ -22,22 +21,14 @@ const CLOSE: u16 = kinds::RIGHT_BRACKET;
 fn memory_indirect(start: u16, end: u16, n: InnerPart, u: OuterPart) -> OperandRecord
     ensures { result ≡ indirect_record start end n u }
 {
-    let displacement = n.displacement;
-    let registers = n.registers;
-    let base = registers.base;
-    let index = u.index;
-    let outer = u.displacement;
     OperandRecord {
         form: form_numbers::FULL_INDEX,
-        span: Span {
-            start: start,
-            end: end,
-        },
-        displacement: displacement,
-        base: base,
-        index: index,
+        span: Span { start, end },
+        displacement: n.displacement,
+        base: n.registers.base,
+        index: u.index,
         indirection: u.indirection,
-        outer: outer,
+        outer: u.displacement,
         special: 0,
         mask: 0,
     }
@@ -45,81 +36,57 @@ fn memory_indirect(start: u16, end: u16, n: InnerPart, u: OuterPart) -> OperandR
 
 // Behind all that stands between the parentheses.
 fn close_indirect(
-    tokens: &[u16],
-    diagnostics: &mut [u16],
-    c: Counters,
-    s: Setting,
+    source: &Source,
+    out: &mut Progress,
     paren: Token,
     n: InnerPart,
     u: OuterPart,
-) -> OperandStep
-    requires { Room tokens.now c 0 1 }
-    ensures { ClosedTold s paren tokens.now diagnostics.old diagnostics.new c n u result }
+) -> Option<OperandRecord>
+    requires { Room source.now.tokens.now out.old.counters 0 1 }
+    ensures lent { out.new.diagnostics.ghost_name ≡ out.old.diagnostics.ghost_name }
+    ensures told { ClosedBy source.now paren out.old out.new n u result }
 {
-    let e = expect_close(tokens, diagnostics, c, s, paren, shapes::MEMORY_INDIRECT);
-    let f = e.counters;
-    let close = e.close;
-    match close {
-        Close::Not => no_operand(f),
-        Close::Is(end) => an_operand(memory_indirect(s.start, end, n, u), f),
-    }
+    let end = expect_close(source, out, paren, shapes::MEMORY_INDIRECT)?;
+    Some(memory_indirect(source.setting.start, end, n, u))
 }
 
 // Behind the bracket that closes the inner part.
 fn after_inner(
-    line: &[u8],
-    tokens: &[u16],
+    source: &Source,
     nodes: &mut [u16],
-    diagnostics: &mut [u16],
-    c: Counters,
-    s: Setting,
+    out: &mut Progress,
     paren: Token,
     n: InnerPart,
-) -> OperandStep
-    requires { NodeRoom tokens.now nodes.old c 0 0 1 }
-    ensures { BehindTold s paren line.now tokens.now nodes.old diagnostics.old nodes.new diagnostics.new c n result }
+) -> Option<OperandRecord>
+    requires { NodeRoom source.now.tokens.now nodes.old out.old.counters 0 0 1 }
+    ensures lent { out.new.diagnostics.ghost_name ≡ out.old.diagnostics.ghost_name }
+    ensures told { BehindBy source.now paren nodes.old out.old nodes.new out.new n result }
 {
-    let registers = n.registers;
-    let index = registers.index;
-    let u = parse_outer(line, tokens, nodes, diagnostics, c, s, index);
-    let e = u.counters;
-    let read = u.outer;
-    match read {
-        OuterRead::Not => no_operand(e),
-        OuterRead::Is(x) => close_indirect(tokens, diagnostics, e, s, paren, n, x),
-    }
+    let u = parse_outer(source, nodes, out, n.registers.index)?;
+    close_indirect(source, out, paren, n, u)
 }
 
 // The cursor is behind the bracket that opens the inner part.
 pub(crate) fn parse_memory_indirect(
-    line: &[u8],
-    tokens: &[u16],
+    source: &Source,
     nodes: &mut [u16],
-    diagnostics: &mut [u16],
-    c: Counters,
-    s: Setting,
+    out: &mut Progress,
     paren: Token,
-) -> OperandStep
-    requires { NodeRoom tokens.now nodes.old c 0 0 1 × (c.nodes ≡ 0) }
-    ensures { OperandTold (parse_memory_indirect s paren) line.now tokens.now diagnostics.old nodes.new diagnostics.new c result }
+) -> Option<OperandRecord>
+    requires { NodeRoom source.now.tokens.now nodes.old out.old.counters 0 0 1 × (out.old.counters.nodes ≡ 0) }
+    ensures lent { out.new.diagnostics.ghost_name ≡ out.old.diagnostics.ghost_name }
+    ensures told { OperandBy (parse_memory_indirect source.now.setting paren) source.now out.old nodes.new out.new result }
 {
     let shape = shapes::MEMORY_INDIRECT;
-    let r = parse_inner(line, tokens, nodes, diagnostics, c, s);
-    let e = r.counters;
-    let read = r.inner;
-    let InnerRead::Is(n) = read else {
-        return no_operand(e);
+    let n = parse_inner(source, nodes, out)?;
+    let Some(t) = source.peek(out.counters) else {
+        unclosed(source, out, paren, shape, BRACKET_MISSING);
+        return None;
     };
-    let at = e.at as usize;
-    let p = names::token_at(tokens, at);
-    match p {
-        Peeked::End => no_operand(unclosed(diagnostics, e, s, paren, shape, BRACKET_MISSING)),
-        Peeked::Is(t) => {
-            if t.kind != CLOSE {
-                return no_operand(unclosed(diagnostics, e, s, paren, shape, BRACKET_MISSING));
-            }
-            let f = step_over(e, t);
-            after_inner(line, tokens, nodes, diagnostics, f, s, paren, n)
-        }
+    if t.kind != CLOSE {
+        unclosed(source, out, paren, shape, BRACKET_MISSING);
+        return None;
     }
+    out.counters.step_over(t);
+    after_inner(source, nodes, out, paren, n)
 }

@@ -1,85 +1,47 @@
 // A displacement with its size.
-ghost use Rattle.std.specs.Prelude.{◌≡◌, ◌-◌, ◌<◌};
+ghost use Rattle.std.specs.Prelude.{◌≡◌, option_map};
 ghost use Rattle.records.specs.Rooms.{Room, NodeRoom};
 ghost use Rattle.operand.specs.Operand.{parse_sized_displacement};
-ghost use Rattle.operand_code.specs.Memory.{SizedTold, DisplacementTold};
-ghost use Rattle.operand.specs.declared.forms.DisplacementRead.{DisplacementRead};
-ghost use Rattle.operand.specs.declared.forms.SizedDisplacement.{SizedDisplacement};
+ghost use Rattle.operand_code.specs.Memory.{SizedBy, DisplacementBy};
 
 use crate::expressed::expression_at;
 use crate::malformed::stepped_over;
-use crate::steps::last_tree;
 use crate::suffixes::take_size_suffix;
-use expressions::Setting;
-use expressions_code::Parsed;
-use operand::{DisplacementRead, DisplacementStep, SizedDisplacement, SuffixRead};
+use expressions::Source;
+use expressions_code::TermError;
+use operand::Sized;
 use records::problems::A_DISPLACEMENT_MISSING;
-use records::{Counters, shapes};
+use records::{Progress, shapes};
 
-fn no_displacement(c: Counters) -> DisplacementStep
-    ensures { (result.displacement ≡ DisplacementRead.Not) × (result.counters ≡ c) }
+// Behind the expression of a displacement: the tree that the last records hold, with its size.
+fn sized(source: &Source, out: &mut Progress, start: u16) -> Sized
+    requires { Room source.now.tokens.now out.old.counters 1 1 }
+    ensures lent { out.new.diagnostics.ghost_name ≡ out.old.diagnostics.ghost_name }
+    ensures told { SizedBy start source.now out.old out.new (Some (Some result)) }
 {
-    DisplacementStep {
-        displacement: DisplacementRead::Not,
-        counters: c,
-    }
-}
-
-// The tree that the last records hold, with this size.
-fn displaced(c: Counters, size: u8) -> DisplacementStep
-    requires { 0 < c.nodes }
-    ensures { (result.displacement ≡ DisplacementRead.Is (SizedDisplacement.Is (record { node = c.nodes - 1; size = size }))) × (result.counters ≡ c) }
-{
-    DisplacementStep {
-        displacement: DisplacementRead::Is(last_tree(c, size)),
-        counters: c,
-    }
-}
-
-// Behind the expression of a displacement.
-fn sized(
-    line: &[u8],
-    tokens: &[u16],
-    diagnostics: &mut [u16],
-    c: Counters,
-    start: u16,
-) -> DisplacementStep
-    requires { Room tokens.now c 1 1 }
-    ensures { SizedTold start line.now tokens.now diagnostics.old diagnostics.new c result }
-{
-    let s = take_size_suffix(line, tokens, diagnostics, c, start);
-    let e = s.counters;
-    let suffix = s.suffix;
+    let suffix = take_size_suffix(source, out, start);
+    let node = out.counters.nodes - 1;
     match suffix {
-        SuffixRead::Not => displaced(e, 0),
-        SuffixRead::Is(x) => displaced(e, x.size),
+        Some(x) => Sized { node, size: x.size },
+        None => Sized { node, size: 0 },
     }
 }
 
 pub(crate) fn parse_sized_displacement(
-    line: &[u8],
-    tokens: &[u16],
+    source: &Source,
     nodes: &mut [u16],
-    diagnostics: &mut [u16],
-    c: Counters,
-    s: Setting,
-) -> DisplacementStep
-    requires { NodeRoom tokens.now nodes.old c 0 0 1 }
-    ensures { DisplacementTold (parse_sized_displacement s) line.now tokens.now nodes.old diagnostics.old nodes.new diagnostics.new c result }
+    out: &mut Progress,
+) -> Option<Sized>
+    requires { NodeRoom source.now.tokens.now nodes.old out.old.counters 0 0 1 }
+    ensures lent { out.new.diagnostics.ghost_name ≡ out.old.diagnostics.ghost_name }
+    ensures told { DisplacementBy (parse_sized_displacement source.now.setting) source.now nodes.old out.old nodes.new out.new (option_map Some result) }
 {
-    let r = expression_at(line, tokens, nodes, diagnostics, c, s);
-    let e = r.counters;
-    let parsed = r.parsed;
-    match parsed {
-        Parsed::Read(span) => sized(line, tokens, diagnostics, e, span.start),
-        Parsed::Reported => no_displacement(e),
-        Parsed::Absent => no_displacement(stepped_over(
-            tokens,
-            diagnostics,
-            e,
-            s,
-            shapes::MEMORY_INDIRECT,
-            A_DISPLACEMENT_MISSING,
-        )),
+    match expression_at(source, nodes, out) {
+        Ok(span) => Some(sized(source, out, span.start)),
+        Err(TermError::Reported) => None,
+        Err(TermError::Absent) => {
+            stepped_over(source, out, shapes::MEMORY_INDIRECT, A_DISPLACEMENT_MISSING);
+            None
+        }
     }
 }

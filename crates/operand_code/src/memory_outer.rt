@@ -2,170 +2,116 @@
 ghost use Rattle.std.specs.Prelude.{◌≡◌};
 ghost use Rattle.records.specs.Rooms.{NodeRoom};
 ghost use Rattle.operand.specs.Operand.{outer_indexed, outer_index, parse_outer, outer_displacement};
-ghost use Rattle.operand_code.specs.Memory.{OuterTold};
-ghost use Rattle.operand_code.specs.declared.memory_outer.OuterRead.{OuterRead};
+ghost use Rattle.operand_code.specs.Memory.{OuterBy};
 
 use crate::indexes::parse_index_register;
 use crate::lookahead::is_an_index_at;
 use crate::malformed::stepped_over;
 use crate::memory_displacements::parse_sized_displacement;
-use crate::steps::step_over;
-use expressions::Setting;
-use names::{Peeked, kinds};
-use operand::{DisplacementRead, Index, IndexRead, IndexRegister, SizedDisplacement};
+use expressions::Source;
+use names::kinds;
+use operand::{IndexRegister, Sized};
 use records::problems::INDEX_TWICE;
-use records::{Counters, shapes};
+use records::{Progress, shapes};
 
 // What stands behind them. Indirection: 1 preindexed, 2 postindexed.
 #[derive(Clone, Copy)]
 pub struct OuterPart {
-    pub index: Index,
+    pub index: Option<IndexRegister>,
     pub indirection: u8,
-    pub displacement: SizedDisplacement,
-}
-
-#[derive(Clone, Copy)]
-pub enum OuterRead {
-    Is(OuterPart),
-    Not,
-}
-
-#[derive(Clone, Copy)]
-pub struct OuterStep {
-    pub outer: OuterRead,
-    pub counters: Counters,
-}
-
-fn an_outer(index: Index, indirection: u8, d: SizedDisplacement, c: Counters) -> OuterStep
-    ensures { (result.outer ≡ OuterRead.Is (record { index = index; indirection = indirection; displacement = d })) × (result.counters ≡ c) }
-{
-    OuterStep {
-        outer: OuterRead::Is(OuterPart {
-            index: index,
-            indirection: indirection,
-            displacement: d,
-        }),
-        counters: c,
-    }
-}
-
-fn no_outer(c: Counters) -> OuterStep
-    ensures { (result.outer ≡ OuterRead.Not) × (result.counters ≡ c) }
-{
-    OuterStep {
-        outer: OuterRead::Not,
-        counters: c,
-    }
+    pub displacement: Option<Sized>,
 }
 
 // The outer displacement, which stands at the cursor.
 fn outer_displaced(
-    line: &[u8],
-    tokens: &[u16],
+    source: &Source,
     nodes: &mut [u16],
-    diagnostics: &mut [u16],
-    c: Counters,
-    s: Setting,
-    index: Index,
+    out: &mut Progress,
+    index: Option<IndexRegister>,
     indirection: u8,
-) -> OuterStep
-    requires { NodeRoom tokens.now nodes.old c 0 0 1 }
-    ensures { OuterTold (outer_displacement s index indirection) line.now tokens.now nodes.old diagnostics.old nodes.new diagnostics.new c result }
+) -> Option<OuterPart>
+    requires { NodeRoom source.now.tokens.now nodes.old out.old.counters 0 0 1 }
+    ensures lent { out.new.diagnostics.ghost_name ≡ out.old.diagnostics.ghost_name }
+    ensures told { OuterBy (outer_displacement source.now.setting index indirection) source.now nodes.old out.old nodes.new out.new result }
 {
-    let r = parse_sized_displacement(line, tokens, nodes, diagnostics, c, s);
-    let e = r.counters;
-    let displacement = r.displacement;
-    match displacement {
-        DisplacementRead::Not => no_outer(e),
-        DisplacementRead::Is(d) => an_outer(index, indirection, d, e),
-    }
+    let d = parse_sized_displacement(source, nodes, out)?;
+    Some(OuterPart {
+        index,
+        indirection,
+        displacement: Some(d),
+    })
 }
 
 // Behind the index outside the brackets.
 fn outer_indexed(
-    line: &[u8],
-    tokens: &[u16],
+    source: &Source,
     nodes: &mut [u16],
-    diagnostics: &mut [u16],
-    c: Counters,
-    s: Setting,
+    out: &mut Progress,
     x: IndexRegister,
-) -> OuterStep
-    requires { NodeRoom tokens.now nodes.old c 0 0 1 }
-    ensures { OuterTold (outer_indexed s x) line.now tokens.now nodes.old diagnostics.old nodes.new diagnostics.new c result }
+) -> Option<OuterPart>
+    requires { NodeRoom source.now.tokens.now nodes.old out.old.counters 0 0 1 }
+    ensures lent { out.new.diagnostics.ghost_name ≡ out.old.diagnostics.ghost_name }
+    ensures told { OuterBy (outer_indexed source.now.setting x) source.now nodes.old out.old nodes.new out.new result }
 {
-    let index = Index::Indexed(x);
-    let at = c.at as usize;
-    let p = names::token_at(tokens, at);
-    match p {
-        Peeked::End => an_outer(index, 2, SizedDisplacement::Not, c),
-        Peeked::Is(t) => {
-            if t.kind != kinds::COMMA {
-                return an_outer(index, 2, SizedDisplacement::Not, c);
-            }
-            let e = step_over(c, t);
-            outer_displaced(line, tokens, nodes, diagnostics, e, s, index, 2)
-        }
+    let alone = OuterPart {
+        index: Some(x),
+        indirection: 2,
+        displacement: None,
+    };
+    let Some(t) = source.peek(out.counters) else {
+        return Some(alone);
+    };
+    if t.kind != kinds::COMMA {
+        return Some(alone);
     }
+    out.counters.step_over(t);
+    outer_displaced(source, nodes, out, Some(x), 2)
 }
 
 // An index goes inside the brackets or behind them, not both.
 fn outer_index(
-    line: &[u8],
-    tokens: &[u16],
+    source: &Source,
     nodes: &mut [u16],
-    diagnostics: &mut [u16],
-    c: Counters,
-    s: Setting,
-    index: Index,
-) -> OuterStep
-    requires { NodeRoom tokens.now nodes.old c 0 0 1 }
-    ensures { OuterTold (outer_index s index) line.now tokens.now nodes.old diagnostics.old nodes.new diagnostics.new c result }
+    out: &mut Progress,
+    index: Option<IndexRegister>,
+) -> Option<OuterPart>
+    requires { NodeRoom source.now.tokens.now nodes.old out.old.counters 0 0 1 }
+    ensures lent { out.new.diagnostics.ghost_name ≡ out.old.diagnostics.ghost_name }
+    ensures told { OuterBy (outer_index source.now.setting index) source.now nodes.old out.old nodes.new out.new result }
 {
-    if let Index::Indexed(_) = index {
-        return no_outer(stepped_over(
-            tokens,
-            diagnostics,
-            c,
-            s,
-            shapes::MEMORY_INDIRECT,
-            INDEX_TWICE,
-        ));
+    if let Some(_) = index {
+        stepped_over(source, out, shapes::MEMORY_INDIRECT, INDEX_TWICE);
+        return None;
     }
-    let i = parse_index_register(line, tokens, diagnostics, c, s, shapes::MEMORY_INDIRECT);
-    let e = i.counters;
-    let read = i.index;
-    match read {
-        IndexRead::Not => no_outer(e),
-        IndexRead::Is(x) => outer_indexed(line, tokens, nodes, diagnostics, e, s, x),
-    }
+    let x = parse_index_register(source, out, shapes::MEMORY_INDIRECT)?;
+    outer_indexed(source, nodes, out, x)
 }
 
 // Behind the brackets, with the index that stood between them.
 pub(crate) fn parse_outer(
-    line: &[u8],
-    tokens: &[u16],
+    source: &Source,
     nodes: &mut [u16],
-    diagnostics: &mut [u16],
-    c: Counters,
-    s: Setting,
-    index: Index,
-) -> OuterStep
-    requires { NodeRoom tokens.now nodes.old c 0 0 1 }
-    ensures { OuterTold (parse_outer s index) line.now tokens.now nodes.old diagnostics.old nodes.new diagnostics.new c result }
+    out: &mut Progress,
+    index: Option<IndexRegister>,
+) -> Option<OuterPart>
+    requires { NodeRoom source.now.tokens.now nodes.old out.old.counters 0 0 1 }
+    ensures lent { out.new.diagnostics.ghost_name ≡ out.old.diagnostics.ghost_name }
+    ensures told { OuterBy (parse_outer source.now.setting index) source.now nodes.old out.old nodes.new out.new result }
 {
-    let at = c.at as usize;
-    let p = names::token_at(tokens, at);
-    let Peeked::Is(t) = p else {
-        return an_outer(index, 1, SizedDisplacement::Not, c);
+    let alone = OuterPart {
+        index,
+        indirection: 1,
+        displacement: None,
+    };
+    let Some(t) = source.peek(out.counters) else {
+        return Some(alone);
     };
     if t.kind != kinds::COMMA {
-        return an_outer(index, 1, SizedDisplacement::Not, c);
+        return Some(alone);
     }
-    let e = step_over(c, t);
-    let next = e.at as usize;
-    if is_an_index_at(line, tokens, next, s) {
-        return outer_index(line, tokens, nodes, diagnostics, e, s, index);
+    out.counters.step_over(t);
+    if is_an_index_at(source, out.counters.at as usize) {
+        return outer_index(source, nodes, out, index);
     }
-    outer_displaced(line, tokens, nodes, diagnostics, e, s, index, 1)
+    outer_displaced(source, nodes, out, index, 1)
 }

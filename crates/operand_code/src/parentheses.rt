@@ -3,269 +3,226 @@ ghost use Rattle.std.specs.Prelude.{◌≡◌};
 ghost use Rattle.records.specs.Rooms.{Room, NodeRoom};
 ghost use Rattle.expressions.specs.Trees.{span_e};
 ghost use Rattle.operand.specs.Operand.{unexpected, after_expression, parenthesised, parse_parenthesised_operand, grouped_expression, grouped_operand, after_comma, size_and_base, unbracketed};
-ghost use Rattle.operand_code.specs.Operands.{BaseTold, OperandTold};
-ghost use Rattle.operand_code.specs.Absolutes.{FailTold, SizeAt, TreeTold, StandTold};
+ghost use Rattle.operand_code.specs.Operands.{BaseBy, OperandBy};
+ghost use Rattle.operand_code.specs.Absolutes.{FailBy, SizeAt, TreeBy, StandBy};
 
 use crate::absolutes::finish_expression_operand;
 use crate::bases::parse_base_and_index;
 use crate::expressed::{expression_at, expression_behind};
 use crate::full::parse_full_index;
 use crate::lookahead::{starts_a_base, starts_a_full_index};
-use crate::malformed::{expression_expected, raise};
+use crate::malformed::expression_expected;
 use crate::memory::parse_memory_indirect;
-use crate::steps::{last_tree, no_operand, step_over};
+use crate::steps::last_tree;
 use crate::suffixes::suffix_run;
-use expressions::Setting;
-use expressions_code::Parsed;
-use names::{Peeked, Token, kinds};
-use operand::{OperandStep, SizedDisplacement, SuffixRead};
+use expressions::Source;
+use expressions_code::TermError;
+use names::{Token, kinds};
+use operand::{OperandRecord, Sized};
 use records::diagnostic_kinds::{UNCLOSED_PARENTHESIS, UNEXPECTED_TOKEN_IN_OPERAND};
 use records::problems::NO_PROBLEM;
 use records::shapes::NO_SHAPE;
-use records::{Counters, Span, diagnostic, span_of};
+use records::{Progress, Span, diagnostic, span_of};
 
 // The parenthesis has closed behind an expression: a displacement, or a group that goes on.
 fn grouped_operand(
-    line: &[u8],
-    tokens: &[u16],
+    source: &Source,
     nodes: &mut [u16],
-    diagnostics: &mut [u16],
-    c: Counters,
-    s: Setting,
+    out: &mut Progress,
     paren: Token,
-) -> OperandStep
-    requires { NodeRoom tokens.now nodes.old c 1 0 1 }
-    ensures { StandTold (λ e. Unit {0}) (λ e. grouped_operand s paren c.end e) line.now tokens.now nodes.old diagnostics.old nodes.new diagnostics.new c result }
+) -> Option<OperandRecord>
+    requires { NodeRoom source.now.tokens.now nodes.old out.old.counters 1 0 1 }
+    ensures lent { out.new.diagnostics.ghost_name ≡ out.old.diagnostics.ghost_name }
+    ensures told { StandBy (λ e. Unit {0}) (λ e. grouped_operand source.now.setting paren out.old.counters.end e) source.now nodes.old out.old nodes.new out.new result }
 {
-    let at = c.at as usize;
-    let p = names::token_at(tokens, at);
-    let Peeked::Is(t) = p else {
-        return grouped_expression(line, tokens, nodes, diagnostics, c, s, paren);
+    let Some(t) = source.peek(out.counters) else {
+        return grouped_expression(source, nodes, out, paren);
     };
     if t.kind != kinds::LEFT_PAREN {
-        return grouped_expression(line, tokens, nodes, diagnostics, c, s, paren);
+        return grouped_expression(source, nodes, out, paren);
     }
-    let d = last_tree(c, 0);
-    parse_base_and_index(line, tokens, diagnostics, step_over(c, t), s, t, d)
+    let d = last_tree(out.counters, 0);
+    out.counters.step_over(t);
+    parse_base_and_index(source, out, t, d)
 }
 
 // The group is the first term of an absolute address.
 fn grouped_expression(
-    line: &[u8],
-    tokens: &[u16],
+    source: &Source,
     nodes: &mut [u16],
-    diagnostics: &mut [u16],
-    c: Counters,
-    s: Setting,
+    out: &mut Progress,
     paren: Token,
-) -> OperandStep
-    requires { NodeRoom tokens.now nodes.old c 1 0 1 }
-    ensures { StandTold (λ e. Unit {0}) (λ e. grouped_expression s paren c.end e) line.now tokens.now nodes.old diagnostics.old nodes.new diagnostics.new c result }
+) -> Option<OperandRecord>
+    requires { NodeRoom source.now.tokens.now nodes.old out.old.counters 1 0 1 }
+    ensures lent { out.new.diagnostics.ghost_name ≡ out.old.diagnostics.ghost_name }
+    ensures told { StandBy (λ e. Unit {0}) (λ e. grouped_expression source.now.setting paren out.old.counters.end e) source.now nodes.old out.old nodes.new out.new result }
 {
     let group = Span {
         start: paren.start,
-        end: c.end,
+        end: out.counters.end,
     };
-    let r = expression_behind(line, tokens, nodes, diagnostics, c, group, s);
-    let e = r.counters;
-    let span = r.span;
-    finish_expression_operand(line, tokens, diagnostics, e, s, span)
+    let span = expression_behind(source, nodes, out, group);
+    finish_expression_operand(source, out, span)
 }
 
 // Behind an expression that nothing here may follow. An Error token has been reported by the lexer.
-fn unexpected(tokens: &[u16], diagnostics: &mut [u16], c: Counters, paren: Token) -> OperandStep
-    requires { Room tokens.now c 0 1 }
-    ensures { FailTold (unexpected paren) tokens.now diagnostics.old diagnostics.new c result }
+fn unexpected(source: &Source, out: &mut Progress, paren: Token) -> Option<OperandRecord>
+    requires { Room source.now.tokens.now out.old.counters 0 1 }
+    ensures lent { out.new.diagnostics.ghost_name ≡ out.old.diagnostics.ghost_name }
+    ensures told { FailBy (unexpected paren) source.now out.old out.new result }
 {
-    let at = c.at as usize;
-    let p = names::token_at(tokens, at);
-    match p {
-        Peeked::Is(t) => {
-            if t.kind == kinds::ERROR {
-                return no_operand(c);
-            }
-            let span = span_of(t);
-            let x = diagnostic(
-                UNEXPECTED_TOKEN_IN_OPERAND,
-                NO_SHAPE,
-                NO_PROBLEM,
-                span,
-                span,
-            );
-            no_operand(raise(diagnostics, c, x))
-        }
-        Peeked::End => {
-            let none = Span { start: 0, end: 0 };
-            let x = diagnostic(
-                UNCLOSED_PARENTHESIS,
-                NO_SHAPE,
-                NO_PROBLEM,
-                span_of(paren),
-                none,
-            );
-            no_operand(raise(diagnostics, c, x))
-        }
+    let none = Span { start: 0, end: 0 };
+    let Some(t) = source.peek(out.counters) else {
+        let span = span_of(paren);
+        out.raise(diagnostic(UNCLOSED_PARENTHESIS, NO_SHAPE, NO_PROBLEM, span, none));
+        return None;
+    };
+    if t.kind == kinds::ERROR {
+        return None;
     }
+    let span = span_of(t);
+    out.raise(diagnostic(
+        UNEXPECTED_TOKEN_IN_OPERAND,
+        NO_SHAPE,
+        NO_PROBLEM,
+        span,
+        span,
+    ));
+    None
 }
 
 // Behind a comma: the registers of a full index, or a base and an index.
 fn after_comma(
-    line: &[u8],
-    tokens: &[u16],
-    diagnostics: &mut [u16],
-    c: Counters,
-    s: Setting,
+    source: &Source,
+    out: &mut Progress,
     paren: Token,
-    d: SizedDisplacement,
-) -> OperandStep
-    requires { Room tokens.now c 0 1 }
-    ensures { BaseTold (λ y. after_comma s paren y) line.now tokens.now diagnostics.old diagnostics.new c d result }
+    d: Option<Sized>,
+) -> Option<OperandRecord>
+    requires { Room source.now.tokens.now out.old.counters 0 1 }
+    ensures lent { out.new.diagnostics.ghost_name ≡ out.old.diagnostics.ghost_name }
+    ensures told { BaseBy (λ y. after_comma source.now.setting paren y) source.now out.old out.new d result }
 {
-    let at = c.at as usize;
-    if starts_a_full_index(line, tokens, at, s) {
-        return parse_full_index(line, tokens, diagnostics, c, s, paren, d);
+    if starts_a_full_index(source, out.counters.at as usize) {
+        return parse_full_index(source, out, paren, d);
     }
-    parse_base_and_index(line, tokens, diagnostics, c, s, paren, d)
+    parse_base_and_index(source, out, paren, d)
 }
 
 // A size behind the expression, which has been seen, where a comma must follow.
 fn sized_base(
-    line: &[u8],
-    tokens: &[u16],
-    diagnostics: &mut [u16],
-    c: Counters,
-    s: Setting,
+    source: &Source,
+    out: &mut Progress,
     paren: Token,
     value: Span,
     suffix: Token,
-) -> OperandStep
-    requires { Room tokens.now c 1 1 × SizeAt tokens.now c.at suffix }
-    ensures { TreeTold (λ e. size_and_base s paren e) line.now tokens.now diagnostics.old diagnostics.new c value result }
+) -> Option<OperandRecord>
+    requires { Room source.now.tokens.now out.old.counters 1 1 × SizeAt source.now.tokens.now out.old.counters.at suffix }
+    ensures lent { out.new.diagnostics.ghost_name ≡ out.old.diagnostics.ghost_name }
+    ensures told { TreeBy (λ e. size_and_base source.now.setting paren e) source.now out.old out.new value result }
 {
-    let at = c.at as usize;
-    let p = names::token_at(tokens, at + 1);
-    let Peeked::Is(t) = p else {
-        return unexpected(tokens, diagnostics, c, paren);
+    let at = out.counters.at as usize;
+    let Some(t) = source.token_at(at + 1) else {
+        return unexpected(source, out, paren);
     };
     if t.kind != kinds::COMMA {
-        return unexpected(tokens, diagnostics, c, paren);
+        return unexpected(source, out, paren);
     }
-    let x = suffix_run(line, diagnostics, step_over(c, suffix), value.start, suffix);
-    let e = x.counters;
-    let size = x.suffix;
-    match size {
-        SuffixRead::Not => {
-            let d = last_tree(e, 0);
-            parse_full_index(line, tokens, diagnostics, step_over(e, t), s, paren, d)
-        }
-        SuffixRead::Is(y) => {
-            let d = last_tree(e, y.size);
-            parse_full_index(line, tokens, diagnostics, step_over(e, t), s, paren, d)
-        }
-    }
+    out.counters.step_over(suffix);
+    let x = suffix_run(source, out, value.start, suffix);
+    let d = last_tree(out.counters, x.size);
+    out.counters.step_over(t);
+    parse_full_index(source, out, paren, d)
 }
 
 fn after_expression(
-    line: &[u8],
-    tokens: &[u16],
+    source: &Source,
     nodes: &mut [u16],
-    diagnostics: &mut [u16],
-    c: Counters,
-    s: Setting,
+    out: &mut Progress,
     paren: Token,
     value: Span,
-) -> OperandStep
-    requires { NodeRoom tokens.now nodes.old c 1 0 1 }
-    ensures { StandTold (λ e. value ≡ span_e e) (λ e. after_expression s paren e) line.now tokens.now nodes.old diagnostics.old nodes.new diagnostics.new c result }
+) -> Option<OperandRecord>
+    requires { NodeRoom source.now.tokens.now nodes.old out.old.counters 1 0 1 }
+    ensures lent { out.new.diagnostics.ghost_name ≡ out.old.diagnostics.ghost_name }
+    ensures told { StandBy (λ e. value ≡ span_e e) (λ e. after_expression source.now.setting paren e) source.now nodes.old out.old nodes.new out.new result }
 {
-    let at = c.at as usize;
-    let p = names::token_at(tokens, at);
-    let Peeked::Is(t) = p else {
-        return unexpected(tokens, diagnostics, c, paren);
+    let Some(t) = source.peek(out.counters) else {
+        return unexpected(source, out, paren);
     };
     let kind = t.kind;
     match kind {
         kinds::COMMA => {
-            let d = last_tree(c, 0);
-            after_comma(line, tokens, diagnostics, step_over(c, t), s, paren, d)
+            let d = last_tree(out.counters, 0);
+            out.counters.step_over(t);
+            after_comma(source, out, paren, d)
         }
         kinds::RIGHT_PAREN => {
-            let e = step_over(c, t);
-            grouped_operand(line, tokens, nodes, diagnostics, e, s, paren)
+            out.counters.step_over(t);
+            grouped_operand(source, nodes, out, paren)
         }
-        kinds::SIZE_SUFFIX => sized_base(line, tokens, diagnostics, c, s, paren, value, t),
-        _ => unexpected(tokens, diagnostics, c, paren),
+        kinds::SIZE_SUFFIX => sized_base(source, out, paren, value, t),
+        _ => unexpected(source, out, paren),
     }
 }
 
 // Behind a parenthesis that no base follows.
 fn parenthesised(
-    line: &[u8],
-    tokens: &[u16],
+    source: &Source,
     nodes: &mut [u16],
-    diagnostics: &mut [u16],
-    c: Counters,
-    s: Setting,
+    out: &mut Progress,
     paren: Token,
-) -> OperandStep
-    requires { (NodeRoom tokens.now nodes.old c 0 0 1) × (c.nodes ≡ 0) }
-    ensures { OperandTold (parenthesised s paren) line.now tokens.now diagnostics.old nodes.new diagnostics.new c result }
+) -> Option<OperandRecord>
+    requires { (NodeRoom source.now.tokens.now nodes.old out.old.counters 0 0 1) × (out.old.counters.nodes ≡ 0) }
+    ensures lent { out.new.diagnostics.ghost_name ≡ out.old.diagnostics.ghost_name }
+    ensures told { OperandBy (parenthesised source.now.setting paren) source.now out.old nodes.new out.new result }
 {
-    let r = expression_at(line, tokens, nodes, diagnostics, c, s);
-    let e = r.counters;
-    let parsed = r.parsed;
-    match parsed {
-        Parsed::Read(span) => after_expression(line, tokens, nodes, diagnostics, e, s, paren, span),
-        Parsed::Reported => no_operand(e),
-        Parsed::Absent => no_operand(expression_expected(diagnostics, e, paren)),
+    match expression_at(source, nodes, out) {
+        Ok(span) => after_expression(source, nodes, out, paren, span),
+        Err(TermError::Reported) => None,
+        Err(TermError::Absent) => {
+            expression_expected(out, paren);
+            None
+        }
     }
 }
 
 // Behind a parenthesis that no bracket follows.
 fn unbracketed(
-    line: &[u8],
-    tokens: &[u16],
+    source: &Source,
     nodes: &mut [u16],
-    diagnostics: &mut [u16],
-    c: Counters,
-    s: Setting,
+    out: &mut Progress,
     paren: Token,
-) -> OperandStep
-    requires { (NodeRoom tokens.now nodes.old c 0 0 1) × (c.nodes ≡ 0) }
-    ensures { OperandTold (unbracketed s paren) line.now tokens.now diagnostics.old nodes.new diagnostics.new c result }
+) -> Option<OperandRecord>
+    requires { (NodeRoom source.now.tokens.now nodes.old out.old.counters 0 0 1) × (out.old.counters.nodes ≡ 0) }
+    ensures lent { out.new.diagnostics.ghost_name ≡ out.old.diagnostics.ghost_name }
+    ensures told { OperandBy (unbracketed source.now.setting paren) source.now out.old nodes.new out.new result }
 {
-    let at = c.at as usize;
-    let none = SizedDisplacement::Not;
-    if starts_a_full_index(line, tokens, at, s) {
-        return parse_full_index(line, tokens, diagnostics, c, s, paren, none);
+    let at = out.counters.at as usize;
+    if starts_a_full_index(source, at) {
+        return parse_full_index(source, out, paren, None);
     }
-    if starts_a_base(line, tokens, at) {
-        return parse_base_and_index(line, tokens, diagnostics, c, s, paren, none);
+    if starts_a_base(source, at) {
+        return parse_base_and_index(source, out, paren, None);
     }
-    parenthesised(line, tokens, nodes, diagnostics, c, s, paren)
+    parenthesised(source, nodes, out, paren)
 }
 
 // Behind the parenthesis.
 pub(crate) fn parse_parenthesised_operand(
-    line: &[u8],
-    tokens: &[u16],
+    source: &Source,
     nodes: &mut [u16],
-    diagnostics: &mut [u16],
-    c: Counters,
-    s: Setting,
+    out: &mut Progress,
     paren: Token,
-) -> OperandStep
-    requires { (NodeRoom tokens.now nodes.old c 0 0 1) × (c.nodes ≡ 0) }
-    ensures { OperandTold (parse_parenthesised_operand s paren) line.now tokens.now diagnostics.old nodes.new diagnostics.new c result }
+) -> Option<OperandRecord>
+    requires { (NodeRoom source.now.tokens.now nodes.old out.old.counters 0 0 1) × (out.old.counters.nodes ≡ 0) }
+    ensures lent { out.new.diagnostics.ghost_name ≡ out.old.diagnostics.ghost_name }
+    ensures told { OperandBy (parse_parenthesised_operand source.now.setting paren) source.now out.old nodes.new out.new result }
 {
-    let at = c.at as usize;
-    let p = names::token_at(tokens, at);
-    let Peeked::Is(t) = p else {
-        return unbracketed(line, tokens, nodes, diagnostics, c, s, paren);
+    let Some(t) = source.peek(out.counters) else {
+        return unbracketed(source, nodes, out, paren);
     };
     if t.kind != kinds::LEFT_BRACKET {
-        return unbracketed(line, tokens, nodes, diagnostics, c, s, paren);
+        return unbracketed(source, nodes, out, paren);
     }
-    let e = step_over(c, t);
-    parse_memory_indirect(line, tokens, nodes, diagnostics, e, s, paren)
+    out.counters.step_over(t);
+    parse_memory_indirect(source, nodes, out, paren)
 }

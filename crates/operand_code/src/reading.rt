@@ -2,25 +2,17 @@
 ghost use Rattle.std.specs.Prelude.{◌≡◌, ◌≤◌, min};
 ghost use Rattle.names.specs.Tokens.{token_at};
 ghost use Rattle.names.specs.Places.{place};
-ghost use Rattle.names.specs.declared.tokens.Peeked.TheVariants as peeked;
 ghost use Rattle.operand.specs.Operand.{reading_of};
 ghost use Rattle.operand_code.specs.Reading.{OperandAsks, OperandFits, NothingTold, OperandPromise};
 
 use crate::operands::operand_from;
-use expressions::Setting;
-use names::{Peeked, Token};
-use operand::{OperandRead, OperandStep};
-use records::{Counters, MOST_TOKENS, clear_behind};
+use expressions::{Setting, Source};
+use names::Token;
+use operand::OperandStep;
+use records::{Counters, MOST_TOKENS, Progress, clear_behind};
 
-// What is read, or unfit where the counts leave no room for a reading.
-#[derive(Clone, Copy)]
-pub enum OperandAnswer {
-    Is(OperandStep),
-    Unfit,
-}
-
-// The operand that begins at the token `start`. The records that it does not use are cleared: those of failed terms, and without an
-// operand all.
+// The operand that begins at the token `start`, or none where the counts leave no room for a reading. The records that it does not use
+// are cleared: those of failed terms, and without an operand all.
 pub fn operand_at(
     line: &[u8],
     tokens: &[u16],
@@ -29,29 +21,19 @@ pub fn operand_at(
     start: usize,
     mark: usize,
     limit: u16,
-) -> OperandAnswer
+) -> Option<OperandStep>
     ensures { OperandPromise line.now tokens.now nodes.old diagnostics.old nodes.new diagnostics.new start mark limit result }
 {
     let count = tokens.len() / 4;
-    if MOST_TOKENS < count {
-        return OperandAnswer::Unfit;
+    if MOST_TOKENS < count || count < start || nodes.len() < 10 * count || limit == 0 {
+        return None;
     }
-    if count < start {
-        return OperandAnswer::Unfit;
-    }
-    if nodes.len() < 10 * count {
-        return OperandAnswer::Unfit;
-    }
-    if limit == 0 {
-        return OperandAnswer::Unfit;
-    }
-    let p = names::token_at(tokens, start);
-    match p {
-        Peeked::Is(t) => {
+    match names::token_at(tokens, start) {
+        Some(t) => {
             let near = mark_within(mark);
-            OperandAnswer::Is(read(line, tokens, nodes, diagnostics, start, near, limit, t))
+            Some(read(line, tokens, nodes, diagnostics, start, near, limit, t))
         }
-        Peeked::End => OperandAnswer::Is(nothing(nodes, first(start))),
+        None => Some(nothing(nodes, first(start))),
     }
 }
 
@@ -76,24 +58,34 @@ fn read(
     limit: u16,
     token: Token,
 ) -> OperandStep
-    requires { OperandAsks tokens.now nodes.old start limit × (token_at tokens.now start ≡ peeked.Is token) }
+    requires { OperandAsks tokens.now nodes.old start limit × (token_at tokens.now start ≡ Some token) }
     ensures { OperandFits (reading_of limit mark (place line.now tokens.now) start) nodes.old diagnostics.old nodes.new diagnostics.new result }
 {
-    let c = first(start);
-    let s = Setting {
-        limit: limit,
-        mark: mark,
+    let setting = Setting {
+        limit,
+        mark,
         start: token.start,
     };
-    let r = operand_from(line, tokens, nodes, diagnostics, c, s, token);
-    let found = r.operand;
-    let e = r.counters;
+    let source = Source {
+        line,
+        tokens,
+        setting,
+    };
+    let mut out = Progress {
+        diagnostics,
+        counters: first(start),
+    };
+    let found = operand_from(&source, nodes, &mut out, token);
+    let e = out.counters;
     match found {
-        OperandRead::Is(_) => {
+        Some(_) => {
             clear_behind(nodes, e.nodes);
-            r
+            OperandStep {
+                operand: found,
+                counters: e,
+            }
         }
-        OperandRead::Not => nothing(nodes, e),
+        None => nothing(nodes, e),
     }
 }
 
@@ -116,12 +108,7 @@ fn nothing(nodes: &mut [u16], c: Counters) -> OperandStep
 {
     clear_behind(nodes, 0);
     OperandStep {
-        operand: OperandRead::Not,
-        counters: Counters {
-            at: c.at,
-            end: c.end,
-            nodes: 0,
-            diagnostics: c.diagnostics,
-        },
+        operand: None,
+        counters: Counters { nodes: 0, ..c },
     }
 }

@@ -1,5 +1,5 @@
-// Size suffixes. A slice that is lent anew (`&*line`) is handed on in registers, not through memory.
-ghost use Rattle.std.specs.Prelude.{◌≡◌, List, ℕ, ◌<◌};
+// Size suffixes.
+ghost use Rattle.std.specs.Prelude.{◌≡◌, ◌<◌};
 ghost use Rattle.records.specs.Rooms.{Room};
 ghost use Rattle.names.specs.Places.{text_of};
 ghost use Rattle.names.specs.Sizes.{run_of};
@@ -7,52 +7,42 @@ ghost use Rattle.records.specs.Spans.{span};
 ghost use Rattle.records.specs.Diagnostics.{run_start};
 ghost use Rattle.expressions.specs.Expressions.{suffix_run, take_size_suffix};
 ghost use Rattle.operand.specs.Forms.{suffix_read};
-ghost use Rattle.expressions.specs.Told.{Told, Same};
-ghost use Rattle.operand.specs.declared.forms.SuffixRead.{SuffixRead};
+ghost use Rattle.expressions.specs.Told.{Same};
+ghost use Rattle.operand_code.specs.Told.{Tells};
 
-use crate::malformed::raise;
-use crate::steps::step_over;
-use names::{Peeked, SizeSuffix, Token, kinds};
-use operand::{SuffixRead, SuffixStep, Suffixed};
+use expressions::Source;
+use names::{SizeSuffix, Token, kinds};
+use operand::Suffixed;
 use records::diagnostic_kinds::{DOT_IN_NAME, UNKNOWN_SIZE_SUFFIX};
 use records::problems::NO_PROBLEM;
 use records::shapes::NO_SHAPE;
-use records::{Counters, Span, diagnostic, span_of};
+use records::{Progress, Span, diagnostic, span_of};
 
 // Behind the token of a size suffix. A run of two letters or more is a dot inside a name, which began at `from`.
-pub(crate) fn suffix_run(
-    line: &[u8],
-    diagnostics: &mut [u16],
-    c: Counters,
-    from: u16,
-    token: Token,
-) -> SuffixStep
-    requires { c.diagnostics < 65535 }
-    ensures { (T : List ℕ) → Told suffix_read (Same c.nodes) (suffix_run from token (run_of (text_of line.now token.start token.end))) line.now T diagnostics.old diagnostics.new c result.suffix result.counters }
+pub(crate) fn suffix_run(source: &Source, out: &mut Progress, from: u16, token: Token) -> Suffixed
+    requires { out.old.counters.diagnostics < 65535 }
+    ensures lent { out.new.diagnostics.ghost_name ≡ out.old.diagnostics.ghost_name }
+    ensures told { Tells suffix_read (Same out.old.counters.nodes) (suffix_run from token (run_of (text_of source.now.line.now token.start token.end))) source.now out.old out.new (Some result) }
 {
-    let run = names::suffix_run(names::text_of(&*line, token));
+    let run = names::suffix_run(source.text_of(token));
     let span = span_of(token);
     if 2 <= run.len() {
         let name = Span {
             start: from,
             end: token.end,
         };
-        let x = diagnostic(DOT_IN_NAME, NO_SHAPE, NO_PROBLEM, span, name);
-        return unknown(raise(diagnostics, c, x), span);
+        out.raise(diagnostic(DOT_IN_NAME, NO_SHAPE, NO_PROBLEM, span, name));
+        return Suffixed { size: 0, span };
     }
-    let size = SizeSuffix::from_run(run);
-    match size {
-        SizeSuffix::Is(n) => SuffixStep {
-            suffix: SuffixRead::Is(Suffixed {
-                size: n,
-                span: span,
-            }),
-            counters: c,
+    match SizeSuffix::from_run(run) {
+        Some(n) => Suffixed {
+            size: n as u8,
+            span,
         },
-        SizeSuffix::Not => {
+        None => {
             let text = run_span(span);
-            let x = diagnostic(UNKNOWN_SIZE_SUFFIX, NO_SHAPE, NO_PROBLEM, span, text);
-            unknown(raise(diagnostics, c, x), span)
+            out.raise(diagnostic(UNKNOWN_SIZE_SUFFIX, NO_SHAPE, NO_PROBLEM, span, text));
+            Suffixed { size: 0, span }
         }
     }
 }
@@ -73,48 +63,17 @@ fn run_span(suffix: Span) -> Span
     }
 }
 
-// A size that is not known.
-fn unknown(c: Counters, span: Span) -> SuffixStep
-    ensures { (result.suffix ≡ SuffixRead.Is (record { size = 0; span = span })) × (result.counters ≡ c) }
+pub(crate) fn take_size_suffix(source: &Source, out: &mut Progress, from: u16) -> Option<Suffixed>
+    requires { Room source.now.tokens.now out.old.counters 0 1 }
+    ensures lent { out.new.diagnostics.ghost_name ≡ out.old.diagnostics.ghost_name }
+    ensures told { Tells suffix_read (Same out.old.counters.nodes) (take_size_suffix from) source.now out.old out.new result }
 {
-    SuffixStep {
-        suffix: SuffixRead::Is(Suffixed {
-            size: 0,
-            span: span,
-        }),
-        counters: c,
+    let Some(t) = source.peek(out.counters) else {
+        return None;
+    };
+    if t.kind != kinds::SIZE_SUFFIX {
+        return None;
     }
-}
-
-pub(crate) fn take_size_suffix(
-    line: &[u8],
-    tokens: &[u16],
-    diagnostics: &mut [u16],
-    c: Counters,
-    from: u16,
-) -> SuffixStep
-    requires { Room tokens.now c 0 1 }
-    ensures { Told suffix_read (Same c.nodes) (take_size_suffix from) line.now tokens.now diagnostics.old diagnostics.new c result.suffix result.counters }
-{
-    let at = c.at as usize;
-    let p = names::token_at(tokens, at);
-    match p {
-        Peeked::End => bare(c),
-        Peeked::Is(t) => {
-            if t.kind != kinds::SIZE_SUFFIX {
-                return bare(c);
-            }
-            suffix_run(line, diagnostics, step_over(c, t), from, t)
-        }
-    }
-}
-
-// No suffix.
-fn bare(c: Counters) -> SuffixStep
-    ensures { (result.suffix ≡ SuffixRead.Not) × (result.counters ≡ c) }
-{
-    SuffixStep {
-        suffix: SuffixRead::Not,
-        counters: c,
-    }
+    out.counters.step_over(t);
+    Some(suffix_run(source, out, from, t))
 }

@@ -1,7 +1,6 @@
 -- What is left of a part of the input.
 -- Assumes nothing.
 use mathlib.Core.Path.{◌≡◌, refl, sym, ◌∙◌, ap, ap₂}
-use mathlib.Core.Bool.{false}
 use mathlib.Core.List.{List, [], ◌∷◌}
 use Prim.Native.Nat.{ℕ, zero, suc, ◌+◌, ◌-◌, ◌≤◌, ◌<◌}
 use native.Mathlib.Nat.{sub-zero}
@@ -13,13 +12,6 @@ use Rattle.frames.specs.Batches.{BatchTold}
 use Rattle.frames.specs.Program.{Run, drained, Leaves}
 use Rattle.frames.specs.Bounds.{progress, batch_progress}
 use Rattle.frames.specs.declared.batches.Batched.{Batched}
-use lib.IntN.{ℤ, pos, negsuc, nat_abs}
-use lib.Signed.{lt_z}
-use mir.Syntax.{w64}
-use mir.Val.{SFits, to_z, of_z}
-use Rattle.operands.specs.Passing.{PartTold, ReadTold}
-use Rattle.operands.specs.declared.Passed.{Passed}
-use mir.Facts.{to_z-of_z}
 
 -- ---- two runs that leave the same
 
@@ -98,17 +90,3 @@ rest_end I at h C O h₀ C₀ O₀ on q =
       carry = sym (ap (λ (u : Run). u.carry) e) ∙ q.carry;
       out = sym (ap (λ (u : Run). u.out) e) ∙ q.out;
     }
-
--- ---- a read that gave something
-
--- what was read is the part of the store that is answered
-pub read_part : (got : ℤ) (I : List ℕ) (h : ℕ) (C O C' O' : List ℕ) (r : Passed) → SFits w64 got → lt_z (to_z w64 (of_z w64 got)) (pos 0) ≡ false
-    → (nat_abs (to_z w64 (of_z w64 got)) ≡ 0 → ⊥) → PartTold (take (nat_abs (to_z w64 (of_z w64 got))) I) h C O C' O' r → ReadTold got I h C O C' O' r
-read_part got I h C O C' O' r f t z p =
-    let e : to_z w64 (of_z w64 got) ≡ got = to_z-of_z {w = w64} {z = got} f in
-    go got (rw e at t) (rw e at z) (rw e at p)
-  where
-    go : (k : ℤ) → lt_z k (pos 0) ≡ false → (nat_abs k ≡ 0 → ⊥) → PartTold (take (nat_abs k) I) h C O C' O' r → ReadTold k I h C O C' O' r
-    go (pos zero) t z p = absurd (z refl)
-    go (pos (suc k)) t z p = p
-    go (negsuc k) t z p = let q : ⊥ = cc in absurd q

@@ -7,13 +7,6 @@ ghost use Rattle.operands.specs.Passing.{Moved, PartTold, LastTold, ReadTold};
 use frames::{batch, finish};
 use std::io::{Read, Stdin};
 
-// How much of the unfinished line is held, and whether to go on.
-#[derive(Clone, Copy)]
-struct Passed {
-    held: usize,
-    more: bool,
-}
-
 // Writes the first n bytes of the output, and answers whether that went well.
 fn write(rt: &impl Print, out: &[u8], n: usize) -> bool
     requires { n ≤ length out.now }
@@ -21,45 +14,36 @@ fn write(rt: &impl Print, out: &[u8], n: usize) -> bool
     rt.write_all(&out[..n]).is_ok()
 }
 
-// How many bytes a read put at the beginning of the store, none at the input's end, -1 where it failed.
-fn read(stdin: &mut Stdin, input: &mut [u8]) -> isize
+// How many bytes a read put at the beginning of the store, none at the input's end, unless it failed.
+fn read(stdin: &mut Stdin, input: &mut [u8]) -> Option<usize>
     ensures { Moved (length input.new) result }
 {
-    match stdin.read(input) {
-        Ok(n) => n as isize,
-        Err(_) => -1,
-    }
+    stdin.read(input).ok()
 }
 
-// Answers a part of the input, in as many calls as the room for the output asks. A write that fails ends it.
+// Answers a part of the input, in as many calls as the room for the output asks, and returns how much of the unfinished line is held. A
+// write that fails ends it.
 fn answer_part(
     rt: &impl Print,
     input: &[u8],
     held: usize,
     carry: &mut [u8; 917507],
     out: &mut [u8; 163840],
-) -> Passed
+) -> Option<usize>
     ensures { PartTold input.now held carry.old out.old carry.new out.new result }
 {
     let mut at = 0;
     let mut h = held;
+    // Each call says how much it consumed, so that no iterator gives the next part.
     while at < input.len() {
         let r = batch(&input[at..], h, carry, out);
-        let n = r.written;
-        if write(rt, out, n) {
-            at += r.consumed;
-            h = r.held;
-        } else {
-            return Passed {
-                held: 0,
-                more: false,
-            };
+        if !write(rt, out, r.written) {
+            return None;
         }
+        at += r.consumed;
+        h = r.held;
     }
-    Passed {
-        held: h,
-        more: true,
-    }
+    Some(h)
 }
 
 // Answers the last line, if it lacks its line feed.
@@ -70,53 +54,42 @@ fn answer_last(rt: &impl Print, held: usize, carry: &[u8; 917507], out: &mut [u8
     write(rt, out, n);
 }
 
-// Answers what a read gave: so many bytes at the beginning of the store that it was lent, none at the input's end, -1 where it failed.
+// Answers what a read gave: so many bytes at the beginning of the store that it was lent, none at the input's end. Where the program goes
+// on, it returns how much of the unfinished line is held.
 fn answer_read(
     rt: &impl Print,
-    got: isize,
+    got: Option<usize>,
     input: &[u8],
     held: usize,
     carry: &mut [u8; 917507],
     out: &mut [u8; 163840],
-) -> Passed
+) -> Option<usize>
     requires { Moved (length input.now) got }
     ensures { ReadTold got input.now held carry.old out.old carry.new out.new result }
 {
-    if got < 0 {
-        return Passed {
-            held: 0,
-            more: false,
-        };
+    match got? {
+        0 => {
+            answer_last(rt, held, carry, out);
+            None
+        }
+        n => answer_part(rt, &input[..n], held, carry, out),
     }
-    let n = got as usize;
-    if n == 0 {
-        answer_last(rt, held, carry, out);
-        return Passed {
-            held: 0,
-            more: false,
-        };
-    }
-    answer_part(rt, &input[..n], held, carry, out)
 }
 
 // Which bytes a read puts into the store, and which a write takes from one, no contract says: that they are the input's and the output's is
-// read in `read` and `write`. A proved loop has to end, and nothing says that the input does. So it counts its turns down, from a number that
-// no run uses up.
+// read in `read` and `write`. A proved loop has to end, and nothing says that the input does. So it counts its turns, up to a number that no
+// run uses up.
 fn main(rt: HostRuntime) {
     let mut stdin = rt.stdin();
     let mut input = [0u8; 65536];
     let mut out = [0u8; 163840];
     let mut carry = [0u8; 917507];
     let mut held = 0;
-    let mut turns = u64::MAX;
-    while turns > 0 {
+    for _ in 0..u64::MAX {
         let got = read(&mut stdin, &mut input);
-        let p = answer_read(&rt, got, &input, held, &mut carry, &mut out);
-        if p.more {
-            held = p.held;
-            turns -= 1;
-        } else {
-            return;
+        match answer_read(&rt, got, &input, held, &mut carry, &mut out) {
+            Some(more) => held = more,
+            None => return,
         }
     }
 }

@@ -4,7 +4,7 @@
 ghost use Rattle.std.specs.Prelude.{◌≡◌};
 ghost use Rattle.reader.specs.Cursor.{text_at, place_in, next_place};
 
-use names::{Peeked, lent_token_at, text_of};
+use names::{lent_token_at, text_of};
 
 #[derive(Clone, Copy)]
 pub struct Reader<'a, 'b> {
@@ -17,19 +17,18 @@ pub struct Reader<'a, 'b> {
 pub fn text_at<'a, 'b>(line: &'a [u8], tokens: &'b [u8], place: usize) -> &'a [u8]
     ensures { result.now ≡ text_at line.now tokens.now place }
 {
-    let p = lent_token_at(tokens, place);
-    match p {
-        Peeked::Is(token) => text_of(line, token),
-        Peeked::End => &line[0..0],
-    }
+    let Some(token) = lent_token_at(tokens, place) else {
+        return &line[0..0];
+    };
+    text_of(line, token)
 }
 
 // The place itself, or the end of the tokens where the place lies behind it.
+#[tactic(auto, unfolding(crate::specs::Cursor::place_in))]
 pub fn place_in(tokens: &[u8], place: usize) -> usize
     ensures { result ≡ place_in tokens.now place }
 {
-    let count = tokens.len() / 4;
-    if place <= count { place } else { count }
+    place.min(tokens.len() / 4)
 }
 
 // The place behind the token at a place, the same place where none stands.
@@ -37,8 +36,8 @@ pub fn next_place(tokens: &[u8], place: usize) -> usize
     ensures { result ≡ next_place tokens.now place }
 {
     match lent_token_at(tokens, place) {
-        Peeked::Is(token) => place + 1,
-        Peeked::End => place,
+        Some(_) => place + 1,
+        None => place,
     }
 }
 
@@ -65,11 +64,9 @@ pub fn text<'a, 'b>(r: Reader<'a, 'b>) -> &'a [u8]
 pub fn advance<'a, 'b>(r: Reader<'a, 'b>) -> Reader<'a, 'b>
     ensures { (result.line ≡ r.entry.line) × (result.tokens ≡ r.entry.tokens) × (result.place ≡ next_place r.entry.tokens.now r.entry.place) }
 {
-    let place = next_place(r.tokens, r.place);
     Reader {
-        line: r.line,
-        tokens: r.tokens,
-        place,
+        place: next_place(r.tokens, r.place),
+        ..r
     }
 }
 

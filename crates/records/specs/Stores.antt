@@ -6,7 +6,7 @@ use Rattle.records.specs.Diagnostics.{diagnostic_record}
 use Rattle.records.specs.declared.diagnostics.Diagnostic.{Diagnostic}
 
 -- a store with these numbers from a place on, where they fit; else nothing moves
-unfoldable pub written : List ℕ → ℕ → List ℕ → List ℕ
+unfoldable pub written : {A : Type 0} → List A → ℕ → List A → List A
 written N at b = pick (leb (at + length b) (length N)) ((take at N ++ b) ++ drop (at + length b) N) N
 
 -- a store with 0 from f up to i, where that lies in it; else nothing moves

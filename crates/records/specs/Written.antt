@@ -1,11 +1,12 @@
 -- Laws of numbers written into a store.
 -- Assumes nothing.
-use Rattle.std.specs.Prelude.{◌≡◌, refl, List, [], ◌∷◌, ◌++◌, ℕ, suc, ◌+◌, ◌-◌, ◌*◌, ◌≤◌, ◌<◌, leb, length, take, drop, get_or, set, replicate}
-use Rattle.std.proofs.Common.{sym, ◌∙◌, ap, ap₂, add-zero, append_assoc, append-nil, arith, add-one, le-leb, length-append, length-take, length-drop, take-append-drop, drop-cons, take_at, drop-drop}
+use Rattle.std.specs.Prelude.{◌≡◌, refl, Bool, true, false, List, [], ◌∷◌, ◌++◌, ℕ, suc, ◌+◌, ◌-◌, ◌*◌, ◌≤◌, ◌<◌, leb, length, take, drop, get_or, set, replicate}
+use Rattle.std.proofs.Common.{sym, ◌∙◌, ap, ap₂, add-zero, append_assoc, append-nil, arith, add-one, le-leb, leb-true, leb-false, length-append, length-take, length-drop, take-append-drop, drop-cons, take_at, drop-drop}
 use Rattle.std.proofs.Math.Nat.{sub_self}
 use Rattle.std.proofs.lemmas.Bool.{lt-leb}
 use Rattle.std.proofs.lemmas.List.{length-replicate, replicate-append-replicate, set_at}
 use Rattle.std.proofs.Math.Seq.{append_snoc, paste, paste-suc, take-length, drop-append-add}
+use borrow.Rule.Slice.PartMut.{put_mid}
 use Rattle.names.specs.Choice.{pick, both}
 use Rattle.records.specs.Diagnostics.{diagnostic_record}
 use Rattle.records.specs.declared.diagnostics.Diagnostic.{Diagnostic}
@@ -13,11 +14,11 @@ use Rattle.records.specs.Stores.{written, cleared, added, PutAsks, PutTold}
 
 -- ---- where they fit, and where not
 
-pub written_fits : (N : List ℕ) (at : ℕ) (b : List ℕ) → at + length b ≤ length N → written N at b ≡ (take at N ++ b) ++ drop (at + length b) N
+pub written_fits : {A : Type 0} (N : List A) (at : ℕ) (b : List A) → at + length b ≤ length N → written N at b ≡ (take at N ++ b) ++ drop (at + length b) N
 unfolding written
 written_fits N at b h = ap (λ t. pick t ((take at N ++ b) ++ drop (at + length b) N) N) (le-leb (at + length b) (length N) h)
 
-pub written_not : (N : List ℕ) (at : ℕ) (b : List ℕ) → length N < at + length b → written N at b ≡ N
+pub written_not : {A : Type 0} (N : List A) (at : ℕ) (b : List A) → length N < at + length b → written N at b ≡ N
 unfolding written
 written_not N at b h = ap (λ t. pick t ((take at N ++ b) ++ drop (at + length b) N) N) (lt-leb (at + length b) (length N) h)
 
@@ -32,6 +33,34 @@ cleared_turned N f i h = ap (λ t. pick (both t (leb i (length N))) ((take f N +
 pub cleared_not : (N : List ℕ) (f i : ℕ) → f ≤ i → length N < i → cleared N f i ≡ N
 unfolding cleared
 cleared_not N f i l h = ap₂ (λ t u. pick (both t u) ((take f N ++ replicate (i - f) 0) ++ drop i N) N) (le-leb f i l) (lt-leb i (length N) h)
+
+-- neither before the store's end nor in order
+pub cleared_stays : (N : List ℕ) (f i : ℕ) → (f ≤ i → i ≤ length N → ⊥) → N ≡ cleared N f i
+cleared_stays N f i h = go (leb f i) refl (leb i (length N)) refl
+  where
+    go : (a : Bool) → leb f i ≡ a → (b : Bool) → leb i (length N) ≡ b → N ≡ cleared N f i
+    go false e b d = sym (cleared_turned N f i (omega (arith, leb-false f i e)))
+    go true e false d = sym (cleared_not N f i (leb-true f i e) (omega (arith, leb-false i (length N) d)))
+    go true e true d = absurd (h (leb-true f i e) (leb-true i (length N) d))
+
+-- ---- a part of the store, written by the library
+
+pub put_written : {A : Type 0} (N : List A) (at k : ℕ) (M b : List A) → M ≡ b → k ≡ length b → at + length b ≤ length N → put_mid at k N M ≡ written N at b
+put_written {A} N at k M b e f h =
+    ap₂ (λ m n. take at N ++ (m ++ drop n (drop at N))) e f
+    ∙ sym (append_assoc (take at N) b (drop (length b) (drop at N)))
+    ∙ ap (λ l. (take at N ++ b) ++ l) (drop-drop (length b) at N)
+    ∙ sym (written_fits N at b h)
+
+pub put_cleared : (N : List ℕ) (f i k : ℕ) (M : List ℕ) → f ≤ i → i ≤ length N → k ≡ i - f → M ≡ replicate (length (take k (drop f N))) 0 → put_mid f k N M ≡ cleared N f i
+put_cleared N f i k M l h e g =
+    let n : length (take k (drop f N)) ≡ i - f = simp (length-take, length-drop) (omega arith) in
+    let z : List ℕ = replicate (i - f) 0 in
+    let all : f + (i - f) ≡ i = omega arith in
+    ap₂ (λ m n. take f N ++ (m ++ drop n (drop f N))) (g ∙ ap (λ n. replicate n 0) n) e
+    ∙ sym (append_assoc (take f N) z (drop (i - f) (drop f N)))
+    ∙ ap (λ l. (take f N ++ z) ++ l) (drop-drop (i - f) f N ∙ ap (λ j. drop j N) all)
+    ∙ sym (cleared_fits N f i l h)
 
 -- ---- one after the other
 

@@ -1,4 +1,7 @@
 // The counters of a reading.
+ghost use Rattle.records.specs.Counters.{Over};
+
+use names::Token;
 
 // The most tokens of a list in any layout.
 pub const MOST_TOKENS: usize = 1023;
@@ -14,4 +17,14 @@ pub struct Counters {
     pub end: u16,
     pub nodes: u16,
     pub diagnostics: u16,
+}
+
+impl Counters {
+    // Behind a token that stands at the cursor. The last place of all has none behind it.
+    pub fn step_over(&mut self, token: Token)
+        ensures { Over self.old token self.new }
+    {
+        self.at = self.at.saturating_add(1);
+        self.end = token.end;
+    }
 }

@@ -1,4 +1,5 @@
 // The kinds of diagnostics: those of the Rust's `DiagnosticKind` that `parse_operand` raises, from 1 in the enum's order.
+// Numbers, not an enum: a diagnostic that a caller gives may hold any, and an enum would ask more.
 pub const NUMBER_TOO_LARGE: u16 = 1;
 
 pub const UNKNOWN_SIZE_SUFFIX: u16 = 2;

@@ -1,7 +1,7 @@
 // Diagnostics.
 use crate::spans::Span;
 
-// A diagnostic, as its ten numbers have it.
+// A diagnostic, as its ten numbers have it. No `Option` for the related span: any ten numbers may be given.
 #[derive(Clone, Copy)]
 pub struct Diagnostic {
     pub kind: u16,

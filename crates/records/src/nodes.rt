@@ -1,4 +1,4 @@
-// Node records.
+// Node records. Their numbers widen by `as`, proved at once: by `from`, which was tried, each goal has a step more and needs a longer answer.
 ghost use Rattle.std.specs.Prelude.{◌≡◌, [], ◌∷◌, ◌+◌, ◌*◌, length};
 ghost use Rattle.records.specs.Nodes.{node_record, words};
 ghost use Rattle.records.specs.Stores.{written, cleared};
@@ -6,7 +6,7 @@ ghost use Rattle.records.specs.Stores.{written, cleared};
 use crate::spans::Span;
 use crate::stores::write;
 
-// Writes the node record n, where it fits. The four last numbers are the words of the value, the low word first.
+// Writes the node record n, where it fits. The kind is a number: any may be given; the reader's are 1 to 8 (docs/FORMAT.md). The four last numbers are the words of the value, the low word first.
 pub fn put_node(
     nodes: &mut [u16],
     n: u16,
@@ -49,17 +49,10 @@ pub fn widen(nodes: &mut [u16], n: u16, span: Span)
 pub fn clear_nodes(nodes: &mut [u16], n: u16, m: u16)
     ensures { nodes.new ≡ cleared nodes.old (10 * n) (10 * m) }
 {
+    let from = 10 * (n as usize);
     let end = 10 * (m as usize);
-    let mut i = 10 * (n as usize);
-    if end < i {
-        return;
-    }
-    if nodes.len() < end {
-        return;
-    }
-    while i < end {
-        nodes[i] = 0;
-        i += 1;
+    if from <= end && end <= nodes.len() {
+        nodes[from..end].fill(0);
     }
 }
 
@@ -67,12 +60,8 @@ pub fn clear_nodes(nodes: &mut [u16], n: u16, m: u16)
 pub fn clear_behind(nodes: &mut [u16], n: u16)
     ensures { nodes.new ≡ cleared nodes.old (10 * n) (length nodes.old) }
 {
-    let mut i = 10 * (n as usize);
-    if nodes.len() < i {
-        return;
-    }
-    while i < nodes.len() {
-        nodes[i] = 0;
-        i += 1;
+    let from = 10 * (n as usize);
+    if from <= nodes.len() {
+        nodes[from..].fill(0);
     }
 }

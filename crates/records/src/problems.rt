@@ -1,5 +1,6 @@
 // The problems of malformed operands, by their texts in the Rust, from 1 in the order in which the functions that `parse_operand` reaches first have them;
 // and the signs that kind 9 has in a problem's place.
+// Numbers, not an enum: a diagnostic that a caller gives may hold any, and an enum would ask more.
 
 // of a kind that has none
 pub const NO_PROBLEM: u16 = 0;

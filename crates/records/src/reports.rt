@@ -1,4 +1,4 @@
-// A diagnostic made, and its record written.
+// A diagnostic made, and its record written. Its number widens by `as`, as those of nodes.rt do.
 ghost use Rattle.std.specs.Prelude.{◌≡◌, ◌*◌};
 ghost use Rattle.records.specs.Diagnostics.{diagnostic, diagnostic_record};
 ghost use Rattle.records.specs.Stores.{written};
@@ -12,11 +12,11 @@ pub fn diagnostic(kind: u16, shape: u16, problem: u16, span: Span, text: Span) -
     ensures { result ≡ diagnostic kind shape problem span text }
 {
     Diagnostic {
-        kind: kind,
-        shape: shape,
-        problem: problem,
-        span: span,
-        text: text,
+        kind,
+        shape,
+        problem,
+        span,
+        text,
         related: Span { start: 0, end: 0 },
         has_related: 0,
     }

@@ -1,4 +1,5 @@
 // The shapes of operands that a malformed one is told by: the Rust's `OperandShape`, from 1 in the enum's order.
+// Numbers, not an enum: a diagnostic that a caller gives may hold any, and an enum would ask more.
 
 // of a kind that has none
 pub const NO_SHAPE: u16 = 0;

@@ -6,7 +6,7 @@ use Rattle.names.specs.Choice.{pick, either}
 use Rattle.names.specs.Tokens.{count}
 use Rattle.operand.specs.RefusalNumbers
 use Rattle.operand.specs.Layouts.{token_size, longest_line, most_tokens}
-use Rattle.operand.specs.Entry.{Input, tokens_of, foreign, good_tokens, Refusal, line_and_list, start_stores_and_limit, refusals, first_of, refusal}
+use Rattle.operand.specs.Entry.{Input, tokens_of, foreign, good_tokens, Check, line_and_list, start_stores_and_limit, refusals, first_of, refusal}
 
 -- the first number that is not 0
 abbrev pub or_else : ℕ → ℕ → ℕ
@@ -33,6 +33,6 @@ refusal_is a =
     ∙ ap (or_else (first_of (line_and_list a.layout a.line a.tokens)))
     (last (good_tokens a.line 0 (tokens_of a)) (start_stores_and_limit a.layout (count (tokens_of a)) a.start a.limit (length a.nodes) (length a.diagnostics) a.used))
   where
-    last : (b : Bool) (rs : List Refusal) → first_of ((RefusalNumbers.bad_token, not b) ∷ rs) ≡ pick b (first_of rs) RefusalNumbers.bad_token
+    last : (b : Bool) (rs : List Check) → first_of ((RefusalNumbers.bad_token, not b) ∷ rs) ≡ pick b (first_of rs) RefusalNumbers.bad_token
     last true rs = refl
     last false rs = refl

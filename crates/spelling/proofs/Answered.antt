@@ -1,20 +1,20 @@
 -- Every operand that is read in silence is spelled so, from its first token up to the cursor.
 -- Assumes nothing.
-use Rattle.std.specs.Prelude.{◌≡◌, Bool, true, false, ℕ, ◌+◌, ◌≤◌, ◌<◌, eqb, leb}
+use Rattle.std.specs.Prelude.{◌≡◌, Bool, true, false, ℕ, ◌+◌, ◌≤◌, ◌<◌, eqb, leb, Some, None}
 use Rattle.std.proofs.Math.Path.{refl}
-use Rattle.std.proofs.Common.{sym, ◌∙◌, ap, add-zero, eqb-true, leb-true, leb-false}
-use mathlib.Core.List.{List, [], ◌∷◌}
+use Rattle.std.proofs.Common.{Option, sym, ◌∙◌, ap, add-zero, eqb-true, leb-true, leb-false}
+use mathlib.Core.List.{List, []}
 use native.Mathlib.Omega.{arith}
 use Rattle.names.specs.Choice.{pick}
 use Rattle.names.specs.Kinds
 use Rattle.names.specs.Places.{Place, stands}
 use Rattle.names.specs.Registers.{special_of}
 use Rattle.names.specs.Reserved.{is_special}
-use Rattle.names.specs.Sizes.{size_of, letter_size}
-use Rattle.names.specs.Letters.{lower}
+use Rattle.names.specs.Cases.{size_number}
 use Rattle.names.specs.declared.tokens.Token.{Token}
 use Rattle.names.specs.declared.registers.SpecialRegister.{SpecialRegister}
 use Rattle.names.specs.declared.sizes.SizeSuffix.{SizeSuffix}
+use Rattle.names.specs.declared.sizes.SizeSuffix.TheVariants.{Byte, Word, Long, Short}
 use Rattle.records.specs.Shapes
 use Rattle.records.specs.Spans.{span, span_of}
 use Rattle.expressions.specs.Trees.{Expr}
@@ -24,7 +24,7 @@ use Rattle.expressions.specs.Expressions.{read, reported, absent, Suffix, fuel}
 use Rattle.expressions.specs.Laws.{holds}
 use Rattle.expressions.proofs.Costs.{true_false}
 use Rattle.expressions.specs.Fuel.{fuel_enough}
-use Rattle.operand.specs.Operands.{Operand, some, none}
+use Rattle.operand.specs.Operands.{Operand}
 use Rattle.operand.specs.Operands as O
 use Rattle.operand.specs.Operand
 use Rattle.operand.specs.Operand.{a_register, register_from, operand_from}
@@ -41,30 +41,15 @@ use Rattle.spelling.proofs.Found.{found_register, SuffixAt, a_suffix, no_suffix,
 use Rattle.spelling.proofs.Enclosed.{ListAt, list_at, list_sound}
 use Rattle.spelling.proofs.Grouped.{Plain, Found, CloseAt, close_at, close_sound, base_sound, finish_sound, stood, grouped_sound}
 
-abbrev is_sized : SizeSuffix → Bool
-is_sized (SizeSuffix.Is n) = true
-is_sized SizeSuffix.Not = false
-
-abbrev size_number : SizeSuffix → ℕ
-size_number (SizeSuffix.Is n) = n
-size_number SizeSuffix.Not = 0
-
 -- a known size is not 0
-sized_zero : (x : List ℕ) {n : ℕ} → size_of x ≡ SizeSuffix.Is n → n ≡ 0 → ⊥
-unfolding size_of letter_size
-sized_zero [] {n} h z = true_false (sym (ap is_sized h))
-sized_zero (c ∷ []) {n} h z = go (eqb (lower c) 98) (eqb (lower c) 119) (eqb (lower c) 108) (eqb (lower c) 115) h
-  where
-    go : (a b d e : Bool) → pick a (SizeSuffix.Is 1) (pick b (SizeSuffix.Is 2) (pick d (SizeSuffix.Is 3) (pick e (SizeSuffix.Is 4) SizeSuffix.Not))) ≡ SizeSuffix.Is n → ⊥
-    go true b d e h = omega (arith, ap size_number h)
-    go false true d e h = omega (arith, ap size_number h)
-    go false false true e h = omega (arith, ap size_number h)
-    go false false false true h = omega (arith, ap size_number h)
-    go false false false false h = true_false (sym (ap is_sized h))
-sized_zero (c ∷ d ∷ ds) {n} h z = true_false (sym (ap is_sized h))
+sized_zero : (z : SizeSuffix) → size_number (Some z) ≡ 0 → ⊥
+sized_zero Byte h = omega arith
+sized_zero Word h = omega arith
+sized_zero Long h = omega arith
+sized_zero Short h = omega arith
 
 abbrev long : {at : ℕ → Place} {j n : ℕ} → Letter at j n → n ≡ 3 → Letter at j 3
-long t e = record { sign = t.sign; size = t.size ∙ ap SizeSuffix.Is e }
+long t e = record { sign = t.sign; size = t.size; known = t.known; number = t.number ∙ e }
 
 module _ (s : Setting) (at : ℕ → Place) (count : ℕ) (ends : (j : ℕ) (k : Token) (x : List ℕ) → at j ≡ stands k x → j < count) (few : count ≤ fuel) (own : ℕ) where
   -- ---- 1: immediate
@@ -74,7 +59,7 @@ module _ (s : Setting) (at : ℕ → Place) (count : ℕ) (ends : (j : ℕ) (k :
   unfolding Silent Operand.immediate_size Operand.malformed
   immediate_sized m t h (a_suffix {n = n} z) = record {
     all = silent_choose (eqb n 3) _ _ _ _ _ _ (λ q. Spelling.immediate_long t h (long z (eqb-true n 3 q))) λ q.
-        silent_choose (eqb n 0) _ _ _ _ _ _ (λ f. absurd (sized_zero _ z.size (eqb-true n 0 f))) λ f. tt;
+        silent_choose (eqb n 0) _ _ _ _ _ _ (λ f. absurd (sized_zero z.size (z.number ∙ eqb-true n 0 f))) λ f. tt;
   }
   immediate_sized m t h (no_suffix q) = record { all = Spelling.immediate t h }
 
@@ -103,8 +88,8 @@ module _ (s : Setting) (at : ℕ → Place) (count : ℕ) (ends : (j : ℕ) (k :
   register_sound k x e q = record {
     all = (
       (λ t y e₂ q₂. call (list_sound s at fuel [] (register_from k x) own (found_register e q)) λ j m. elim [
-        | some v ↦ λ a h. list_spelled h.0 (h.2 (omega (arith, fuel_enough)) (rw (rw (add-zero (own + 1)) at e₂) q₂))
-        | none ↦ λ a h. tt
+        | Some v ↦ λ a h. list_spelled h.0 (h.2 (omega (arith, fuel_enough)) (rw (rw (add-zero (own + 1)) at e₂) q₂))
+        | None ↦ λ a h. tt
       ]),
       λ q₂. direct_spelled (register_from k x) (found_register e q) (leb 8 (register_from k x).index) refl,
     );
@@ -112,11 +97,11 @@ module _ (s : Setting) (at : ℕ → Place) (count : ℕ) (ends : (j : ℕ) (k :
 
   -- ---- 4: a special register
 
-  special_spelled : {k : Token} {x : List ℕ} → at own ≡ stands k x → eqb k.kind Kinds.identifier ≡ true → (n : SpecialRegister) → special_of x ≡ n → is_special n ≡ true
+  special_spelled : {k : Token} {x : List ℕ} → at own ≡ stands k x → eqb k.kind Kinds.identifier ≡ true → (n : Option SpecialRegister) → special_of x ≡ n → is_special n ≡ true
       → Spelling s at unreserved own (own + 1) (O.special_register (Operand.special_index n) (span_of k))
   unfolding Operand.special_index
-  special_spelled e q (SpecialRegister.Is n) f g = Spelling.special_register (signed Kinds.identifier e q) f
-  special_spelled e q SpecialRegister.Not f g = absurd (true_false (sym g))
+  special_spelled e q (Some n) f g = Spelling.special_register (signed Kinds.identifier e q) f
+  special_spelled e q None f g = absurd (true_false (sym g))
 
   -- ---- 7: predecrement
 
@@ -132,7 +117,7 @@ module _ (s : Setting) (at : ℕ → Place) (count : ℕ) (ends : (j : ℕ) (k :
       (λ k₁ x₁ e₁ q₁ w₁. (
         (λ k₂ x₂ e₂ q₂ w₂. (
           (λ k₃ x₃ e₃ q₃ w₃. silent_choose (leb 8 (register_from r x).index) _ _ _ _ _ _
-              (λ f. call (close_sound s at count ends few own p.token Shapes.predecrement _ _) λ n m. elim [ some z ↦ λ a g. predecrement_closed t p (an_address (found_register e q) (leb-true 8 _ f)) g | none ↦ λ a g. tt ])
+              (λ f. call (close_sound s at count ends few own p.token Shapes.predecrement _ _) λ n m. elim [ Some z ↦ λ a g. predecrement_closed t p (an_address (found_register e q) (leb-true 8 _ f)) g | None ↦ λ a g. tt ])
               λ f. tt),
           λ q₃. absurd (stood s at count ends few own e q₃),
         )),

@@ -1,19 +1,19 @@
 -- Condition 2, of what the entry returns and writes: it follows from its promise, and from Conditions.antt.
 -- Assumes nothing.
-use Rattle.std.specs.Prelude.{◌≡◌, Bool, true, false, List, [], ◌∷◌, ℕ, ◌*◌, length}
+use Rattle.std.specs.Prelude.{◌≡◌, List, [], ◌∷◌, ℕ, ◌*◌, length, Some, Result, Ok, Option, None}
 use Rattle.std.proofs.Math.Path.{refl, ap}
 use Rattle.std.proofs.Common.{sym, ◌∙◌, add-zero, arith, take-append-drop}
 use Rattle.expressions.specs.Reader.{Reading}
-use Rattle.expressions.proofs.Costs.{true_false}
 use Rattle.records.specs.declared.diagnostics.Diagnostic.{Diagnostic}
-use Rattle.operand.specs.Operands.{Operand, Maybe, some, none}
+use Rattle.operand.specs.Operands.{Operand}
 use Rattle.operand.specs.Layouts.{diagnostic_size}
 use Rattle.operand.specs.Layout.{diagnostics_laid}
 use Rattle.operand.specs.Entry.{Input, place_of, reading_at, nodes_after, diagnostics_after, outcome, outcome_of}
 use Rattle.layout.specs.Promise.{result_of, result_at, EntryPromise}
 use Rattle.operand.specs.Conditions.{Valid}
+use Rattle.operand.specs.declared.forms.OperandRecord.{OperandRecord}
+use Rattle.operand.specs.declared.refusals.Refusal.{Refusal}
 use Rattle.layout.specs.declared.answer.Answer.{Answer}
-use Rattle.layout.specs.declared.answer.Found.{Found}
 use Rattle.spelling.specs.Signs.{unreserved, ordinary}
 use Rattle.spelling.specs.Spelling.{Closed, Spelled}
 use Rattle.spelling.specs.Silence.{Unerring}
@@ -25,11 +25,11 @@ no_length : (ds : List Diagnostic) → length ds ≡ 0 → ds ≡ []
 no_length [] e = refl
 no_length (d ∷ ds) e = absurd (omega arith)
 
-module _ (a : Input) (N' D' : List ℕ) (r : Answer) (p : EntryPromise a N' D' r) (valid : Valid a) where
-  abbrev s : Reading (Maybe Operand)
+module _ (a : Input) (N' D' : List ℕ) (r : Result Answer Refusal) (p : EntryPromise a N' D' r) (valid : Valid a) where
+  abbrev s : Reading (Option Operand)
   s = reading_at a
 
-  value : r ≡ result_of s s.value
+  value : r ≡ Ok (result_of s s.value)
   unfolding result_at
   value = p.value ∙ ap (result_at a) valid
 
@@ -53,28 +53,20 @@ module _ (a : Input) (N' D' : List ℕ) (r : Answer) (p : EntryPromise a N' D' r
     pub returns : Returns a N' D' r operand j
     pub spelled : Spelled a.limit a.mark (place_of a) unreserved a.start j operand
 
-  pub answered_is_spelled : (x : Found) → r ≡ Answer.Operand x → x.diagnostics ≡ 0 → Unerring (place_of a) a.start x.cursor → Spelt x.cursor
+  pub answered_is_spelled : (x : Answer) (o : OperandRecord) → r ≡ Ok x → x.operand ≡ Some o → x.diagnostics ≡ 0 → Unerring (place_of a) a.start x.cursor → Spelt x.cursor
   unfolding result_of
-  answered_is_spelled x e q u = go s.value refl
+  answered_is_spelled x o e f q u = go s.value refl
     where
-      found_of : Answer → Found
-      found_of (Answer.Operand y) = y
-      found_of (Answer.NoOperand y) = x
-      found_of (Answer.Refused n) = x
+      same : result_of s s.value ≡ x
+      same = cc (sym value ∙ e)
 
-      is_operand : Answer → Bool
-      is_operand (Answer.Operand y) = true
-      is_operand (Answer.NoOperand y) = false
-      is_operand (Answer.Refused n) = false
-
-      go : (v : Maybe Operand) → s.value ≡ v → Spelt x.cursor
-      go none f = absurd (true_false (ap is_operand (sym e ∙ value ∙ ap (result_of s) f)))
-      go (some y) f =
-          let z = ap found_of (sym e ∙ value ∙ ap (result_of s) f) in
-          let here : x.cursor ≡ s.cursor = ap (λ w. w.cursor) z in
-          let quiet : s.raised ≡ [] = no_length s.raised (sym (ap (λ w. w.diagnostics) z) ∙ q) in
+      go : (v : Option Operand) → s.value ≡ v → Spelt x.cursor
+      go None g = let z : ◌≡◌ {A = ℕ} 0 1 = cc (ap (λ v. (result_of s v).operand) g, ap (λ y. y.operand) same, f) in absurd (omega arith)
+      go (Some y) g =
+          let here : x.cursor ≡ s.cursor = sym (ap (λ y. y.cursor) same) in
+          let quiet : s.raised ≡ [] = no_length s.raised (ap (λ y. y.diagnostics) same ∙ q) in
           record {
             operand = y;
-            returns = returned (record { value = f; cursor = sym here; raised = quiet });
-            spelled = rw here (read_is_spelled a valid f quiet (rw here at u));
+            returns = returned (record { value = g; cursor = sym here; raised = quiet });
+            spelled = rw here (read_is_spelled a valid g quiet (rw here at u));
           }

@@ -1,6 +1,6 @@
 -- Where a spelling's first token leads: to a group, a name, or an expression.
 -- Assumes nothing.
-use Rattle.std.specs.Prelude.{◌≡◌, true, false, ℕ, ◌+◌, eqb}
+use Rattle.std.specs.Prelude.{◌≡◌, true, false, ℕ, ◌+◌, eqb, Some}
 use Rattle.std.proofs.Math.Path.{refl}
 use Rattle.std.proofs.Common.{sym, ◌∙◌, ap, arith}
 use borrow.Author.Tests.{eqb-true}
@@ -11,7 +11,7 @@ use Rattle.expressions.specs.declared.reading.Setting.{Setting}
 use Rattle.expressions.specs.Reader.{is}
 use Rattle.expressions.specs.Laws.{holds}
 use Rattle.expressions.proofs.Costs.{true_false}
-use Rattle.operand.specs.Operands.{Operand, some}
+use Rattle.operand.specs.Operands.{Operand}
 use Rattle.operand.specs.Operand
 use Rattle.operand.specs.Operand.{a_register, operand_from}
 use Rattle.spelling.specs.Signs.{Sign, Name, ordinary}
@@ -54,13 +54,13 @@ module _ (s : Setting) {at : ℕ → Place} {own : ℕ} where
   minus_group (joined h t b f) m g = minus_group h m g
 
 module _ (s : Setting) (at : ℕ → Place) (own : ℕ) {j l : ℕ} {y : Operand} where
-  pub begins_group : (t : Sign at Kinds.left_paren own) → ((l : ℕ) → Reads (Operand.parse_parenthesised_operand s t.token) at (own + 1) l j (some y))
-      → Reads (operand_from s) at own l j (some y)
+  pub begins_group : (t : Sign at Kinds.left_paren own) → ((l : ℕ) → Reads (Operand.parse_parenthesised_operand s t.token) at (own + 1) l j (Some y))
+      → Reads (operand_from s) at own l j (Some y)
   unfolding operand_from
   begins_group t h =
       misses (omega arith) (other t Kinds.comma refl) (passes (other t Kinds.hash refl) (steps t.there (kinded t Kinds.left_paren refl) (h _)))
 
-  pub begins_name : (t : Name at own) → Reads (Operand.name_or_expression s) at own l j (some y) → Reads (operand_from s) at own l j (some y)
+  pub begins_name : (t : Name at own) → Reads (Operand.name_or_expression s) at own l j (Some y) → Reads (operand_from s) at own l j (Some y)
   unfolding operand_from
   begins_name t h =
       misses (omega arith) (other t Kinds.comma refl) (passes (other t Kinds.hash refl) (passes (other t Kinds.left_paren refl)
@@ -68,7 +68,7 @@ module _ (s : Setting) (at : ℕ → Place) (own : ℕ) {j l : ℕ} {y : Operand
 
   -- an expression that does not begin with a parenthesis
   pub begins_expression : {n : ℕ} {e : Expr} → Expression s at (ordinary s.mark) own own n e → holds (is Kinds.left_paren) (at own) ≡ false
-      → Reads (Operand.parse_expression_operand s) at own l j (some y) → Reads (operand_from s) at own l j (some y)
+      → Reads (Operand.parse_expression_operand s) at own l j (Some y) → Reads (operand_from s) at own l j (Some y)
   unfolding operand_from Operand.minus_operand Operand.name_or_expression
   begins_expression e p h =
       let b = starts {s = s} e in

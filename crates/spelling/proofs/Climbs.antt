@@ -2,7 +2,7 @@
 -- Assumes nothing.
 use Rattle.std.specs.Prelude.{◌≡◌, Bool, true, false, List, ◌⊎◌, eqb}
 use Rattle.std.proofs.Math.Path.{refl, ap}
-use Rattle.std.proofs.Common.{sym, ◌∙◌, le-leb}
+use Rattle.std.proofs.Common.{Result, sym, ◌∙◌, le-leb}
 use Rattle.std.proofs.Math.Logic.{inl, inr}
 use Prim.Native.Nat.{ℕ, zero, suc, ◌+◌, ◌≤◌, ◌<◌}
 use native.Mathlib.Omega.{arith}
@@ -12,7 +12,7 @@ use Rattle.names.specs.Places.{Place, nothing, stands}
 use Rattle.names.specs.Registers.{reserved}
 use Rattle.names.specs.Numbers.{number_of}
 use Rattle.names.specs.declared.tokens.Token.{Token}
-use Rattle.names.specs.declared.numbers.Number.{Number}
+use Rattle.names.specs.declared.numbers.NumberError.{NumberError}
 use Rattle.records.specs.Spans.{span, span_of}
 use Rattle.expressions.specs.Levels.{precedence_most}
 use Rattle.expressions.specs.Trees.{Expr, number, character_literal, symbol, current_address, unary, binary, span_e, with_span}
@@ -94,7 +94,7 @@ looser l h = record { less = λ k x e. omega (arith, h.less k x e) }
 
 -- ---- a term, by its first token
 
-worth : {at : ℕ → Place} (k : Token) {m : Number} {v j l : ℕ} → Worth m v → Reads (valued k m) at j l j v
+worth : {at : ℕ → Place} (k : Token) {m : Result ℕ NumberError} {v j l : ℕ} → Worth m v → Reads (valued k m) at j l j v
 unfolding valued
 worth k value = answers
 worth k invalid = answers

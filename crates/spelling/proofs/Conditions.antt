@@ -1,6 +1,6 @@
 -- The buyer's second condition, as theorems over the definition. What they lean on is in Spelled.antt and Answered.antt.
 -- Assumes nothing.
-use Rattle.std.specs.Prelude.{◌≡◌, refl, Bool, true, false, List, [], ℕ, ◌≤◌, ◌<◌}
+use Rattle.std.specs.Prelude.{◌≡◌, refl, Bool, true, false, List, [], ℕ, ◌≤◌, ◌<◌, Option, Some, None}
 use Rattle.std.proofs.Common.{sym, ◌∙◌, ap, arith}
 use Rattle.names.specs.Places.{Place, nothing, stands, below}
 use Rattle.names.specs.Tokens.{count}
@@ -8,7 +8,7 @@ use Rattle.names.specs.declared.tokens.Token.{Token}
 use Rattle.expressions.specs.Expressions.{fuel}
 use Rattle.expressions.proofs.Costs.{true_false}
 use Rattle.expressions.specs.Fuel.{fuel_enough}
-use Rattle.operand.specs.Operands.{Operand, Maybe, some, none}
+use Rattle.operand.specs.Operands.{Operand}
 use Rattle.operand.specs.Operand.{setting_from, reading_of, operand_from}
 use Rattle.operand.specs.Entry.{Input, tokens_of, place_of, reading_at}
 use Rattle.operand.proofs.Readings.{ended, started}
@@ -32,13 +32,13 @@ module _ (limit mark : ℕ) (at : ℕ → Place) (count : ℕ) (ends : (j : ℕ)
       let e = started limit mark at i h.first h.text h.there ∙ r.same in
       record { value = ap (λ r. r.value) e; cursor = ap (λ r. r.cursor) e; raised = ap (λ r. r.raised) e }
 
-  pub silent_is_spelled : {y : Operand} → (reading_of limit mark at i).value ≡ some y → (reading_of limit mark at i).raised ≡ [] → Unerring at i (reading_of limit mark at i).cursor
+  pub silent_is_spelled : {y : Operand} → (reading_of limit mark at i).value ≡ Some y → (reading_of limit mark at i).raised ≡ [] → Unerring at i (reading_of limit mark at i).cursor
       → Spelled limit mark at unreserved i (reading_of limit mark at i).cursor y
   silent_is_spelled {y} e q u = go (at i) refl
     where
-      is_some : Maybe Operand → Bool
-      is_some (some x) = true
-      is_some none = false
+      is_some : Option Operand → Bool
+      is_some (Some x) = true
+      is_some None = false
 
       go : (p : Place) → at i ≡ p → Spelled limit mark at unreserved i (reading_of limit mark at i).cursor y
       go nothing h = absurd (true_false (ap is_some (sym e ∙ ap (λ r. r.value) (ended limit mark at i h))))
@@ -64,12 +64,12 @@ module _ (a : Input) (valid : Valid a) where
   spelled_is_read h c = closed_is_read a.limit a.mark (place_of a) (count (tokens_of a)) inside few a.start h c
 
   -- And an operand read without diagnostic has such a spelling up to the cursor, where no Error token stands before it
-  pub read_is_spelled : {y : Operand} → (reading_at a).value ≡ some y → (reading_at a).raised ≡ []
+  pub read_is_spelled : {y : Operand} → (reading_at a).value ≡ Some y → (reading_at a).raised ≡ []
       → Unerring (place_of a) a.start (reading_at a).cursor → Spelled a.limit a.mark (place_of a) unreserved a.start (reading_at a).cursor y
   read_is_spelled e q u = silent_is_spelled a.limit a.mark (place_of a) (count (tokens_of a)) inside few a.start e q u
 
-some_same : {x y : Operand} → some x ≡ some y → x ≡ y
-some_same {x} {y} e = ap (λ m. elim m [ some z ↦ z | none ↦ x ]) e
+some_same : {x y : Operand} → Some x ≡ Some y → x ≡ y
+some_same {x} {y} e = ap (λ m. elim m [ Some z ↦ z | None ↦ x ]) e
 
 -- a closed spelling is that of one operand, and of one end
 pub unambiguous : (a : Input) → Valid a → {j n : ℕ} {x y : Operand}

@@ -1,6 +1,6 @@
 -- What holds expressions and is read in silence is spelled so: displacements, what stands between brackets and behind them; and register lists.
 -- Assumes nothing.
-use Rattle.std.specs.Prelude.{◌≡◌, Bool, true, false, List, [], ◌∷◌, ◌++◌, eqb, ltb}
+use Rattle.std.specs.Prelude.{◌≡◌, Bool, true, false, List, [], ◌∷◌, ◌++◌, eqb, ltb, Option, Some, None}
 use Rattle.std.proofs.Common.{sym, append_assoc, ltb-false}
 use Prim.Native.Nat.{ℕ, zero, suc, ◌+◌, ◌≤◌, ◌<◌}
 use native.Mathlib.Omega.{arith}
@@ -16,12 +16,11 @@ use Rattle.expressions.specs.Reader.{is}
 use Rattle.expressions.specs.Expressions.{read, reported, absent, Suffix, fuel}
 use Rattle.expressions.specs.Laws.{holds}
 use Rattle.expressions.proofs.Costs.{true_false}
-use Rattle.operand.specs.Operands.{Displacement, displaced, RegisterListItem, Operand, Maybe, some, none}
+use Rattle.operand.specs.Operands.{Displacement, displaced, RegisterListItem, Operand}
 use Rattle.operand.specs.Operands as O
 use Rattle.operand.specs.Operand
 use Rattle.operand.specs.Operand.{register_from, Inner, Outer}
 use Rattle.operand.specs.declared.forms.Register.{Register}
-use Rattle.operand.specs.declared.forms.Index.{Index}
 use Rattle.spelling.specs.Signs.{Sign, RegisterAt, unreserved}
 use Rattle.spelling.specs.Spelling
 use Rattle.spelling.specs.Spelling.{Sized, no_size, a_size, Expression, Inside, Behind, Item, a_single, a_range, Items, last, more}
@@ -29,6 +28,7 @@ use Rattle.spelling.specs.Silence.{Silent, Quiet}
 use Rattle.spelling.proofs.Silence.{call, silent_choose}
 use Rattle.spelling.proofs.Sound.{signed, expression_spelled}
 use Rattle.spelling.proofs.Found.{found_register, SuffixAt, a_suffix, no_suffix, suffix_sound, index_sound, bases_sound}
+use Rattle.operand.specs.declared.forms.IndexRegister.{IndexRegister}
 
 module _ (s : Setting) (at : ℕ → Place) (count : ℕ) (ends : (j : ℕ) (k : Token) (x : List ℕ) → at j ≡ stands k x → j < count) (few : count ≤ fuel) (own : ℕ) where
   abbrev Plain : ℕ → ℕ → Expr → Type 0
@@ -38,9 +38,9 @@ module _ (s : Setting) (at : ℕ → Place) (count : ℕ) (ends : (j : ℕ) (k :
   pub data DisplacementAt : ℕ → ℕ → Displacement → Type 0 where
     displacement_at : {i j n size z : ℕ} {e : Expr} → Plain i j e → Sized at 0 j n size z → DisplacementAt i n (displaced e size)
 
-  abbrev DisplacementFound : ℕ → ℕ → Maybe Displacement → Type 0
-  DisplacementFound i j (some d) = DisplacementAt i j d
-  DisplacementFound i j none = Unit {0}
+  abbrev DisplacementFound : ℕ → ℕ → Option Displacement → Type 0
+  DisplacementFound i j (Some d) = DisplacementAt i j d
+  DisplacementFound i j None = Unit {0}
 
   displacement_sized : {i j n : ℕ} (m : ℕ) {e : Expr} {z : Suffix} → Plain i j e → SuffixAt at j n z → Quiet (Operand.sized e z) at (λ j m v. DisplacementFound i j v) n m
   unfolding Silent Operand.sized
@@ -58,15 +58,15 @@ module _ (s : Setting) (at : ℕ → Place) (count : ℕ) (ends : (j : ℕ) (k :
   }
 
   -- I
-  abbrev pub InsideFound : ℕ → ℕ → Maybe Inner → Type 0
-  InsideFound i j (some v) = Inside s at unreserved own i j v.displacement v.registers
-  InsideFound i j none = Unit {0}
+  abbrev pub InsideFound : ℕ → ℕ → Option Inner → Type 0
+  InsideFound i j (Some v) = Inside s at unreserved own i j v.displacement v.registers
+  InsideFound i j None = Unit {0}
 
   inside_displaced : (i j m : ℕ) {d : Displacement} → DisplacementAt i j d → Quiet (Operand.inner_displaced s d) at (λ j m v. InsideFound i j v) j m
   unfolding Silent Operand.inner_displaced Operand.or_none
   inside_displaced i j m (displacement_at h sz) = record {
     all = (
-      (λ k x e q w. call (bases_sound s at Shapes.memory_indirect (j + 1) k.end) λ n m₂. elim [ some r ↦ λ a g. Spelling.both h sz (signed Kinds.comma e q) g | none ↦ λ a g. tt ]),
+      (λ k x e q w. call (bases_sound s at Shapes.memory_indirect (j + 1) k.end) λ n m₂. elim [ Some r ↦ λ a g. Spelling.both h sz (signed Kinds.comma e q) g | None ↦ λ a g. tt ]),
       λ q. Spelling.displacement h sz,
     );
   }
@@ -77,44 +77,44 @@ module _ (s : Setting) (at : ℕ → Place) (count : ℕ) (ends : (j : ℕ) (k :
     all = (
       (λ k x e q. Spelling.empty),
       λ _. (
-        (λ k x e q. call (bases_sound s at Shapes.memory_indirect i l) λ n m. elim [ some r ↦ λ a g. Spelling.bases g | none ↦ λ a g. tt ]),
-        λ _. call (displacement_sound i l low) λ n m. elim [ some d ↦ λ a g. (inside_displaced i n m g).all | none ↦ λ a g. tt ],
+        (λ k x e q. call (bases_sound s at Shapes.memory_indirect i l) λ n m. elim [ Some r ↦ λ a g. Spelling.bases g | None ↦ λ a g. tt ]),
+        λ _. call (displacement_sound i l low) λ n m. elim [ Some d ↦ λ a g. (inside_displaced i n m g).all | None ↦ λ a g. tt ],
       ),
     );
   }
 
   -- T
-  abbrev pub BehindFound : Index → ℕ → ℕ → Maybe Outer → Type 0
-  BehindFound x i j (some u) = Behind s at unreserved own x i j u.index u.indirection u.displacement
-  BehindFound x i j none = Unit {0}
+  abbrev pub BehindFound : Option IndexRegister → ℕ → ℕ → Option Outer → Type 0
+  BehindFound x i j (Some u) = Behind s at unreserved own x i j u.index u.indirection u.displacement
+  BehindFound x i j None = Unit {0}
 
-  behind_index : (i l : ℕ) (x : Index) → own ≤ i → Sign at Kinds.comma i → Quiet (Operand.outer_index s x) at (λ j m v. BehindFound x i j v) (i + 1) l
+  behind_index : (i l : ℕ) (x : Option IndexRegister) → own ≤ i → Sign at Kinds.comma i → Quiet (Operand.outer_index s x) at (λ j m v. BehindFound x i j v) (i + 1) l
   unfolding Silent Operand.outer_index Operand.outer_indexed Operand.or_none Operand.stepped_over Operand.malformed
-  behind_index i l (Index.Indexed y) low c = record { all = ((λ k x e q w. tt), λ q. tt) }
-  behind_index i l Index.Unindexed low c = record {
+  behind_index i l (Some y) low c = record { all = ((λ k x e q w. tt), λ q. tt) }
+  behind_index i l None low c = record {
     all = call (index_sound s at Shapes.memory_indirect (i + 1) l) λ n m. elim [
-      | some y ↦ λ a g. (
-        (λ k x e q w. call (displacement_sound (n + 1) k.end (omega arith)) λ n₂ m₂. elim [ some d ↦ λ b f. behind_both c g.0 (signed Kinds.comma e q) f | none ↦ λ b f. tt ]),
+      | Some y ↦ λ a g. (
+        (λ k x e q w. call (displacement_sound (n + 1) k.end (omega arith)) λ n₂ m₂. elim [ Some d ↦ λ b f. behind_both c g.0 (signed Kinds.comma e q) f | None ↦ λ b f. tt ]),
         λ q. Spelling.index c g.0,
       )
-      | none ↦ λ a g. tt
+      | None ↦ λ a g. tt
     ];
   }
     where
       behind_both : {n n₂ : ℕ} {y : _} {d : Displacement} → Sign at Kinds.comma i → Spelling.Indexes s at (i + 1) n y → Sign at Kinds.comma n → DisplacementAt (n + 1) n₂ d
-          → Behind s at unreserved own Index.Unindexed i n₂ (Index.Indexed y) 2 d
+          → Behind s at unreserved own None i n₂ (Some y) 2 d
       behind_both c x k (displacement_at h sz) = Spelling.both c x k h sz
 
-  behind_displaced : {i j : ℕ} {x : Index} {d : Displacement} → Sign at Kinds.comma i → DisplacementAt (i + 1) j d → Behind s at unreserved own x i j x 1 d
+  behind_displaced : {i j : ℕ} {x : Option IndexRegister} {d : Displacement} → Sign at Kinds.comma i → DisplacementAt (i + 1) j d → Behind s at unreserved own x i j x 1 d
   behind_displaced c (displacement_at h sz) = Spelling.displacement c h sz
 
-  pub behind_sound : (i l : ℕ) (x : Index) → own ≤ i → Quiet (Operand.parse_outer s x) at (λ j m v. BehindFound x i j v) i l
+  pub behind_sound : (i l : ℕ) (x : Option IndexRegister) → own ≤ i → Quiet (Operand.parse_outer s x) at (λ j m v. BehindFound x i j v) i l
   unfolding Silent Operand.parse_outer Operand.or_none
   behind_sound i l x low = record {
     all = (
       (λ k y e q w. (
         (λ t z e₂ q₂. (behind_index i k.end x low (signed Kinds.comma e q)).all),
-        λ _. call (displacement_sound (i + 1) k.end (omega arith)) λ n m. elim [ some d ↦ λ a g. behind_displaced (signed Kinds.comma e q) g | none ↦ λ a g. tt ],
+        λ _. call (displacement_sound (i + 1) k.end (omega arith)) λ n m. elim [ Some d ↦ λ a g. behind_displaced (signed Kinds.comma e q) g | None ↦ λ a g. tt ],
       )),
       λ q. Spelling.empty,
     );
@@ -139,9 +139,9 @@ strictly a f = omega arith
 
 module _ (s : Setting) (at : ℕ → Place) where
   -- the item that begins at i; where no range does, no minus follows
-  abbrev ItemFound : ℕ → ℕ → ℕ → Maybe RegisterListItem → Type 0
-  ItemFound i j m (some x) = Item s at i j x m × (i < j) × (j ≡ i + 1 → holds (is Kinds.minus) (at (i + 1)) ≡ false)
-  ItemFound i j m none = Unit {0}
+  abbrev ItemFound : ℕ → ℕ → ℕ → Option RegisterListItem → Type 0
+  ItemFound i j m (Some x) = Item s at i j x m × (i < j) × (j ≡ i + 1 → holds (is Kinds.minus) (at (i + 1)) ≡ false)
+  ItemFound i j m None = Unit {0}
 
   item_sound : (r : Register) (i : ℕ) → RegisterAt at i r → Quiet (Operand.list_item r) at (ItemFound i) (i + 1) r.span.end
   unfolding Silent Operand.list_item Operand.ranged Operand.register_expected register_from
@@ -164,9 +164,9 @@ module _ (s : Setting) (at : ℕ → Place) where
       → ListAt (items ++ (x ∷ [])) (j + 1) n y → ListAt items i n y
   extended items {x = x} h k (list_at {e = z} {xs = xs} g) = rw (append_assoc items (x ∷ []) xs) (list_at (more h k g))
 
-  abbrev ListFound : ℕ → List RegisterListItem → ℕ → ℕ → Maybe Operand → Type 0
-  ListFound f items i j (some y) = ListAt items i j y × (i < j) × (1 ≤ f → holds joins (at (i + 1)) ≡ true → i + 1 < j)
-  ListFound f items i j none = Unit {0}
+  abbrev ListFound : ℕ → List RegisterListItem → ℕ → ℕ → Option Operand → Type 0
+  ListFound f items i j (Some y) = ListAt items i j y × (i < j) × (1 ≤ f → holds joins (at (i + 1)) ≡ true → i + 1 < j)
+  ListFound f items i j None = Unit {0}
 
   pub list_sound : (f : ℕ) (items : List RegisterListItem) (r : Register) (i : ℕ) → RegisterAt at i r
       → Quiet (Operand.list_loop f s items r) at (λ j m v. ListFound f items i j v) (i + 1) r.span.end
@@ -174,16 +174,16 @@ module _ (s : Setting) (at : ℕ → Place) where
   list_sound zero items r i p = record { all = (list_at (last (a_single p)), omega arith, λ z. absurd (omega arith)) }
   list_sound (suc f) items r i p = record {
     all = call (item_sound r i p) λ j m. elim [
-      | some x ↦ λ a h. (
+      | Some x ↦ λ a h. (
         (λ k y e q w. (
           (λ t z e₂ q₂ w₂. call (list_sound f (items ++ (x ∷ [])) (register_from t z) (j + 1) (found_register e₂ q₂)) λ n m₂. elim [
-            | some v ↦ λ b g. (extended items h.0 (signed Kinds.slash e q) g.0, omega arith, λ c d. omega (arith, h.1, g.1))
-            | none ↦ λ b g. tt
+            | Some v ↦ λ b g. (extended items h.0 (signed Kinds.slash e q) g.0, omega arith, λ c d. omega (arith, h.1, g.1))
+            | None ↦ λ b g. tt
           ]),
           λ q₂. ((λ t z e₂ q₃. tt), λ q₃. tt),
         )),
         λ q. (list_at (last h.0), h.1, λ c d. strictly a λ z. unjoined at (i + 1) (h.2 z) (rw z at q) d),
       )
-      | none ↦ λ a h. tt
+      | None ↦ λ a h. tt
     ];
   }

@@ -1,8 +1,8 @@
 -- The parts of an operand that are read in silence are spelled so.
 -- Assumes nothing.
-use Rattle.std.specs.Prelude.{◌≡◌, Bool, false, not, List, ◌⊎◌, ℕ, ◌+◌, ◌-◌, ◌<◌, eqb, leb, length}
+use Rattle.std.specs.Prelude.{◌≡◌, Bool, false, not, List, ◌⊎◌, ℕ, ◌+◌, ◌-◌, ◌<◌, eqb, leb, length, Option, Some, None}
 use Rattle.std.proofs.Math.Path.{refl}
-use Rattle.std.proofs.Common.{sym, ◌∙◌, arith}
+use Rattle.std.proofs.Common.{Result, Ok, sym, ◌∙◌, arith}
 use Rattle.std.proofs.Math.Bool.{true}
 use Rattle.std.proofs.Math.Logic.{inl, inr}
 use borrow.Author.Tests.{eqb-true, leb-true, leb-false}
@@ -14,17 +14,15 @@ use Rattle.names.specs.Sizes.{run_of, size_of}
 use Rattle.names.specs.Numbers.{number_of}
 use Rattle.names.specs.Reserved.{is_register}
 use Rattle.names.specs.declared.tokens.Token.{Token}
-use Rattle.names.specs.declared.registers.Reg.{Reg}
 use Rattle.names.specs.declared.registers.Suppressed.{Suppressed}
 use Rattle.names.specs.declared.sizes.SizeSuffix.{SizeSuffix}
-use Rattle.names.specs.declared.numbers.Number.{Number}
+use Rattle.names.specs.declared.numbers.NumberError.{NumberError}
 use Rattle.records.specs.Spans.{span, span_of}
 use Rattle.expressions.specs.declared.reading.Setting.{Setting}
 use Rattle.expressions.specs.Reader.{is}
 use Rattle.expressions.specs.Expressions.{Suffix, suffixed, bare, known, suffix_run, take_size_suffix}
 use Rattle.expressions.specs.Laws.{holds}
 use Rattle.expressions.proofs.Costs.{true_false}
-use Rattle.operand.specs.Operands.{Maybe, some, none}
 use Rattle.operand.specs.Operand
 use Rattle.operand.specs.Operand.{is_address, is_suppressed, is_suppressed_register, is_suppressed_address, a_register, an_address_register, a_program_counter, unmarked, size_or_scale, index_of, suppressed_index, register_from}
 use Rattle.operand.specs.declared.forms.Register.{Register}
@@ -48,24 +46,24 @@ module _ {at : ℕ → Place} {i : ℕ} {k : Token} {x : List ℕ} (h : at i ≡
   unfolding a_register register_from index_of
   found_register q = go (register_of x) refl (Names.both_second (eqb k.kind Kinds.identifier) _ q)
     where
-      go : (r : Reg) → register_of x ≡ r → is_register r ≡ true → RegisterAt at i (record { index = index_of r; span = span_of k })
-      go (Reg.Is r) e g = register_spelled (signed Kinds.identifier h (Names.both_first _ (is_register (register_of x)) q)) e
-      go Reg.Not e g = absurd (true_false (sym g))
+      go : (r : Option ℕ) → register_of x ≡ r → is_register r ≡ true → RegisterAt at i (record { index = index_of r; span = span_of k })
+      go (Some r) e g = register_spelled (signed Kinds.identifier h (Names.both_first _ (is_register (register_of x)) q)) e
+      go None e g = absurd (true_false (sym g))
 
   pub found_address : an_address_register k x ≡ true → AddressAt at i (register_from k x)
   unfolding an_address_register register_from index_of is_address
   found_address q = go (register_of x) refl (Names.both_second (eqb k.kind Kinds.identifier) _ q)
     where
-      go : (r : Reg) → register_of x ≡ r → is_address r ≡ true → AddressAt at i (record { index = index_of r; span = span_of k })
-      go (Reg.Is r) e g = an_address (register_spelled (signed Kinds.identifier h (Names.both_first _ (is_address (register_of x)) q)) e) (leb-true 8 r g)
-      go Reg.Not e g = absurd (true_false (sym g))
+      go : (r : Option ℕ) → register_of x ≡ r → is_address r ≡ true → AddressAt at i (record { index = index_of r; span = span_of k })
+      go (Some r) e g = an_address (register_spelled (signed Kinds.identifier h (Names.both_first _ (is_address (register_of x)) q)) e) (leb-true 8 r g)
+      go None e g = absurd (true_false (sym g))
 
   pub found_counter : a_program_counter k x ≡ true → CounterAt at i
   unfolding a_program_counter
   found_counter q = record { name = signed Kinds.identifier h (Names.both_first _ (program_counter x) q); counter = Names.both_second (eqb k.kind Kinds.identifier) _ q }
 
 -- what a suppressed name that is not at the mark has passed
-module _ (s : Setting) (i : ℕ) (k : Token) (x : List ℕ) (f : Suppressed → Bool) (q : unmarked s i f k x ≡ true) where
+module _ (s : Setting) (i : ℕ) (k : Token) (x : List ℕ) (f : Option Suppressed → Bool) (q : unmarked s i f k x ≡ true) where
   suppressed_name : both (eqb k.kind Kinds.identifier) (f (suppressed_of x)) ≡ true
   unfolding unmarked
   suppressed_name = Names.both_second (not (eqb s.mark i)) _ q
@@ -80,11 +78,11 @@ module _ (s : Setting) (i : ℕ) (k : Token) (x : List ℕ) (f : Suppressed → 
   pub suppressed_passes : f (suppressed_of x) ≡ true
   suppressed_passes = Names.both_second (eqb k.kind Kinds.identifier) _ suppressed_name
 
-  abbrev pub found_suppressed : {at : ℕ → Place} {z : Suppressed} → at i ≡ stands k x → suppressed_of x ≡ z → SuppressedAt s at i z
+  abbrev pub found_suppressed : {at : ℕ → Place} {z : Option Suppressed} → at i ≡ stands k x → suppressed_of x ≡ z → SuppressedAt s at i z
   found_suppressed h e = record { name = signed Kinds.identifier h suppressed_identified; unmarked = suppressed_unmarked; suppressed = e }
 
 -- `zpc`
-abbrev is_counter : Suppressed → Bool
+abbrev is_counter : Option Suppressed → Bool
 is_counter z = both (is_suppressed z) (not (is_suppressed_register z))
 
 module _ (s : Setting) {at : ℕ → Place} {i : ℕ} {k : Token} {x : List ℕ} (h : at i ≡ stands k x) where
@@ -92,28 +90,28 @@ module _ (s : Setting) {at : ℕ → Place} {i : ℕ} {k : Token} {x : List ℕ}
   unfolding suppressed_index is_suppressed_register
   found_index q = go (suppressed_of x) refl (suppressed_passes s i k x is_suppressed_register q)
     where
-      go : (z : Suppressed) → suppressed_of x ≡ z → is_suppressed_register z ≡ true → IndexAt s at i true (record { index = suppressed_index z; span = span_of k })
-      go (Suppressed.Register r) e g = suppressed (found_suppressed s i k x is_suppressed_register q h e)
-      go Suppressed.ProgramCounter e g = absurd (true_false (sym g))
-      go Suppressed.Not e g = absurd (true_false (sym g))
+      go : (z : Option Suppressed) → suppressed_of x ≡ z → is_suppressed_register z ≡ true → IndexAt s at i true (record { index = suppressed_index z; span = span_of k })
+      go (Some (Suppressed.Register r)) e g = suppressed (found_suppressed s i k x is_suppressed_register q h e)
+      go (Some Suppressed.ProgramCounter) e g = absurd (true_false (sym g))
+      go None e g = absurd (true_false (sym g))
 
   pub found_base : unmarked s i is_suppressed_address k x ≡ true → Bases s at i (BaseRegister.SuppressedAddress (suppressed_index (suppressed_of x) - 8))
   unfolding suppressed_index is_suppressed_address
   found_base q = go (suppressed_of x) refl (suppressed_passes s i k x is_suppressed_address q)
     where
-      go : (z : Suppressed) → suppressed_of x ≡ z → is_suppressed_address z ≡ true → Bases s at i (BaseRegister.SuppressedAddress (suppressed_index z - 8))
-      go (Suppressed.Register r) e g = Spelling.suppressed_address (found_suppressed s i k x is_suppressed_address q h e) (leb-true 8 r g)
-      go Suppressed.ProgramCounter e g = absurd (true_false (sym g))
-      go Suppressed.Not e g = absurd (true_false (sym g))
+      go : (z : Option Suppressed) → suppressed_of x ≡ z → is_suppressed_address z ≡ true → Bases s at i (BaseRegister.SuppressedAddress (suppressed_index z - 8))
+      go (Some (Suppressed.Register r)) e g = Spelling.suppressed_address (found_suppressed s i k x is_suppressed_address q h e) (leb-true 8 r g)
+      go (Some Suppressed.ProgramCounter) e g = absurd (true_false (sym g))
+      go None e g = absurd (true_false (sym g))
 
   pub found_suppressed_counter : unmarked s i is_counter k x ≡ true → Bases s at i BaseRegister.SuppressedProgramCounter
   unfolding is_suppressed is_suppressed_register
   found_suppressed_counter q = go (suppressed_of x) refl (suppressed_passes s i k x is_counter q)
     where
-      go : (z : Suppressed) → suppressed_of x ≡ z → is_counter z ≡ true → Bases s at i BaseRegister.SuppressedProgramCounter
-      go (Suppressed.Register r) e g = absurd (true_false (sym g))
-      go Suppressed.ProgramCounter e g = Spelling.suppressed_counter (found_suppressed s i k x is_counter q h e)
-      go Suppressed.Not e g = absurd (true_false (sym g))
+      go : (z : Option Suppressed) → suppressed_of x ≡ z → is_counter z ≡ true → Bases s at i BaseRegister.SuppressedProgramCounter
+      go (Some (Suppressed.Register r)) e g = absurd (true_false (sym g))
+      go (Some Suppressed.ProgramCounter) e g = Spelling.suppressed_counter (found_suppressed s i k x is_counter q h e)
+      go None e g = absurd (true_false (sym g))
 
 -- ---- sizes and scales
 
@@ -128,10 +126,10 @@ suffix_sound at from i l = record {
   all = ((λ k x e q w. silent_choose (leb 2 (length (run_of x))) _ _ _ _ _ _ (λ _. tt) λ _. (letter k x e q (size_of (run_of x)) refl).all), λ q. no_suffix q);
 }
   where
-    letter : (k : Token) (x : List ℕ) → at i ≡ stands k x → eqb k.kind Kinds.size_suffix ≡ true → (z : SizeSuffix) → size_of (run_of x) ≡ z
+    letter : (k : Token) (x : List ℕ) → at i ≡ stands k x → eqb k.kind Kinds.size_suffix ≡ true → (z : Option SizeSuffix) → size_of (run_of x) ≡ z
         → Quiet (known k z) at (λ j m z. SuffixAt at i j z) (i + 1) k.end
-    letter k x e q (SizeSuffix.Is n) h = record { all = a_suffix (record { sign = signed Kinds.size_suffix e q; size = h }) }
-    letter k x e q SizeSuffix.Not h = record { all = tt }
+    letter k x e q (Some n) h = record { all = a_suffix (record { sign = signed Kinds.size_suffix e q; size = n; known = h; number = refl }) }
+    letter k x e q None h = record { all = tt }
 
 factors : (v : ℕ) → Operand.scale_of v ≡ true → Factor v
 unfolding Operand.scale_of
@@ -144,15 +142,15 @@ factors v h = go (eqb v 1) refl (eqb v 2) refl (eqb v 4) refl h
     go false p false q false r h = rw (eqb-true v 8 h) Spelling.eight
 
 -- the index register x, with a scale that stands at i or without
-pub data ScaleAt (at : ℕ → Place) (x : IndexRegister) (i : ℕ) : ℕ → Maybe IndexRegister → Type 0 where
-  unscaled : holds (is Kinds.star) (at i) ≡ false → ScaleAt at x i i (some x)
-  scaled : {v : ℕ} → Sign at Kinds.star i → (t : Sign at Kinds.number (i + 1)) → number_of t.token.detail t.text ≡ Number.Value v → Factor v
-      → ScaleAt at x i (i + 1 + 1) (some (Operand.with_scale x v t.token.end))
-  unread : {j : ℕ} → ScaleAt at x i j none
+pub data ScaleAt (at : ℕ → Place) (x : IndexRegister) (i : ℕ) : ℕ → Option IndexRegister → Type 0 where
+  unscaled : holds (is Kinds.star) (at i) ≡ false → ScaleAt at x i i (Some x)
+  scaled : {v : ℕ} → Sign at Kinds.star i → (t : Sign at Kinds.number (i + 1)) → number_of t.token.detail t.text ≡ Ok v → Factor v
+      → ScaleAt at x i (i + 1 + 1) (Some (Operand.with_scale x v t.token.end))
+  unread : {j : ℕ} → ScaleAt at x i j None
 
 -- a number that is worth a scale
-scale_worth : (at : ℕ → Place) (x : IndexRegister) {i j v : ℕ} {t : Token} {z : List ℕ} {n : Number} → Worth n v → number_of t.detail z ≡ n → Sign at Kinds.star i
-    → at (i + 1) ≡ stands t z → eqb t.kind Kinds.number ≡ true → j ≡ i + 1 + 1 → Operand.scale_of v ≡ true → ScaleAt at x i j (some (Operand.with_scale x v t.end))
+scale_worth : (at : ℕ → Place) (x : IndexRegister) {i j v : ℕ} {t : Token} {z : List ℕ} {n : Result ℕ NumberError} → Worth n v → number_of t.detail z ≡ n → Sign at Kinds.star i
+    → at (i + 1) ≡ stands t z → eqb t.kind Kinds.number ≡ true → j ≡ i + 1 + 1 → Operand.scale_of v ≡ true → ScaleAt at x i j (Some (Operand.with_scale x v t.end))
 unfolding Operand.scale_of
 scale_worth at x {v = v} value g star e q p f = rw p (scaled star (signed Kinds.number e q) g (factors v f))
 scale_worth at x invalid g star e q p f = absurd (true_false (sym f))
@@ -183,17 +181,17 @@ untailed at i a b c = go (at i) a b c
 
 module _ (s : Setting) (at : ℕ → Place) where
   -- an index, with all its tails
-  abbrev pub IndexFound : ℕ → ℕ → Maybe IndexRegister → Type 0
-  IndexFound i j (some x) = Indexes s at i j x × (holds size_or_scale (at (i + 1)) ≡ true → i + 1 < j)
-  IndexFound i j none = Unit {0}
+  abbrev pub IndexFound : ℕ → ℕ → Option IndexRegister → Type 0
+  IndexFound i j (Some x) = Indexes s at i j x × (holds size_or_scale (at (i + 1)) ≡ true → i + 1 < j)
+  IndexFound i j None = Unit {0}
 
-  suffixed_scaled : {i n size : ℕ} {b : Bool} {r : Register} {v : Maybe IndexRegister} → IndexAt s at i b r → (t : Letter at (i + 1) size)
+  suffixed_scaled : {i n size : ℕ} {b : Bool} {r : Register} {v : Option IndexRegister} → IndexAt s at i b r → (t : Letter at (i + 1) size)
       → ScaleAt at (record { register = r; size = size; scale = 0; suppressed = b; span = span r.span.start t.sign.token.end }) (i + 1 + 1) n v → IndexFound i n v
   suffixed_scaled p t (unscaled q) = (index_spelled p (a_size t) no_scale, λ _. omega arith)
   suffixed_scaled p t (scaled star k e f) = (index_spelled p (a_size t) (a_scale star k e f), λ _. omega arith)
   suffixed_scaled p t unread = tt
 
-  bare_scaled : {i n : ℕ} {b : Bool} {r : Register} {v : Maybe IndexRegister} → IndexAt s at i b r → holds (is Kinds.size_suffix) (at (i + 1)) ≡ false
+  bare_scaled : {i n : ℕ} {b : Bool} {r : Register} {v : Option IndexRegister} → IndexAt s at i b r → holds (is Kinds.size_suffix) (at (i + 1)) ≡ false
       → ScaleAt at (record { register = r; size = 0; scale = 0; suppressed = b; span = r.span }) (i + 1) n v → IndexFound i n v
   bare_scaled {i} p u (unscaled q) = (index_spelled p no_size no_scale, λ t. absurd (untailed at (i + 1) u q t))
   bare_scaled p u (scaled star k e f) = (index_spelled p no_size (a_scale star k e f), λ _. omega arith)
@@ -223,9 +221,9 @@ module _ (s : Setting) (at : ℕ → Place) where
 
   -- ---- bases
 
-  abbrev pub BasesFound : ℕ → ℕ → Maybe Registers → Type 0
-  BasesFound i j (some r) = BaseAndIndex s at i j r
-  BasesFound i j none = Unit {0}
+  abbrev pub BasesFound : ℕ → ℕ → Option Registers → Type 0
+  BasesFound i j (Some r) = BaseAndIndex s at i j r
+  BasesFound i j None = Unit {0}
 
   after_base_sound : (shape : ℕ) {i : ℕ} {b : BaseRegister} (l : ℕ) → Bases s at i b
       → Quiet (Operand.after_base_register s shape b) at (λ n m v. BasesFound i n v) (i + 1) l
@@ -233,7 +231,7 @@ module _ (s : Setting) (at : ℕ → Place) where
   after_base_sound shape l h = record {
     all = (
       (λ k x e q. (
-        (λ c y e₂ q₂ w. call (index_sound shape _ _) λ n m. elim [ some z ↦ λ a g. Spelling.base_index h (signed Kinds.comma e₂ q₂) g.0 | none ↦ λ a g. tt ]),
+        (λ c y e₂ q₂ w. call (index_sound shape _ _) λ n m. elim [ Some z ↦ λ a g. Spelling.base_index h (signed Kinds.comma e₂ q₂) g.0 | None ↦ λ a g. tt ]),
         λ q₂. Spelling.base h,
       )),
       λ q. Spelling.base h,
@@ -247,7 +245,7 @@ module _ (s : Setting) (at : ℕ → Place) where
   unfolding Silent Operand.no_base Operand.or_none Operand.stepped_over Operand.malformed
   no_base_sound shape i l f = record {
     all = (
-      (λ k x e q. call (index_sound shape i l) λ n m. elim [ some z ↦ λ a g. Spelling.index g.0 (f n z g.0 g.1) | none ↦ λ a g. tt ]),
+      (λ k x e q. call (index_sound shape i l) λ n m. elim [ Some z ↦ λ a g. Spelling.index g.0 (f n z g.0 g.1) | None ↦ λ a g. tt ]),
       λ q. ((λ k x e q₂ w. tt), λ q₂. tt),
     );
   }

@@ -1,6 +1,6 @@
 -- An operand behind a parenthesis that is read in silence is spelled so.
 -- Assumes nothing.
-use Rattle.std.specs.Prelude.{◌≡◌, Bool, true, false, List, ℕ, ◌+◌, ◌≤◌, ◌<◌}
+use Rattle.std.specs.Prelude.{◌≡◌, Bool, true, false, List, ℕ, ◌+◌, ◌≤◌, ◌<◌, Option, Some, None}
 use Rattle.std.proofs.Math.Path.{refl}
 use Rattle.std.proofs.Common.{sym, ◌∙◌, ap, add-zero}
 use native.Mathlib.Omega.{arith}
@@ -17,14 +17,13 @@ use Rattle.expressions.specs.Reader.{is, any}
 use Rattle.expressions.specs.Expressions.{read, reported, absent, Suffix, fuel}
 use Rattle.expressions.specs.Laws.{holds}
 use Rattle.expressions.proofs.Costs.{true_false}
-use Rattle.operand.specs.Operands.{Displacement, displaced, undisplaced, Operand, Maybe, some, none}
+use Rattle.operand.specs.Operands.{Displacement, displaced, undisplaced, Operand}
 use Rattle.operand.specs.Operands as O
 use Rattle.operand.specs.Operand
 use Rattle.operand.specs.Operand.{starts_a_base}
 use Rattle.operand.specs.declared.forms.Register.{Register}
 use Rattle.operand.specs.declared.forms.IndexRegister.{IndexRegister}
 use Rattle.operand.specs.declared.forms.BaseRegister.{BaseRegister}
-use Rattle.operand.specs.declared.forms.Index.{Index}
 use Rattle.operand.specs.declared.forms.Registers.{Registers}
 use Rattle.spelling.specs.Signs.{Sign, CounterAt, unreserved}
 use Rattle.spelling.specs.Expressions.{own_group}
@@ -41,17 +40,17 @@ module _ (s : Setting) (at : ℕ → Place) (count : ℕ) (ends : (j : ℕ) (k :
   abbrev pub Plain : ℕ → ℕ → Expr → Type 0
   Plain i j e = Expression s at unreserved own i j e
 
-  abbrev pub Found : ℕ → ℕ → Maybe Operand → Type 0
-  Found j m (some y) = Spelling s at unreserved own j y
-  Found j m none = Unit {0}
+  abbrev pub Found : ℕ → ℕ → Option Operand → Type 0
+  Found j m (Some y) = Spelling s at unreserved own j y
+  Found j m None = Unit {0}
 
   -- the parenthesis that closes
   pub data CloseAt (i : ℕ) : ℕ → ℕ → Type 0 where
     close_at : (c : Sign at Kinds.right_paren i) → CloseAt i (i + 1) c.token.end
 
-  abbrev pub CloseFound : ℕ → ℕ → Maybe ℕ → Type 0
-  CloseFound i j (some e) = CloseAt i j e
-  CloseFound i j none = Unit {0}
+  abbrev pub CloseFound : ℕ → ℕ → Option ℕ → Type 0
+  CloseFound i j (Some e) = CloseAt i j e
+  CloseFound i j None = Unit {0}
 
   pub close_sound : (k : Token) (shape i l : ℕ) → Quiet (Operand.expect_close s k shape) at (λ j m v. CloseFound i j v) i l
   unfolding Silent Operand.expect_close Operand.unclosed
@@ -61,13 +60,13 @@ module _ (s : Setting) (at : ℕ → Place) (count : ℕ) (ends : (j : ℕ) (k :
 
   address_closed : {i n z : ℕ} {r : Register} {d : Displacement} {x : IndexRegister} → Opening s at unreserved own i d → AddressAt at i r → Sign at Kinds.comma (i + 1)
       → Indexes s at (i + 1 + 1) n x → {m : ℕ} → CloseAt n m z → (b : Bool) → x.suppressed ≡ b
-      → Spelling s at unreserved own m (pick b (O.full_index d (BaseRegister.Address r) (Index.Indexed x) 0 undisplaced (span s.start z)) (O.index d r x (span s.start z)))
+      → Spelling s at unreserved own m (pick b (O.full_index d (BaseRegister.Address r) (Some x) 0 undisplaced (span s.start z)) (O.index d r x (span s.start z)))
   address_closed h p k x (close_at c) true e = Spelling.suppressed_index h p k x e c
   address_closed h p k x (close_at c) false e = Spelling.index h p k x e c
 
   counter_closed : {i n z : ℕ} {d : Displacement} {x : IndexRegister} → Opening s at unreserved own i d → CounterAt at i → Sign at Kinds.comma (i + 1)
       → Indexes s at (i + 1 + 1) n x → {m : ℕ} → CloseAt n m z → (b : Bool) → x.suppressed ≡ b
-      → Spelling s at unreserved own m (pick b (O.full_index d BaseRegister.ProgramCounter (Index.Indexed x) 0 undisplaced (span s.start z)) (O.pc_index d x (span s.start z)))
+      → Spelling s at unreserved own m (pick b (O.full_index d BaseRegister.ProgramCounter (Some x) 0 undisplaced (span s.start z)) (O.pc_index d x (span s.start z)))
   counter_closed h p k x (close_at c) true e = Spelling.counter_suppressed_index h p k x e c
   counter_closed h p k x (close_at c) false e = Spelling.counter_index h p k x e c
 
@@ -76,8 +75,8 @@ module _ (s : Setting) (at : ℕ → Place) (count : ℕ) (ends : (j : ℕ) (k :
   unfolding Silent Operand.or_none Operand.indexed_operand
   address_indexed k l h p c = record {
     all = call (index_sound s at Shapes.index _ l) λ n m. elim [
-      | some x ↦ λ a g. call (close_sound k Shapes.index n m) λ n₂ m₂. elim [ some z ↦ λ b f. address_closed h p c g.0 f x.suppressed refl | none ↦ λ b f. tt ]
-      | none ↦ λ a g. tt
+      | Some x ↦ λ a g. call (close_sound k Shapes.index n m) λ n₂ m₂. elim [ Some z ↦ λ b f. address_closed h p c g.0 f x.suppressed refl | None ↦ λ b f. tt ]
+      | None ↦ λ a g. tt
     ];
   }
 
@@ -86,8 +85,8 @@ module _ (s : Setting) (at : ℕ → Place) (count : ℕ) (ends : (j : ℕ) (k :
   unfolding Silent Operand.or_none Operand.indexed_operand
   counter_indexed k l h p c = record {
     all = call (index_sound s at Shapes.pc_index _ l) λ n m. elim [
-      | some x ↦ λ a g. call (close_sound k Shapes.pc_index n m) λ n₂ m₂. elim [ some z ↦ λ b f. counter_closed h p c g.0 f x.suppressed refl | none ↦ λ b f. tt ]
-      | none ↦ λ a g. tt
+      | Some x ↦ λ a g. call (close_sound k Shapes.pc_index n m) λ n₂ m₂. elim [ Some z ↦ λ b f. counter_closed h p c g.0 f x.suppressed refl | None ↦ λ b f. tt ]
+      | None ↦ λ a g. tt
     ];
   }
 
@@ -136,12 +135,12 @@ module _ (s : Setting) (at : ℕ → Place) (count : ℕ) (ends : (j : ℕ) (k :
   unfolding Silent Operand.parse_full_index Operand.or_none
   full_sound i d k l f = record {
     all = call (bases_sound s at Shapes.index i l) λ n m. elim [
-      | some r ↦ λ a g. call (close_sound k Shapes.index n m) λ n₂ m₂. elim [ some z ↦ λ b h. full_closed {r = r} h (f n r g) | none ↦ λ b h. tt ]
-      | none ↦ λ a g. tt
+      | Some r ↦ λ a g. call (close_sound k Shapes.index n m) λ n₂ m₂. elim [ Some z ↦ λ b h. full_closed {r = r} h (f n r g) | None ↦ λ b h. tt ]
+      | None ↦ λ a g. tt
     ];
   }
 
-  memory_closed : {j n m z indirection : ℕ} {d u : Displacement} {r : Registers} {x : Index} → Sign at Kinds.left_paren own → Sign at Kinds.left_bracket (own + 1)
+  memory_closed : {j n m z indirection : ℕ} {d u : Displacement} {r : Registers} {x : Option IndexRegister} → Sign at Kinds.left_paren own → Sign at Kinds.left_bracket (own + 1)
       → Spelling.Inside s at unreserved own (own + 1 + 1) j d r → Sign at Kinds.right_bracket j → Spelling.Behind s at unreserved own r.index (j + 1) n x indirection u → CloseAt n m z
       → Spelling s at unreserved own m (O.full_index d r.base x indirection u (span s.start z))
   memory_closed t b h k g (close_at c) = Spelling.memory_indirect t b h k g c
@@ -150,14 +149,14 @@ module _ (s : Setting) (at : ℕ → Place) (count : ℕ) (ends : (j : ℕ) (k :
   unfolding Silent Operand.parse_memory_indirect Operand.or_none Operand.unclosed
   memory_sound k l t b = record {
     all = call (inside_sound s at count ends few own (own + 1 + 1) l (omega arith)) λ n m. elim [
-      | some v ↦ λ a g. (
+      | Some v ↦ λ a g. (
         (λ c x e q w. call (behind_sound s at count ends few own (n + 1) c.end v.registers.index (omega arith)) λ n₂ m₂. elim [
-          | some u ↦ λ a₂ h. call (close_sound k Shapes.memory_indirect n₂ m₂) λ n₃ m₃. elim [ some z ↦ λ a₃ f. memory_closed t b g (signed Kinds.right_bracket e q) h f | none ↦ λ a₃ f. tt ]
-          | none ↦ λ a₂ h. tt
+          | Some u ↦ λ a₂ h. call (close_sound k Shapes.memory_indirect n₂ m₂) λ n₃ m₃. elim [ Some z ↦ λ a₃ f. memory_closed t b g (signed Kinds.right_bracket e q) h f | None ↦ λ a₃ f. tt ]
+          | None ↦ λ a₂ h. tt
         ]),
         λ q. tt,
       )
-      | none ↦ λ a g. tt
+      | None ↦ λ a g. tt
     ];
   }
 

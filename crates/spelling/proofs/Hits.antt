@@ -2,7 +2,7 @@
 -- Assumes nothing.
 use Rattle.std.specs.Prelude.{◌≡◌, true, false, ◌⊎◌, ℕ, ◌+◌, ◌<◌, eqb}
 use Rattle.std.proofs.Math.Path.{refl}
-use Rattle.std.proofs.Common.{sym, ◌∙◌, inl, inr, add-zero, leb-false}
+use Rattle.std.proofs.Common.{Option, sym, ◌∙◌, inl, inr, add-zero, leb-false}
 use Rattle.names.specs.Kinds
 use Rattle.names.specs.Places.{Place}
 use Rattle.names.specs.declared.registers.Suppressed.{Suppressed}
@@ -24,7 +24,7 @@ use Rattle.spelling.proofs.Found.{found_register, found_address, found_suppresse
 
 module _ (s : Setting) (at : ℕ → Place) where
   pub data Hit (i : ℕ) : Type 0 where
-    hit_suppressed : {z : Suppressed} → SuppressedAt s at i z → is_suppressed z ≡ true → Hit i
+    hit_suppressed : {z : Option Suppressed} → SuppressedAt s at i z → is_suppressed z ≡ true → Hit i
     hit_address : {r : Register} → AddressAt at i r → holds size_or_scale (at (i + 1)) ≡ true → Hit i
     hit_data : {r : Register} → RegisterAt at i r → holds an_address_register (at i) ≡ false → Hit i
 

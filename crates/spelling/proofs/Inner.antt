@@ -1,6 +1,6 @@
 -- What holds expressions is read as it is spelled: displacements, what stands between brackets and behind them; and register lists.
 -- Assumes nothing.
-use Rattle.std.specs.Prelude.{◌≡◌, Bool, true, false, not, List, [], ◌∷◌, ◌++◌, ℕ, ◌+◌, ◌≤◌, ◌<◌}
+use Rattle.std.specs.Prelude.{◌≡◌, Bool, true, false, not, List, [], ◌∷◌, ◌++◌, ℕ, ◌+◌, ◌≤◌, ◌<◌, Option, Some}
 use Rattle.std.proofs.Math.Path.{refl}
 use Rattle.std.proofs.Common.{◌∙◌, append_assoc, arith}
 use borrow.Author.Tests.{le-ltb}
@@ -16,13 +16,12 @@ use Rattle.records.specs.Problems
 use Rattle.expressions.specs.Reader.{is, reading, run, Reader, answer, bump}
 use Rattle.expressions.specs.Expressions.{read, precedence, fuel, parse_expression}
 use Rattle.expressions.specs.Laws.{holds, met_yes, met_no}
-use Rattle.operand.specs.Operands.{Displacement, displaced, RegisterListItem, single, range, Operand, Maybe, some}
+use Rattle.operand.specs.Operands.{Displacement, displaced, RegisterListItem, single, range, Operand}
 use Rattle.operand.specs.Operands as O
 use Rattle.operand.specs.Operand
 use Rattle.operand.specs.Operand.{◌>>=?◌, a_register, an_index, a_base_or_an_index, is_suppressed, is_suppressed_register, inner, outer}
 use Rattle.operand.specs.Fuel.{list_equation}
 use Rattle.operand.specs.declared.forms.Register.{Register}
-use Rattle.operand.specs.declared.forms.Index.{Index}
 use Rattle.operand.specs.declared.forms.Registers.{Registers}
 use Rattle.spelling.specs.Signs.{Sign, RegisterAt, register_spelled, ordinary}
 use Rattle.spelling.specs.Spelling
@@ -32,6 +31,7 @@ use Rattle.spelling.proofs.Climbs.{Ends, ends_by, expression_read, rises}
 use Rattle.spelling.proofs.Names
 use Rattle.spelling.proofs.Looks.{held, looks_register, starts, Stops, stops_comma, stops_close, stops_bracket}
 use Rattle.spelling.proofs.Parts.{letter_read, no_letter, registered, looks_index, looks_bases, index_read_lem, index_seen, index_rises, sized_rises, begun, bases_read}
+use Rattle.operand.specs.declared.forms.IndexRegister.{IndexRegister}
 
 pub ordinary_free : (mark i : ℕ) (x : List ℕ) → ordinary mark i x ≡ true → reserved x ≡ false
 unfolding ordinary
@@ -50,7 +50,7 @@ module _ (s : Setting) (at : ℕ → Place) (count : ℕ) (ends : (j : ℕ) (k :
   behind_own h low stop = expression_read at count ends few own (ordinary s.mark) (ordinary_free s.mark) h (omega arith) (λ e t. omega arith) stop
 
   pub displacement_read_lem : {i j n size z : ℕ} {e : Expr} → Plain i j e → Sized at 0 j n size z → own < i → Stops at n → (l : ℕ)
-      → Reads (Operand.parse_sized_displacement s) at i l n (some (displaced e size))
+      → Reads (Operand.parse_sized_displacement s) at i l n (Some (displaced e size))
   unfolding Operand.parse_sized_displacement Operand.or_absent Operand.sized
   displacement_read_lem h no_size low stop l = then (behind_own h low stop.level l) λ m. then (no_letter _ _ stop.size) λ m₂. answers
   displacement_read_lem h (a_size t) low stop l = then (behind_own h low (letter_ends t) l) λ m. then (letter_read _ _ t) λ m₂. answers
@@ -66,7 +66,7 @@ module _ (s : Setting) (at : ℕ → Place) (count : ℕ) (ends : (j : ℕ) (k :
 
   -- I
   pub inside_read : {i j : ℕ} {d : Displacement} {r : Registers} → Inside s at (ordinary s.mark) own i j d r → own < i → Sign at Kinds.right_bracket j → (l : ℕ)
-      → Reads (Operand.parse_inner s) at i l j (some (inner d r))
+      → Reads (Operand.parse_inner s) at i l j (Some (inner d r))
   unfolding Operand.parse_inner Operand.inner_displaced Operand.or_none
   inside_read Spelling.empty low c l = from_here (sees (omega arith) c.there (kinded c Kinds.right_bracket refl) answers)
   inside_read (Spelling.displacement h sz) low c l =
@@ -84,8 +84,8 @@ module _ (s : Setting) (at : ℕ → Place) (count : ℕ) (ends : (j : ℕ) (k :
       (then (bases_read Shapes.memory_indirect r (stops_bracket c) (other c Kinds.comma refl) l) λ m₂. answers)))
 
   -- T
-  pub behind_read : {i j n : ℕ} {x y : Index} {d : Displacement} → Behind s at (ordinary s.mark) own x i j y n d → own ≤ i → Sign at Kinds.right_paren j → (l : ℕ)
-      → Reads (Operand.parse_outer s x) at i l j (some (outer y n d))
+  pub behind_read : {i j n : ℕ} {x y : Option IndexRegister} {d : Displacement} → Behind s at (ordinary s.mark) own x i j y n d → own ≤ i → Sign at Kinds.right_paren j → (l : ℕ)
+      → Reads (Operand.parse_outer s x) at i l j (Some (outer y n d))
   unfolding Operand.parse_outer Operand.outer_index Operand.outer_indexed Operand.or_none
   behind_read Spelling.empty low c l = passes (other c Kinds.comma refl) answers
   behind_read (Spelling.displacement k h sz) low c l =
@@ -131,35 +131,35 @@ first_at (more (a_range p m q low) k h) = p
 module _ (s : Setting) (at : ℕ → Place) (count : ℕ) (ends : (j : ℕ) (k : Token) (x : List ℕ) → at j ≡ stands k x → j < count) (few : count ≤ fuel) where
   -- one turn of the loop
   turned : {i l j : ℕ} {y : Operand} (items : List RegisterListItem) (r : Register)
-      → Reads (Operand.list_item r >>=? Operand.next_item (Operand.list_loop fuel s) s items) at i l j (some y) → Reads (Operand.list_loop fuel s items r) at i l j (some y)
+      → Reads (Operand.list_item r >>=? Operand.next_item (Operand.list_loop fuel s) s items) at i l j (Some y) → Reads (Operand.list_loop fuel s items r) at i l j (Some y)
   turned {i} {l} items r h = record { end = h.end; same = list_equation at count ends few s items r i l ∙ h.same }
 
   -- behind the minus of a range
-  abbrev ranging : Register → Reader (Maybe RegisterListItem)
+  abbrev ranging : Register → Reader (Option RegisterListItem)
   ranging r = bump a_register (λ k x. Operand.ranged r (Operand.register_from k x)) λ u. Operand.register_expected Problems.after_minus
 
-  single_item : (i l : ℕ) (r : Register) → holds (is Kinds.minus) (at i) ≡ false → run (Operand.list_item r) at i l ≡ reading i l [] (some (single r))
+  single_item : (i l : ℕ) (r : Register) → holds (is Kinds.minus) (at i) ≡ false → run (Operand.list_item r) at i l ≡ reading i l [] (Some (single r))
   unfolding run Operand.list_item
-  single_item i l r q = met_no (is Kinds.minus) (λ k x. run (ranging r) at (i + 1) k.end) (λ u. run (answer (some (single r))) at i l) (at i) q
+  single_item i l r q = met_no (is Kinds.minus) (λ k x. run (ranging r) at (i + 1) k.end) (λ u. run (answer (Some (single r))) at i l) (at i) q
 
   range_item_lem : {i : ℕ} (l : ℕ) (r : Register) {q : Register} → Sign at Kinds.minus i → RegisterAt at (i + 1) q → r.index ≤ q.index
-      → run (Operand.list_item r) at i l ≡ reading (i + 1 + 1) q.span.end [] (some (range r q (span r.span.start q.span.end)))
+      → run (Operand.list_item r) at i l ≡ reading (i + 1 + 1) q.span.end [] (Some (range r q (span r.span.start q.span.end)))
   unfolding run Operand.list_item Operand.ranged
   range_item_lem {i} l r m (register_spelled {r = n} t e) low =
-      met_yes (is Kinds.minus) (λ k x. run (ranging r) at (i + 1) k.end) (λ u. run (answer (some (single r))) at i l) (at i) m.token m.text m.there (kinded m Kinds.minus refl)
+      met_yes (is Kinds.minus) (λ k x. run (ranging r) at (i + 1) k.end) (λ u. run (answer (Some (single r))) at i l) (at i) m.token m.text m.there (kinded m Kinds.minus refl)
       ∙ met_yes a_register (λ k x. run (Operand.ranged r (Operand.register_from k x)) at (i + 1 + 1) k.end) (λ u. run (Operand.register_expected Problems.after_minus) at (i + 1) m.token.end) (at (i + 1)) t.token t.text t.there (held a_register t (looks_register {s = s} (register_spelled t e)).registers)
       ∙ rw (registered t.token t.text n e, le-ltb n r.index low) refl
 
   -- behind the last item
   list_ends : {j : ℕ} (e : ℕ) (items : List RegisterListItem) (x : RegisterListItem) → holds (is Kinds.slash) (at j) ≡ false
-      → Reads (Operand.next_item (Operand.list_loop fuel s) s items x) at j e j (some (O.register_list (items ++ (x ∷ [])) (span s.start e)))
+      → Reads (Operand.next_item (Operand.list_loop fuel s) s items x) at j e j (Some (O.register_list (items ++ (x ∷ [])) (span s.start e)))
   unfolding Operand.next_item Operand.listed
   list_ends e items x q = passes q (from_here answers)
 
   -- behind an item and a slash
   list_goes_on : {j n z : ℕ} (e : ℕ) (items : List RegisterListItem) (x : RegisterListItem) (xs : List RegisterListItem) {r : Register} → Sign at Kinds.slash j → RegisterAt at (j + 1) r
-      → Reads (Operand.list_loop fuel s (items ++ (x ∷ [])) r) at (j + 1 + 1) r.span.end n (some (O.register_list ((items ++ (x ∷ [])) ++ xs) (span s.start z)))
-      → Reads (Operand.next_item (Operand.list_loop fuel s) s items x) at j e n (some (O.register_list (items ++ (x ∷ xs)) (span s.start z)))
+      → Reads (Operand.list_loop fuel s (items ++ (x ∷ [])) r) at (j + 1 + 1) r.span.end n (Some (O.register_list ((items ++ (x ∷ [])) ++ xs) (span s.start z)))
+      → Reads (Operand.next_item (Operand.list_loop fuel s) s items x) at j e n (Some (O.register_list (items ++ (x ∷ xs)) (span s.start z)))
   unfolding Operand.next_item
   list_goes_on e items x xs k (register_spelled {r = n} t q) h =
       steps k.there (kinded k Kinds.slash refl) (steps t.there (held a_register t (looks_register {s = s} (register_spelled t q)).registers)
@@ -167,7 +167,7 @@ module _ (s : Setting) (at : ℕ → Place) (count : ℕ) (ends : (j : ℕ) (k :
 
   -- the loop, behind the list's first register
   pub items_read : {i j e : ℕ} {xs : List RegisterListItem} (h : Items s at i j xs e) (items : List RegisterListItem) → holds (is Kinds.minus) (at j) ≡ false
-      → holds (is Kinds.slash) (at j) ≡ false → Reads (Operand.list_loop fuel s items (first h)) at (i + 1) (first h).span.end j (some (O.register_list (items ++ xs) (span s.start e)))
+      → holds (is Kinds.slash) (at j) ≡ false → Reads (Operand.list_loop fuel s items (first h)) at (i + 1) (first h).span.end j (Some (O.register_list (items ++ xs) (span s.start e)))
   unfolding first Operand.or_none
   items_read {i} (last (a_single {r = r} p)) items a b = turned items r (then_at (single_item _ _ r a) (list_ends _ items (single r) b))
   items_read {i} (last (a_range {r = r} {q = q} p m g low)) items a b =

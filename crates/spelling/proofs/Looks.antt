@@ -2,7 +2,7 @@
 -- Assumes nothing.
 use Rattle.std.specs.Prelude.{◌≡◌, Bool, not, ◌⊎◌, ℕ, ◌≤◌, ◌<◌}
 use Rattle.std.proofs.Math.Path.{refl, sym, ap}
-use Rattle.std.proofs.Common.{◌∙◌, arith}
+use Rattle.std.proofs.Common.{Option, Some, None, ◌∙◌, arith}
 use Rattle.std.proofs.Math.Bool.{true, false}
 use mathlib.Core.List.{List}
 use Rattle.std.proofs.Math.Logic.{inl, inr}
@@ -14,7 +14,6 @@ use Rattle.names.specs.Places.{Place, nothing, stands}
 use Rattle.names.specs.Registers.{register_of, program_counter, special_of, suppressed_of, reserved}
 use Rattle.names.specs.Reserved.{is_register, is_special}
 use Rattle.names.specs.declared.tokens.Token.{Token}
-use Rattle.names.specs.declared.registers.Reg.{Reg}
 use Rattle.names.specs.declared.registers.Suppressed.{Suppressed}
 use Rattle.expressions.specs.Trees.{Expr}
 use Rattle.expressions.specs.declared.reading.Setting.{Setting}
@@ -38,20 +37,20 @@ unfolding holds
 held t s q = rw s.there at q
 
 -- what stands at i is the register r, or none; the program counter, or not; the suppressed name z, or none
-pub record Looks (s : Setting) (at : ℕ → Place) (i : ℕ) (r : Reg) (pc : Bool) (z : Suppressed) : Type 0 where
+pub record Looks (s : Setting) (at : ℕ → Place) (i : ℕ) (r : Option ℕ) (pc : Bool) (z : Option Suppressed) : Type 0 where
   pub registers : holds a_register (at i) ≡ is_register r
   pub addresses : holds an_address_register (at i) ≡ is_address r
   pub counters : holds a_program_counter (at i) ≡ pc
-  pub suppressions : (f : Suppressed → Bool) → f Suppressed.Not ≡ false → holds (unmarked s i f) (at i) ≡ f z
+  pub suppressions : (f : Option Suppressed → Bool) → f None ≡ false → holds (unmarked s i f) (at i) ≡ f z
 
 -- nothing suppressed, whatever the mark
-unsuppressed : (b : Bool) (x : List ℕ) → suppressed_of x ≡ Suppressed.Not → (f : Suppressed → Bool) → f Suppressed.Not ≡ false
-    → both b (f (suppressed_of x)) ≡ f Suppressed.Not
+unsuppressed : (b : Bool) (x : List ℕ) → suppressed_of x ≡ None → (f : Option Suppressed → Bool) → f None ≡ false
+    → both b (f (suppressed_of x)) ≡ f None
 unsuppressed b x q f n = rw (q, n) (Names.both_false b)
 
 module _ {s : Setting} {at : ℕ → Place} {i : ℕ} where
   -- a token that is no name
-  pub looks_sign : {k : ℕ} → Sign at k i → eqb k Kinds.identifier ≡ false → Looks s at i Reg.Not false Suppressed.Not
+  pub looks_sign : {k : ℕ} → Sign at k i → eqb k Kinds.identifier ≡ false → Looks s at i None false None
   unfolding a_register an_address_register a_program_counter unmarked is_address
   looks_sign t q =
       let e = ap (λ k. eqb k Kinds.identifier) t.of ∙ q in
@@ -62,8 +61,8 @@ module _ {s : Setting} {at : ℕ → Place} {i : ℕ} where
         suppressions = λ f n. comes (unmarked s i f) t (rw e (Names.both_false (not (eqb s.mark i)))) ∙ sym n;
       }
 
-  looks_name : {r : Reg} {pc : Bool} {z : Suppressed} (t : Name at i) → register_of t.text ≡ r → program_counter t.text ≡ pc
-      → ((f : Suppressed → Bool) → f Suppressed.Not ≡ false → both (not (eqb s.mark i)) (f (suppressed_of t.text)) ≡ f z)
+  looks_name : {r : Option ℕ} {pc : Bool} {z : Option Suppressed} (t : Name at i) → register_of t.text ≡ r → program_counter t.text ≡ pc
+      → ((f : Option Suppressed → Bool) → f None ≡ false → both (not (eqb s.mark i)) (f (suppressed_of t.text)) ≡ f z)
       → Looks s at i r pc z
   unfolding a_register an_address_register a_program_counter unmarked holds
   looks_name t a b c =
@@ -74,42 +73,42 @@ module _ {s : Setting} {at : ℕ → Place} {i : ℕ} where
         suppressions = λ f n. rw (t.there, t.of) (c f n);
       }
 
-  pub looks_register : {r : Register} → RegisterAt at i r → Looks s at i (Reg.Is r.index) false Suppressed.Not
+  pub looks_register : {r : Register} → RegisterAt at i r → Looks s at i (Some r.index) false None
   looks_register (register_spelled {r = r} t q) =
       looks_name t q (Names.register_uncounted t.text r q) (unsuppressed (not (eqb s.mark i)) t.text (Names.register_unsuppressed t.text r q))
 
-  pub looks_counter : CounterAt at i → Looks s at i Reg.Not true Suppressed.Not
+  pub looks_counter : CounterAt at i → Looks s at i None true None
   looks_counter c =
       let t = c.name in
       looks_name t (Names.counter_unregistered t.text c.counter) c.counter (unsuppressed (not (eqb s.mark i)) t.text (Names.counter_unsuppressed t.text c.counter))
 
-  pub looks_suppressed : {z : Suppressed} → SuppressedAt s at i z → is_suppressed z ≡ true → Looks s at i Reg.Not false z
+  pub looks_suppressed : {z : Option Suppressed} → SuppressedAt s at i z → is_suppressed z ≡ true → Looks s at i None false z
   looks_suppressed {z} c q =
       let t = c.name in
       let h : is_suppressed (suppressed_of t.text) ≡ true = rw c.suppressed q in
       looks_name t (Names.suppressed_unregistered t.text h) (Names.suppressed_uncounted t.text h) λ f n. rw (c.unmarked, c.suppressed) refl
 
   -- a name that an expression may have
-  pub looks_ordinary : (t : Name at i) → ordinary s.mark i t.text ≡ true → Looks s at i Reg.Not false Suppressed.Not
+  pub looks_ordinary : (t : Name at i) → ordinary s.mark i t.text ≡ true → Looks s at i None false None
   unfolding ordinary is_suppressed
   looks_ordinary t q =
       let free = Names.not-true (reserved t.text) (Names.both_first (not (reserved t.text)) _ q) in
       looks_name t (Names.free_unregistered t.text free) (Names.free_uncounted t.text free)
       λ f n. go f (not (eqb s.mark i)) (suppressed_of t.text) (Names.not-true _ (Names.both_second (not (reserved t.text)) _ q)) n
     where
-      go : (f : Suppressed → Bool) (b : Bool) (z : Suppressed) → both b (is_suppressed z) ≡ false → f Suppressed.Not ≡ false → both b (f z) ≡ f Suppressed.Not
+      go : (f : Option Suppressed → Bool) (b : Bool) (z : Option Suppressed) → both b (is_suppressed z) ≡ false → f None ≡ false → both b (f z) ≡ f None
       go f false z h n = sym n
-      go f true (Suppressed.Register r) h n = absurd (true_false h)
-      go f true Suppressed.ProgramCounter h n = absurd (true_false h)
-      go f true Suppressed.Not h n = refl
+      go f true (Some (Suppressed.Register r)) h n = absurd (true_false h)
+      go f true (Some Suppressed.ProgramCounter) h n = absurd (true_false h)
+      go f true None h n = refl
 
 -- ---- what excludes each other
 
 module _ (s : Setting) {at : ℕ → Place} {i : ℕ} where
-  pub suppressed_no_register : {z : Suppressed} {r : Register} → SuppressedAt s at i z → is_suppressed z ≡ true → RegisterAt at i r → ⊥
+  pub suppressed_no_register : {z : Option Suppressed} {r : Register} → SuppressedAt s at i z → is_suppressed z ≡ true → RegisterAt at i r → ⊥
   suppressed_no_register z e p = true_false (sym (looks_register {s = s} p).registers ∙ (looks_suppressed z e).registers)
 
-  pub suppressed_no_counter : {z : Suppressed} → SuppressedAt s at i z → is_suppressed z ≡ true → CounterAt at i → ⊥
+  pub suppressed_no_counter : {z : Option Suppressed} → SuppressedAt s at i z → is_suppressed z ≡ true → CounterAt at i → ⊥
   suppressed_no_counter z e c = true_false (sym (looks_counter {s = s} c).counters ∙ (looks_suppressed z e).counters)
 
   pub register_no_counter : {r : Register} → RegisterAt at i r → CounterAt at i → ⊥
@@ -129,7 +128,7 @@ pub record Started (s : Setting) (at : ℕ → Place) (i : ℕ) : Type 0 where
   pub hash : eqb kind Kinds.hash ≡ false
   pub left_bracket : eqb kind Kinds.left_bracket ≡ false
   pub right_bracket : eqb kind Kinds.right_bracket ≡ false
-  pub looks : Looks s at i Reg.Not false Suppressed.Not
+  pub looks : Looks s at i None false None
   -- a name is no special register
   pub special : holds (name λ x. is_special (special_of x)) (at i) ≡ false
 

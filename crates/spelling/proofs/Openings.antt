@@ -2,14 +2,13 @@
 -- Assumes nothing.
 use Rattle.std.specs.Prelude.{◌≡◌, Bool, ◌⊎◌, ℕ, ◌+◌, ◌≤◌, ◌<◌, eqb, ltb}
 use Rattle.std.proofs.Math.Path.{refl}
-use Rattle.std.proofs.Common.{sym, ◌∙◌, inl, inr, arith}
+use Rattle.std.proofs.Common.{Option, Some, None, sym, ◌∙◌, inl, inr, arith}
 use Rattle.std.proofs.Math.Bool.{true, false}
 use borrow.Author.Tests.{leb-true, leb-false, le-ltb, lt-ltb}
 use Rattle.std.proofs.Math.Dec.{leb}
 use Rattle.names.specs.Choice.{both, either}
 use Rattle.names.specs.Kinds
 use Rattle.names.specs.Places.{Place}
-use Rattle.names.specs.declared.registers.Reg.{Reg}
 use Rattle.names.specs.declared.registers.Suppressed.{Suppressed}
 use Rattle.expressions.specs.declared.reading.Setting.{Setting}
 use Rattle.expressions.specs.Reader.{Reader}
@@ -30,8 +29,8 @@ use Rattle.spelling.proofs.Parts.{first_of_lem, holds_either, Seen}
 
 -- what may begin a base: an address register that nothing is attached to, or the program counter
 pub data BaseLike (s : Setting) (at : ℕ → Place) (i : ℕ) : Type 0 where
-  address : {r : ℕ} → Name at i → Looks s at i (Reg.Is r) false Suppressed.Not → 8 ≤ r → BaseLike s at i
-  counter : Name at i → Looks s at i Reg.Not true Suppressed.Not → BaseLike s at i
+  address : {r : ℕ} → Name at i → Looks s at i (Some r) false None → 8 ≤ r → BaseLike s at i
+  counter : Name at i → Looks s at i None true None → BaseLike s at i
 
 -- `)` or a comma
 pub record Shut (at : ℕ → Place) (i : ℕ) : Type 0 where
@@ -66,12 +65,12 @@ tail_seen b c t = record { token = t.token; text = t.text; there = t.there; pass
 
 module _ {A : Type 0} (s : Setting) {at : ℕ → Place} {i l j : ℕ} {a : A} (hit miss : Unit {0} → Reader A) where
   -- an expression begins neither a full index nor a base
-  pub no_full : Looks s at i Reg.Not false Suppressed.Not → Reads (miss tt) at i l j a → Reads (starts_a_full_index s hit miss) at i l j a
+  pub no_full : Looks s at i None false None → Reads (miss tt) at i l j a → Reads (starts_a_full_index s hit miss) at i l j a
   unfolding starts_a_full_index is_suppressed is_address
   no_full k h =
       from_here (misses (omega arith) (k.suppressions is_suppressed refl) (misses (omega arith) k.addresses (misses (omega arith) k.registers h)))
 
-  pub no_start : Looks s at i Reg.Not false Suppressed.Not → Reads (miss tt) at i l j a → Reads (starts_a_base hit miss) at i l j a
+  pub no_start : Looks s at i None false None → Reads (miss tt) at i l j a → Reads (starts_a_base hit miss) at i l j a
   unfolding starts_a_base
   no_start k h = misses (omega arith) (holds_either a_register a_program_counter (at i) ∙ rw (k.registers, k.counters) refl) h
 
@@ -101,7 +100,7 @@ module _ {A : Type 0} (s : Setting) {at : ℕ → Place} {i l j : ℕ} {a : A} (
   -- ---- F
 
   -- Z, which any of the four may follow
-  pub suppressed_starts : {z : Suppressed} → SuppressedAt s at i z → is_suppressed z ≡ true → Seen at (closes true true) (i + 1) → Reads (hit tt) at i l j a
+  pub suppressed_starts : {z : Option Suppressed} → SuppressedAt s at i z → is_suppressed z ≡ true → Seen at (closes true true) (i + 1) → Reads (hit tt) at i l j a
       → Reads (starts_a_full_index s hit miss) at i l j a
   unfolding starts_a_full_index is_suppressed
   suppressed_starts z e t h =
@@ -114,7 +113,7 @@ module _ {A : Type 0} (s : Setting) {at : ℕ → Place} {i l j : ℕ} {a : A} (
   unfolding starts_a_full_index is_suppressed is_address
   register_starts (register_spelled {r = r} t q) c h = go (leb 8 r) refl
     where
-      k : Looks s at i (Reg.Is r) false Suppressed.Not
+      k : Looks s at i (Some r) false None
       k = looks_register (register_spelled t q)
 
       go : (b : Bool) → leb 8 r ≡ b → Reads (starts_a_full_index s hit miss) at i l j a

@@ -1,8 +1,8 @@
 -- The parts of an operand that are spelled are read: sizes, scales, indexes, bases, displacements, lists.
 -- Assumes nothing.
-use Rattle.std.specs.Prelude.{◌≡◌, Bool, not, List, [], ◌∷◌, ◌⊎◌, ℕ, ◌+◌, ◌≤◌, ◌<◌, leb, length}
+use Rattle.std.specs.Prelude.{◌≡◌, Bool, not, List, [], ◌∷◌, ◌⊎◌, ℕ, ◌+◌, ◌≤◌, ◌<◌, leb, length, Some, None}
 use Rattle.std.proofs.Math.Path.{refl, ap}
-use Rattle.std.proofs.Common.{sym, ◌∙◌, inl, inr, arith}
+use Rattle.std.proofs.Common.{Option, sym, ◌∙◌, inl, inr, arith}
 use Rattle.std.proofs.Math.Bool.{true, false}
 use borrow.Author.Tests.{le-leb, lt-leb}
 use Rattle.names.specs.Choice.{both, either}
@@ -12,7 +12,6 @@ use Rattle.names.specs.Registers.{register_of}
 use Rattle.names.specs.Sizes.{run_of, size_of}
 use Rattle.names.specs.Reserved.{is_register}
 use Rattle.names.specs.declared.tokens.Token.{Token}
-use Rattle.names.specs.declared.registers.Reg.{Reg}
 use Rattle.names.specs.declared.registers.Suppressed.{Suppressed}
 use Rattle.names.specs.declared.sizes.SizeSuffix.{SizeSuffix}
 use Rattle.records.specs.Spans.{span, span_of}
@@ -21,13 +20,11 @@ use Rattle.expressions.specs.Reader.{Test, is}
 use Rattle.expressions.specs.Expressions.{suffixed, bare, known, suffix_run, take_size_suffix, valued}
 use Rattle.expressions.specs.Laws.{holds}
 use Rattle.expressions.proofs.Costs.{true_false}
-use Rattle.operand.specs.Operands.{some}
 use Rattle.operand.specs.Operand
 use Rattle.operand.specs.Operand.{is_address, is_suppressed, is_suppressed_register, is_suppressed_address, a_register, an_address_register, a_program_counter, unmarked, an_index, a_base_or_an_index, size_or_scale, index_of, suppressed_index, register_from, registers}
 use Rattle.operand.specs.declared.forms.Register.{Register}
 use Rattle.operand.specs.declared.forms.IndexRegister.{IndexRegister}
 use Rattle.operand.specs.declared.forms.BaseRegister.{BaseRegister}
-use Rattle.operand.specs.declared.forms.Index.{Index}
 use Rattle.operand.specs.declared.forms.Registers.{Registers}
 use Rattle.spelling.specs.Signs.{Sign, Name, register_spelled}
 use Rattle.spelling.specs.Spelling
@@ -42,17 +39,17 @@ first_of_lem (inr b) h = absurd (h b)
 -- ---- sizes and scales
 
 -- a known size is one letter
-one_letter : (x : List ℕ) (n : ℕ) → size_of x ≡ SizeSuffix.Is n → leb 2 (length x) ≡ false
+one_letter : (x : List ℕ) (n : SizeSuffix) → size_of x ≡ Some n → leb 2 (length x) ≡ false
 unfolding size_of
 one_letter [] n h = refl
 one_letter (c ∷ []) n h = refl
 one_letter (c ∷ d ∷ ds) n h = absurd (unknown h)
   where
-    sized? : SizeSuffix → Bool
-    sized? (SizeSuffix.Is m) = true
-    sized? SizeSuffix.Not = false
+    sized? : Option SizeSuffix → Bool
+    sized? (Some m) = true
+    sized? None = false
 
-    unknown : SizeSuffix.Not ≡ SizeSuffix.Is n → ⊥
+    unknown : None ≡ Some n → ⊥
     unknown e = true_false (sym (ap sized? e))
 
 -- the index register as it is before its scale is read
@@ -69,8 +66,8 @@ factor Spelling.eight = refl
 module _ {at : ℕ → Place} where
   pub letter_read : {i n : ℕ} (from l : ℕ) (t : Letter at i n) → Reads (take_size_suffix from) at i l (i + 1) (suffixed n (span_of t.sign.token))
   unfolding take_size_suffix suffix_run known
-  letter_read {n = n} from l t =
-      steps t.sign.there (kinded t.sign Kinds.size_suffix refl) (rw (one_letter (run_of t.sign.text) n t.size, t.size) answers)
+  letter_read from l t =
+      steps t.sign.there (kinded t.sign Kinds.size_suffix refl) (rw (one_letter (run_of t.sign.text) t.size t.known, t.known, t.number) answers)
 
   pub no_letter : {i : ℕ} (from l : ℕ) → holds (is Kinds.size_suffix) (at i) ≡ false → Reads (take_size_suffix from) at i l i bare
   unfolding take_size_suffix
@@ -78,7 +75,7 @@ module _ {at : ℕ → Place} where
 
   scale_read : {z j n scale y : ℕ} (s : Setting) (shape : ℕ) (r : Register) (size : ℕ) (b : Bool) → Scaled at z j n scale y → Stops at n → (l : ℕ)
       → Reads (Operand.index_scale s shape (before r size b z)) at j l n
-      (some (record { register = r; size = size; scale = scale; suppressed = b; span = span r.span.start y }))
+      (Some (record { register = r; size = size; scale = scale; suppressed = b; span = span r.span.start y }))
   unfolding Operand.index_scale Operand.scaled valued
   scale_read s shape r size b no_scale stop l = passes stop.star answers
   scale_read s shape r size b (a_scale star t q f) stop l =
@@ -90,7 +87,7 @@ module _ {at : ℕ → Place} where
 
   tails_read : {i j n size scale z y : ℕ} (s : Setting) (shape : ℕ) (r : Register) (b : Bool) → Sized at r.span.end i j size z → Scaled at z j n scale y → Stops at n → (l : ℕ)
       → Reads (Operand.index_register s shape r b) at i l n
-      (some (record { register = r; size = size; scale = scale; suppressed = b; span = span r.span.start y }))
+      (Some (record { register = r; size = size; scale = scale; suppressed = b; span = span r.span.start y }))
   unfolding Operand.index_register Operand.index_size
   tails_read s shape r b no_size sc stop l = then (no_letter _ _ (scale_unsized sc stop)) λ m. scale_read s shape r 0 b sc stop m
   tails_read s shape r b (a_size {n = n} t) sc stop l = then (letter_read _ _ t) λ m. scale_read s shape r n b sc stop m
@@ -130,7 +127,7 @@ pub record Seen (at : ℕ → Place) (t : Test) (i : ℕ) : Type 0 where
   pub there : at i ≡ stands token text
   pub passed : t token text ≡ true
 
-pub registered : (t : Token) (x : List ℕ) (r : ℕ) → register_of x ≡ Reg.Is r → register_from t x ≡ record { index = r; span = span_of t }
+pub registered : (t : Token) (x : List ℕ) (r : ℕ) → register_of x ≡ Some r → register_from t x ≡ record { index = r; span = span_of t }
 unfolding register_from index_of
 registered t x r q = rw q refl
 
@@ -148,12 +145,12 @@ pub record Begun (s : Setting) (at : ℕ → Place) (i : ℕ) : Type 0 where
 
 -- behind a base that no index follows
 base_alone : (s : Setting) {at : ℕ → Place} {j : ℕ} (shape : ℕ) (b : BaseRegister) → holds (is Kinds.comma) (at j) ≡ false → (l : ℕ)
-    → Reads (Operand.after_base_register s shape b) at j l j (some (registers b Index.Unindexed))
+    → Reads (Operand.after_base_register s shape b) at j l j (Some (registers b None))
 unfolding Operand.after_base_register
 base_alone s shape b q l = from_here (either_way refl (λ t x h g. passes q answers) λ g. answers)
 
 module _ {s : Setting} {at : ℕ → Place} where
-  pub index_read_lem : {i n : ℕ} {x : IndexRegister} → Indexes s at i n x → Stops at n → (shape l : ℕ) → Reads (Operand.parse_index_register s shape) at i l n (some x)
+  pub index_read_lem : {i n : ℕ} {x : IndexRegister} → Indexes s at i n x → Stops at n → (shape l : ℕ) → Reads (Operand.parse_index_register s shape) at i l n (Some x)
   unfolding Operand.parse_index_register suppressed_index is_suppressed is_suppressed_register
   index_read_lem (index_spelled (plain (register_spelled {r = r} t q)) sz sc) stop shape l =
       let k = looks_register {s = s} (register_spelled t q) in
@@ -164,11 +161,11 @@ module _ {s : Setting} {at : ℕ → Place} where
       from_here (passes k.registers (steps t.there (held (unmarked s i is_suppressed_register) t (k.suppressions is_suppressed_register refl))
       (rw z.suppressed (tails_read s shape _ true sz sc stop _))))
 
-  pub looks_index : {i : ℕ} {r : Reg} {pc : Bool} {z : Suppressed} → Looks s at i r pc z → holds (an_index s i) (at i) ≡ either (is_register r) (is_suppressed_register z)
+  pub looks_index : {i : ℕ} {r : Option ℕ} {pc : Bool} {z : Option Suppressed} → Looks s at i r pc z → holds (an_index s i) (at i) ≡ either (is_register r) (is_suppressed_register z)
   unfolding holds an_index is_suppressed_register
   looks_index {i} k = holds_either a_register (unmarked s i is_suppressed_register) (at i) ∙ rw (k.registers, k.suppressions is_suppressed_register refl) refl
 
-  pub looks_bases : {i : ℕ} {r : Reg} {pc : Bool} {z : Suppressed} → Looks s at i r pc z
+  pub looks_bases : {i : ℕ} {r : Option ℕ} {pc : Bool} {z : Option Suppressed} → Looks s at i r pc z
       → holds (a_base_or_an_index s i) (at i) ≡ either pc (either (is_register r) (is_suppressed z))
   unfolding holds a_base_or_an_index is_suppressed
   looks_bases {i} k =
@@ -194,15 +191,15 @@ module _ {s : Setting} {at : ℕ → Place} where
 
   -- behind a base, a comma and an index
   base_indexed : {j n : ℕ} {x : IndexRegister} (shape : ℕ) (b : BaseRegister) → Sign at Kinds.comma j → Indexes s at (j + 1) n x → Stops at n → (l : ℕ)
-      → Reads (Operand.after_base_register s shape b) at j l n (some (registers b (Index.Indexed x)))
+      → Reads (Operand.after_base_register s shape b) at j l n (Some (registers b (Some x)))
   unfolding Operand.after_base_register Operand.or_none
   base_indexed shape b c x stop l =
       let z = index_seen x in
       from_here (sees refl z.there z.passed (steps c.there (kinded c Kinds.comma refl) (then (index_read_lem x stop shape _) λ m. answers)))
 
   base_read : {i j : ℕ} {b : BaseRegister} {a : Registers} (shape : ℕ) → Bases s at i b → Stops at (i + 1)
-      → ((l : ℕ) → Reads (Operand.after_base_register s shape b) at (i + 1) l j (some a)) → (l : ℕ)
-      → Reads (Operand.parse_base_and_index_registers s shape) at i l j (some a)
+      → ((l : ℕ) → Reads (Operand.after_base_register s shape b) at (i + 1) l j (Some a)) → (l : ℕ)
+      → Reads (Operand.parse_base_and_index_registers s shape) at i l j (Some a)
   unfolding Operand.parse_base_and_index_registers suppressed_index is_address is_suppressed is_suppressed_register is_suppressed_address
   base_read shape (Spelling.address (Spelling.an_address (register_spelled {r = r} t q) low)) stop h l =
       let k = looks_register {s = s} (register_spelled t q) in
@@ -222,7 +219,7 @@ module _ {s : Setting} {at : ℕ → Place} where
 
   -- an index and no base, once it is known to be none
   no_base_lem : {i n : ℕ} {x : IndexRegister} (shape : ℕ) → Indexes s at i n x → Stops at n → (l : ℕ)
-      → Reads (Operand.no_base s shape) at i l n (some (registers BaseRegister.Omitted (Index.Indexed x)))
+      → Reads (Operand.no_base s shape) at i l n (Some (registers BaseRegister.Omitted (Some x)))
   unfolding Operand.no_base Operand.or_none
   no_base_lem shape x stop l =
       let z = index_seen x in
@@ -249,7 +246,7 @@ module _ {s : Setting} {at : ℕ → Place} where
 
   -- X where X is no B
   index_alone : {i n : ℕ} {x : IndexRegister} (shape : ℕ) → Indexes s at i n x → (x.register.index < 8) ⊎ (i + 1 < n) → Stops at n → (l : ℕ)
-      → Reads (Operand.parse_base_and_index_registers s shape) at i l n (some (registers BaseRegister.Omitted (Index.Indexed x)))
+      → Reads (Operand.parse_base_and_index_registers s shape) at i l n (Some (registers BaseRegister.Omitted (Some x)))
   unfolding Operand.parse_base_and_index_registers size_or_scale
   index_alone {i = i} shape (index_spelled p no_size no_scale) h stop l =
       let k = indexing p in
@@ -267,7 +264,7 @@ module _ {s : Setting} {at : ℕ → Place} where
 
   -- BI, where no comma follows
   pub bases_read : {i j : ℕ} {r : Registers} (shape : ℕ) → BaseAndIndex s at i j r → Stops at j → holds (is Kinds.comma) (at j) ≡ false → (l : ℕ)
-      → Reads (Operand.parse_base_and_index_registers s shape) at i l j (some r)
+      → Reads (Operand.parse_base_and_index_registers s shape) at i l j (Some r)
   bases_read shape (Spelling.base {b = b} h) stop q l = base_read shape h stop (base_alone s shape b q) l
   bases_read shape (Spelling.base_index {b = b} h c x) stop q l = base_read shape h (stops_comma c) (base_indexed shape b c x stop) l
   bases_read shape (Spelling.index x h) stop q l = index_alone shape x h stop l

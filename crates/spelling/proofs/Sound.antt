@@ -2,7 +2,7 @@
 -- Assumes nothing.
 use Rattle.std.specs.Prelude.{◌≡◌, Bool, List}
 use Rattle.std.proofs.Math.Path.{refl}
-use Rattle.std.proofs.Common.{sym, ◌∙◌, sub-add_cancel, zero-add, suc-add}
+use Rattle.std.proofs.Common.{Result, Ok, Err, sym, ◌∙◌, sub-add_cancel, zero-add, suc-add}
 use Rattle.std.proofs.Math.Bool.{true, false}
 use Prim.Native.Nat.{ℕ, zero, suc, ◌+◌, ◌-◌, ◌≤◌, ◌<◌}
 use native.Mathlib.Omega.{arith}
@@ -14,7 +14,7 @@ use Rattle.names.specs.Places.{Place, stands}
 use Rattle.names.specs.Registers.{reserved}
 use Rattle.names.specs.Numbers.{number_of}
 use Rattle.names.specs.declared.tokens.Token.{Token}
-use Rattle.names.specs.declared.numbers.Number.{Number}
+use Rattle.names.specs.declared.numbers.NumberError.{NumberError}
 use Rattle.records.specs.Spans.{span_of}
 use Rattle.expressions.specs.Levels.{precedence_most}
 use Rattle.expressions.specs.Trees.{Expr, number}
@@ -75,11 +75,11 @@ no_operator {at} min i q = record { less = λ k x e. leb-false min (precedence k
 -- ---- the readers
 
 -- a number in silence is not too large
-pub valued_sound : (at : ℕ → Place) (k : Token) (n : Number) (i l : ℕ) → Quiet (valued k n) at (λ j m v. (j ≡ i) × Worth n v) i l
+pub valued_sound : (at : ℕ → Place) (k : Token) (n : Result ℕ NumberError) (i l : ℕ) → Quiet (valued k n) at (λ j m v. (j ≡ i) × Worth n v) i l
 unfolding Silent valued
-valued_sound at k (Number.Value v) i l = record { all = (refl, value) }
-valued_sound at k Number.TooLarge i l = record { all = tt }
-valued_sound at k Number.Invalid i l = record { all = (refl, invalid) }
+valued_sound at k (Ok v) i l = record { all = (refl, value) }
+valued_sound at k (Err NumberError.TooLarge) i l = record { all = tt }
+valued_sound at k (Err NumberError.Invalid) i l = record { all = (refl, invalid) }
 
 module _ (at : ℕ → Place) (count : ℕ) (ends : (j : ℕ) (k : Token) (x : List ℕ) → at j ≡ stands k x → j < count) (own : ℕ) where
   abbrev Spelled : ℕ → ℕ → ℕ → ℕ → Expr → Type 0

@@ -1,17 +1,17 @@
 -- A spelling stays one where more names may be symbols.
 -- Assumes nothing.
-use Rattle.std.specs.Prelude.{◌≡◌, Bool, true, not, List, ℕ}
+use Rattle.std.specs.Prelude.{◌≡◌, Bool, true, not, List, ℕ, Option}
 use Rattle.names.specs.Places.{Place}
 use Rattle.names.specs.Registers.{reserved}
 use Rattle.expressions.specs.Trees.{Expr}
 use Rattle.expressions.specs.declared.reading.Setting.{Setting}
 use Rattle.operand.specs.Operands.{Displacement, Operand}
-use Rattle.operand.specs.declared.forms.Index.{Index}
 use Rattle.operand.specs.declared.forms.Registers.{Registers}
 use Rattle.spelling.specs.Signs.{unreserved, ordinary}
 use Rattle.spelling.specs.Expressions.{Spells, a_number, a_literal, a_name, a_local, an_address, a_unary, a_group, own_group, tighter, joined}
 use Rattle.spelling.specs.Spelling.{Before, Displaced, Opening, Inside, Behind, Spelling, Spelled}
 use Rattle.spelling.proofs.Names.{both_first}
+use Rattle.operand.specs.declared.forms.IndexRegister.{IndexRegister}
 
 module _ {a b : ℕ → List ℕ → Bool} (more : (i : ℕ) (x : List ℕ) → a i x ≡ true → b i x ≡ true) {at : ℕ → Place} {own : ℕ} where
   wider : {m room i j : ℕ} {e : Expr} → Spells at a own m room i j e → Spells at b own m room i j e
@@ -45,7 +45,7 @@ module _ {a b : ℕ → List ℕ → Bool} (more : (i : ℕ) (x : List ℕ) → 
     wider_inside (Inside.both h z c r) = Inside.both (wider h) z c r
     wider_inside (Inside.bases r) = Inside.bases r
 
-    wider_behind : {i j n : ℕ} {x y : Index} {d : Displacement} → Behind s at a own x i j y n d → Behind s at b own x i j y n d
+    wider_behind : {i j n : ℕ} {x y : Option IndexRegister} {d : Displacement} → Behind s at a own x i j y n d → Behind s at b own x i j y n d
     wider_behind Behind.empty = Behind.empty
     wider_behind (Behind.displacement c h z) = Behind.displacement c (wider h) z
     wider_behind (Behind.index c x) = Behind.index c x

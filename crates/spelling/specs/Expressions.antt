@@ -1,18 +1,18 @@
 -- How expressions are spelled: document 01's levels, groups and leaves.
 -- Assumes nothing.
-use Rattle.std.specs.Prelude.{◌≡◌, Bool, true, List, ℕ, suc, ◌+◌, ◌<◌}
+use Rattle.std.specs.Prelude.{Result, Ok, Err, ◌≡◌, Bool, true, List, ℕ, suc, ◌+◌, ◌<◌}
 use Rattle.names.specs.Kinds
 use Rattle.names.specs.Places.{Place}
 use Rattle.names.specs.Numbers.{number_of}
-use Rattle.names.specs.declared.numbers.Number.{Number}
+use Rattle.names.specs.declared.numbers.NumberError.{NumberError}
 use Rattle.records.specs.Spans.{span, span_of}
 use Rattle.expressions.specs.Trees.{Expr, number, character_literal, symbol, current_address, unary, binary, span_e, with_span}
 use Rattle.spelling.specs.Signs.{Sign, Name}
 
 -- a number's value, which is 0 where it has none; it is not too large
-pub data Worth : Number → ℕ → Type 0 where
-  value : {v : ℕ} → Worth (Number.Value v) v
-  invalid : Worth Number.Invalid 0
+pub data Worth : Result ℕ NumberError → ℕ → Type 0 where
+  value : {v : ℕ} → Worth (Ok v) v
+  invalid : Worth (Err NumberError.Invalid) 0
 
 -- a sign, and its place in `UnaryOperator`
 pub data Unary : ℕ → ℕ → Type 0 where

@@ -1,12 +1,11 @@
 -- What the grammar asks for at a place: a token of a kind, a name that spells a register.
 -- Assumes nothing.
-use Rattle.std.specs.Prelude.{◌≡◌, Bool, true, false, not, List, ℕ, eqb}
+use Rattle.std.specs.Prelude.{Option, Some, ◌≡◌, Bool, true, false, not, List, ℕ, eqb}
 use Rattle.names.specs.Choice.{both}
 use Rattle.names.specs.Kinds
 use Rattle.names.specs.Places.{Place, stands}
 use Rattle.names.specs.Registers.{register_of, program_counter, suppressed_of, reserved}
 use Rattle.names.specs.declared.tokens.Token.{Token}
-use Rattle.names.specs.declared.registers.Reg.{Reg}
 use Rattle.names.specs.declared.registers.Suppressed.{Suppressed}
 use Rattle.records.specs.Spans.{span_of}
 use Rattle.expressions.specs.declared.reading.Setting.{Setting}
@@ -25,7 +24,7 @@ Name at i = Sign at Kinds.identifier i
 
 -- Dn, An or `sp`, by its mask index
 pub data RegisterAt (at : ℕ → Place) : ℕ → Register → Type 0 where
-  register_spelled : {i r : ℕ} (t : Name at i) → register_of t.text ≡ Reg.Is r → RegisterAt at i (record { index = r; span = span_of t.token })
+  register_spelled : {i r : ℕ} (t : Name at i) → register_of t.text ≡ Some r → RegisterAt at i (record { index = r; span = span_of t.token })
 
 -- PC
 pub record CounterAt (at : ℕ → Place) (i : ℕ) : Type 0 where
@@ -33,7 +32,7 @@ pub record CounterAt (at : ℕ → Place) (i : ℕ) : Type 0 where
   pub counter : program_counter name.text ≡ true
 
 -- Z: a suppressed name that is not at the mark
-pub record SuppressedAt (s : Setting) (at : ℕ → Place) (i : ℕ) (z : Suppressed) : Type 0 where
+pub record SuppressedAt (s : Setting) (at : ℕ → Place) (i : ℕ) (z : Option Suppressed) : Type 0 where
   pub name : Name at i
   pub unmarked : eqb s.mark i ≡ false
   pub suppressed : suppressed_of name.text ≡ z

@@ -1,16 +1,16 @@
 -- How operands are spelled: a constructor for each spelling of document 01's table.
 -- Assumes nothing.
-use Rattle.std.specs.Prelude.{◌≡◌, Bool, true, false, List, [], ◌∷◌, ◌⊎◌, ℕ, ◌+◌, ◌-◌, ◌≤◌, ◌<◌}
+use Rattle.std.specs.Prelude.{Ok, ◌≡◌, Bool, true, false, List, [], ◌∷◌, ◌⊎◌, ℕ, ◌+◌, ◌-◌, ◌≤◌, ◌<◌, Option, Some, None}
 use Rattle.names.specs.Kinds
 use Rattle.names.specs.Places.{Place, stands}
 use Rattle.names.specs.Registers.{special_of}
+use Rattle.names.specs.Cases.{special_number, size_number}
 use Rattle.names.specs.Sizes.{run_of, size_of}
 use Rattle.names.specs.Numbers.{number_of}
 use Rattle.names.specs.declared.tokens.Token.{Token}
 use Rattle.names.specs.declared.registers.SpecialRegister.{SpecialRegister}
 use Rattle.names.specs.declared.registers.Suppressed.{Suppressed}
 use Rattle.names.specs.declared.sizes.SizeSuffix.{SizeSuffix}
-use Rattle.names.specs.declared.numbers.Number.{Number}
 use Rattle.records.specs.Spans.{span, span_of}
 use Rattle.expressions.specs.Trees.{Expr, span_e}
 use Rattle.expressions.specs.declared.reading.Setting.{Setting}
@@ -20,7 +20,6 @@ use Rattle.operand.specs.Operand.{is_suppressed, registers, no_registers, settin
 use Rattle.operand.specs.declared.forms.Register.{Register}
 use Rattle.operand.specs.declared.forms.IndexRegister.{IndexRegister}
 use Rattle.operand.specs.declared.forms.BaseRegister.{BaseRegister}
-use Rattle.operand.specs.declared.forms.Index.{Index}
 use Rattle.operand.specs.declared.forms.Registers.{Registers}
 use Rattle.spelling.specs.Signs.{Sign, Name, RegisterAt, CounterAt, SuppressedAt}
 use Rattle.spelling.specs.Expressions.{Spells}
@@ -29,10 +28,12 @@ use Rattle.spelling.specs.Expressions.{Spells}
 pub record Closed (at : ℕ → Place) (j : ℕ) : Type 0 where
   pub kinds : (k : Token) (x : List ℕ) → at j ≡ stands k x → (k.kind ≡ Kinds.comma) ⊎ (k.kind ≡ Kinds.end_of_line)
 
--- `.s`, one known size letter: its size
+-- `.s`, one known size letter: its size, and the number n of that
 pub record Letter (at : ℕ → Place) (i n : ℕ) : Type 0 where
   pub sign : Sign at Kinds.size_suffix i
-  pub size : size_of (run_of sign.text) ≡ SizeSuffix.Is n
+  pub size : SizeSuffix
+  pub known : size_of (run_of sign.text) ≡ Some size
+  pub number : size_number (Some size) ≡ n
 
 -- always optional. Sized i j n z: a size n, 0 for none, from i up to j; z is where it ends, or what it is told to be where there is none
 pub data Sized (at : ℕ → Place) (b : ℕ) : ℕ → ℕ → ℕ → ℕ → Type 0 where
@@ -49,7 +50,7 @@ pub data Factor : ℕ → Type 0 where
 -- optionally `*` and a number worth 1, 2, 4 or 8
 pub data Scaled (at : ℕ → Place) (b : ℕ) : ℕ → ℕ → ℕ → ℕ → Type 0 where
   no_scale : {i : ℕ} → Scaled at b i i 0 b
-  a_scale : {i v : ℕ} → Sign at Kinds.star i → (t : Sign at Kinds.number (i + 1)) → number_of t.token.detail t.text ≡ Number.Value v → Factor v
+  a_scale : {i v : ℕ} → Sign at Kinds.star i → (t : Sign at Kinds.number (i + 1)) → number_of t.token.detail t.text ≡ Ok v → Factor v
       → Scaled at b i (i + 1 + 1) v t.token.end
 
 -- An
@@ -60,7 +61,7 @@ module _ (s : Setting) (at : ℕ → Place) where
   -- the register of an index: of R, or a Z other than `zpc`
   pub data IndexAt : ℕ → Bool → Register → Type 0 where
     plain : {i : ℕ} {r : Register} → RegisterAt at i r → IndexAt i false r
-    suppressed : {i r : ℕ} (z : SuppressedAt s at i (Suppressed.Register r)) → IndexAt i true (record { index = r; span = span_of z.name.token })
+    suppressed : {i r : ℕ} (z : SuppressedAt s at i (Some (Suppressed.Register r))) → IndexAt i true (record { index = r; span = span_of z.name.token })
 
   -- X: R, or a Z other than `zpc`, with the same tails: a size, then a scale, each optional. R is an X that is not suppressed
   pub data Indexes : ℕ → ℕ → IndexRegister → Type 0 where
@@ -71,22 +72,22 @@ module _ (s : Setting) (at : ℕ → Place) where
   pub data Bases : ℕ → BaseRegister → Type 0 where
     address : {i : ℕ} {r : Register} → AddressAt at i r → Bases i (BaseRegister.Address r)
     counter : {i : ℕ} → CounterAt at i → Bases i BaseRegister.ProgramCounter
-    suppressed_address : {i r : ℕ} → SuppressedAt s at i (Suppressed.Register r) → 8 ≤ r → Bases i (BaseRegister.SuppressedAddress (r - 8))
-    suppressed_counter : {i : ℕ} → SuppressedAt s at i Suppressed.ProgramCounter → Bases i BaseRegister.SuppressedProgramCounter
+    suppressed_address : {i r : ℕ} → SuppressedAt s at i (Some (Suppressed.Register r)) → 8 ≤ r → Bases i (BaseRegister.SuppressedAddress (r - 8))
+    suppressed_counter : {i : ℕ} → SuppressedAt s at i (Some Suppressed.ProgramCounter) → Bases i BaseRegister.SuppressedProgramCounter
 
   -- BI: B, `B,X`, or X where X is no B: a data register, or one with a size or a scale
   pub data BaseAndIndex : ℕ → ℕ → Registers → Type 0 where
-    base : {i : ℕ} {b : BaseRegister} → Bases i b → BaseAndIndex i (i + 1) (registers b Index.Unindexed)
+    base : {i : ℕ} {b : BaseRegister} → Bases i b → BaseAndIndex i (i + 1) (registers b None)
     base_index : {i j : ℕ} {b : BaseRegister} {x : IndexRegister} → Bases i b → Sign at Kinds.comma (i + 1) → Indexes (i + 1 + 1) j x
-        → BaseAndIndex i j (registers b (Index.Indexed x))
+        → BaseAndIndex i j (registers b (Some x))
     index : {i j : ℕ} {x : IndexRegister} → Indexes i j x → (x.register.index < 8) ⊎ (i + 1 < j)
-        → BaseAndIndex i j (registers BaseRegister.Omitted (Index.Indexed x))
+        → BaseAndIndex i j (registers BaseRegister.Omitted (Some x))
 
   -- F: a BI beginning with Z, a data register, or an address register with size or scale, which is then an X alone
   pub data Full : ℕ → ℕ → Registers → Type 0 where
-    by_suppressed : {i j : ℕ} {z : Suppressed} {r : Registers} → SuppressedAt s at i z → is_suppressed z ≡ true → BaseAndIndex i j r → Full i j r
+    by_suppressed : {i j : ℕ} {z : Option Suppressed} {r : Registers} → SuppressedAt s at i z → is_suppressed z ≡ true → BaseAndIndex i j r → Full i j r
     by_data : {i j : ℕ} {q : Register} {r : Registers} → RegisterAt at i q → q.index < 8 → BaseAndIndex i j r → Full i j r
-    by_tail : {i j : ℕ} {q : Register} {x : IndexRegister} → AddressAt at i q → Indexes i j x → i + 1 < j → Full i j (registers BaseRegister.Omitted (Index.Indexed x))
+    by_tail : {i j : ℕ} {q : Register} {x : IndexRegister} → AddressAt at i q → Indexes i j x → i + 1 < j → Full i j (registers BaseRegister.Omitted (Some x))
 
   -- an item of a list: a register, or a range that does not fall. e: where it ends
   pub data Item : ℕ → ℕ → RegisterListItem → ℕ → Type 0 where
@@ -129,13 +130,13 @@ module _ (s : Setting) (at : ℕ → Place) where
       bases : {i j : ℕ} {r : Registers} → BaseAndIndex i j r → Inside i j undisplaced r
 
     -- T: empty, `,E.s`, `,X` or `,X,E.s`, X only if I has no index; with X it is postindexed (2), else preindexed (1). The first index is that of I
-    pub data Behind : Index → ℕ → ℕ → Index → ℕ → Displacement → Type 0 where
-      empty : {i : ℕ} {x : Index} → Behind x i i x 1 undisplaced
-      displacement : {i j n size z : ℕ} {e : Expr} {x : Index} → Sign at Kinds.comma i → Expression (i + 1) j e → Sized at 0 j n size z
+    pub data Behind : Option IndexRegister → ℕ → ℕ → Option IndexRegister → ℕ → Displacement → Type 0 where
+      empty : {i : ℕ} {x : Option IndexRegister} → Behind x i i x 1 undisplaced
+      displacement : {i j n size z : ℕ} {e : Expr} {x : Option IndexRegister} → Sign at Kinds.comma i → Expression (i + 1) j e → Sized at 0 j n size z
           → Behind x i n x 1 (displaced e size)
-      index : {i j : ℕ} {x : IndexRegister} → Sign at Kinds.comma i → Indexes (i + 1) j x → Behind Index.Unindexed i j (Index.Indexed x) 2 undisplaced
+      index : {i j : ℕ} {x : IndexRegister} → Sign at Kinds.comma i → Indexes (i + 1) j x → Behind None i j (Some x) 2 undisplaced
       both : {i j n p size z : ℕ} {e : Expr} {x : IndexRegister} → Sign at Kinds.comma i → Indexes (i + 1) j x → Sign at Kinds.comma j
-          → Expression (j + 1) n e → Sized at 0 n p size z → Behind Index.Unindexed i p (Index.Indexed x) 2 (displaced e size)
+          → Expression (j + 1) n e → Sized at 0 n p size z → Behind None i p (Some x) 2 (displaced e size)
 
     -- Spelling j y: from the operand's first place, where its first token starts at the setting's start, up to the place j stands the operand y
     pub data Spelling : ℕ → Operand → Type 0 where
@@ -147,7 +148,7 @@ module _ (s : Setting) (at : ℕ → Place) where
       -- 2, 3, 4: Dn; An or `sp`; special register
       data_register : {r : Register} → RegisterAt at own r → r.index < 8 → Spelling (own + 1) (O.data_register_direct r r.span)
       address_register : {r : Register} → AddressAt at own r → Spelling (own + 1) (O.address_register_direct r r.span)
-      special_register : {n : ℕ} (t : Name at own) → special_of t.text ≡ SpecialRegister.Is n → Spelling (own + 1) (O.special_register n (span_of t.token))
+      special_register : {r : SpecialRegister} (t : Name at own) → special_of t.text ≡ Some r → Spelling (own + 1) (O.special_register (special_number (Some r)) (span_of t.token))
       -- 5, 6, 7: `(An)`; `(An)+`; `-(An)`
       indirect : {r : Register} → Sign at Kinds.left_paren own → AddressAt at (own + 1) r → (c : Sign at Kinds.right_paren (own + 1 + 1))
           → Spelling (own + 1 + 1 + 1) (O.indirect r (span s.start c.token.end))
@@ -168,10 +169,10 @@ module _ (s : Setting) (at : ℕ → Place) where
       -- 12: 9 or 11 with suppressed X for R
       suppressed_index : {j n : ℕ} {d : Displacement} {r : Register} {x : IndexRegister} → Opening j d → AddressAt at j r → Sign at Kinds.comma (j + 1)
           → Indexes (j + 1 + 1) n x → x.suppressed ≡ true → (c : Sign at Kinds.right_paren n)
-          → Spelling (n + 1) (O.full_index d (BaseRegister.Address r) (Index.Indexed x) 0 undisplaced (span s.start c.token.end))
+          → Spelling (n + 1) (O.full_index d (BaseRegister.Address r) (Some x) 0 undisplaced (span s.start c.token.end))
       counter_suppressed_index : {j n : ℕ} {d : Displacement} {x : IndexRegister} → Opening j d → CounterAt at j → Sign at Kinds.comma (j + 1)
           → Indexes (j + 1 + 1) n x → x.suppressed ≡ true → (c : Sign at Kinds.right_paren n)
-          → Spelling (n + 1) (O.full_index d BaseRegister.ProgramCounter (Index.Indexed x) 0 undisplaced (span s.start c.token.end))
+          → Spelling (n + 1) (O.full_index d BaseRegister.ProgramCounter (Some x) 0 undisplaced (span s.start c.token.end))
       -- 12: `(F)`; `(E,F)`; `(E.s,Bi)` with size; `([I]T)`
       full : {j : ℕ} {r : Registers} → Sign at Kinds.left_paren own → Full (own + 1) j r → (c : Sign at Kinds.right_paren j)
           → Spelling (j + 1) (O.full_index undisplaced r.base r.index 0 undisplaced (span s.start c.token.end))
@@ -181,7 +182,7 @@ module _ (s : Setting) (at : ℕ → Place) where
       sized_full : {j n size : ℕ} {e : Expr} {r : Registers} → Sign at Kinds.left_paren own → Expression (own + 1) j e → Letter at j size
           → Sign at Kinds.comma (j + 1) → BaseAndIndex (j + 1 + 1) n r → (c : Sign at Kinds.right_paren n)
           → Spelling (n + 1) (O.full_index (displaced e size) r.base r.index 0 undisplaced (span s.start c.token.end))
-      memory_indirect : {j n indirection : ℕ} {d u : Displacement} {r : Registers} {x : Index} → Sign at Kinds.left_paren own
+      memory_indirect : {j n indirection : ℕ} {d u : Displacement} {r : Registers} {x : Option IndexRegister} → Sign at Kinds.left_paren own
           → Sign at Kinds.left_bracket (own + 1) → Inside (own + 1 + 1) j d r → Sign at Kinds.right_bracket j → Behind r.index (j + 1) n x indirection u
           → (c : Sign at Kinds.right_paren n)
           → Spelling (n + 1) (O.full_index d r.base x indirection u (span s.start c.token.end))

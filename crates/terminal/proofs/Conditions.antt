@@ -1,7 +1,7 @@
 -- The buyer's conditions, of what the exported call returns and writes. They follow from the entry's (layout `Answers`, spelling `Answers`), as the number
 -- and the bytes are its answer. Words in quotes are document 01's.
 -- Assumes nothing.
-use Rattle.std.specs.Prelude.{◌≡◌, refl, Bool, true, false, List, ◌++◌, ℕ, zero, suc, ◌+◌, ◌-◌, ◌*◌, ◌≤◌, ◌<◌, eqb, ltb, length, take, replicate}
+use Rattle.std.specs.Prelude.{◌≡◌, refl, Bool, true, false, List, ◌++◌, ℕ, zero, suc, ◌+◌, ◌-◌, ◌*◌, ◌≤◌, ◌<◌, eqb, ltb, length, take, replicate, None, Result, Ok, Err, Option, Some}
 use Rattle.std.proofs.Common.{sym, ◌∙◌, ap₂, append_assoc, zero-add, arith, le-ltb, ltb-true, ltb-false, length-append, take_at, drop_at}
 use Rattle.std.proofs.Math.Path.{ap}
 use Rattle.std.proofs.Math.ListN.{drop}
@@ -14,7 +14,7 @@ use Rattle.names.specs.declared.tokens.Token.{Token}
 use Rattle.records.specs.Nodes.{low_first}
 use Rattle.records.specs.Written.{written_fits}
 use Rattle.expressions.specs.Reader.{Reading}
-use Rattle.operand.specs.Operands.{Operand, Maybe, some, none}
+use Rattle.operand.specs.Operands.{Operand}
 use Rattle.operand.specs.Records.{size_m}
 use Rattle.operand.specs.Forms.{record_of, mask_o}
 use Rattle.operand.specs.declared.layouts.Layout.{Layout}
@@ -31,12 +31,14 @@ use Rattle.operand.proofs.Limits as L
 use Rattle.operand.specs.Limits.{limited, Higher, NoneTooDeep}
 use Rattle.operand.proofs.Conditions as Conditions
 use Rattle.operand.specs.Conditions.{Valid, AlikeThrough, record_at, SameButPlus}
-use Rattle.operand.proofs.Conditions.{refuses_bounds, valid_bounds, valid_limit, records_enough, alike_before}
+use Rattle.operand.proofs.Conditions.{refusal_number, refuses_numbered, refuses_bounds, valid_bounds, valid_limit, records_enough, alike_before}
 use Rattle.layout.specs.Promise.{given, result_of, result_at, given_result, EntryPromise}
 use Rattle.layout.specs.Head.{length_head}
 use Rattle.layout.specs.Answers as Answers
+use Rattle.operand.specs.RefusalNumbers
+use Rattle.operand.specs.Entry as E
+use Rattle.operand.specs.declared.refusals.Refusal.{Refusal}
 use Rattle.layout.specs.declared.answer.Answer.{Answer}
-use Rattle.layout.specs.declared.answer.Missed.{Missed}
 use Rattle.spelling.specs.Signs.{unreserved, ordinary}
 use Rattle.spelling.specs.Spelling.{Closed, Spelled}
 use Rattle.spelling.specs.Silence.{Unerring}
@@ -48,14 +50,14 @@ use Rattle.terminal.specs.Conditions.{kind_in, cursor_in, nodes_in, added_in, To
 
 -- ---- the bytes of an answer
 
-laid_long : (w : Layout) (r : Reading (Maybe Operand)) (v : Maybe Operand) → length (answer_laid w (given w (result_of r v))) ≡ answer_bytes w
+laid_long : (w : Layout) (r : Reading (Option Operand)) (v : Option Operand) → length (answer_laid w (given w (Ok (result_of r v)))) ≡ answer_bytes w
 unfolding answer_laid given result_of low_first
-laid_long w r (some x) =
-    simp length-append (omega (arith, length_head w 0 r.cursor (size_m (some x)) (length r.raised), length_bytes w (record_of x), answer_bytes_lem w))
-laid_long w r none = simp (length-append, length-replicate) (omega (arith, length_head w 1 r.cursor 0 (length r.raised), answer_bytes_lem w))
+laid_long w r (Some x) =
+    simp length-append (omega (arith, length_head w 0 r.cursor (size_m (Some x)) (length r.raised), length_bytes w (record_of x), answer_bytes_lem w))
+laid_long w r None = simp (length-append, length-replicate) (omega (arith, length_head w 1 r.cursor 0 (length r.raised), answer_bytes_lem w))
 
 -- the entry's answer, as it stands in a store
-record Stands (w : Layout) (r : Answer) (O : List ℕ) : Type 0 where
+record Stands (w : Layout) (r : Result Answer Refusal) (O : List ℕ) : Type 0 where
   kind : kind_in O ≡ Answers.gap_of r
   cursor : cursor_in w O ≡ Answers.cursor_of r
   nodes : nodes_in w O ≡ Answers.nodes_used r
@@ -73,24 +75,27 @@ unfolding head_laid number number_at low_first numbers_end
 head_stands Layout.Narrow k cursor n d R c m e = record { kind = refl; cursor = omega arith; nodes = omega arith; added = omega arith }
 head_stands Layout.Wide k cursor n d R c m e = record { kind = refl; cursor = omega arith; nodes = omega arith; added = omega arith }
 
-stood : (w : Layout) (r : Reading (Maybe Operand)) (v : Maybe Operand) (R : List ℕ) → r.cursor < numbers_end w → size_m v < numbers_end w → length r.raised < 65536
-    → Stands w (result_of r v) (answer_laid w (given w (result_of r v)) ++ R)
+stood : (w : Layout) (r : Reading (Option Operand)) (v : Option Operand) (R : List ℕ) → r.cursor < numbers_end w → size_m v < numbers_end w → length r.raised < 65536
+    → Stands w (Ok (result_of r v)) (answer_laid w (given w (Ok (result_of r v))) ++ R)
 unfolding answer_laid given result_of size_m
-stood w r (some x) R c n h =
-    let z = head_stands w 0 r.cursor (size_m (some x)) (length r.raised) ((operand_record w x ++ low_first 2 (mask_o x)) ++ R) c n h in
-    rw (append_assoc (head_laid w 0 r.cursor (size_m (some x)) (length r.raised)) (operand_record w x ++ low_first 2 (mask_o x)) R)
+stood w r (Some x) R c n h =
+    let z = head_stands w 0 r.cursor (size_m (Some x)) (length r.raised) ((operand_record w x ++ low_first 2 (mask_o x)) ++ R) c n h in
+    rw (append_assoc (head_laid w 0 r.cursor (size_m (Some x)) (length r.raised)) (operand_record w x ++ low_first 2 (mask_o x)) R)
     (record { kind = z.kind; cursor = z.cursor; nodes = z.nodes; added = z.added })
-stood w r none R c n h =
+stood w r None R c n h =
     let z = head_stands w 1 r.cursor 0 (length r.raised) (replicate (operand_size w + 2) 0 ++ R) c n h in
     rw (append_assoc (head_laid w 1 r.cursor 0 (length r.raised)) (replicate (operand_size w + 2) 0) R)
     (record { kind = z.kind; cursor = z.cursor; nodes = z.nodes; added = z.added })
 
 -- ---- it is the entry's call
 
-given_at : (a : Input) (k : ℕ) → given a.layout (result_at a k) ≡ (outcome_of a k).answer
+given_at : (a : Input) → given a.layout (result_at a (refusal a)) ≡ (outcome_of a (refusal a)).answer
 unfolding given result_at outcome_of
-given_at a zero = given_result a.layout (reading_at a) (reading_at a).value
-given_at a (suc k) = refl
+given_at a = go (refusal a) λ n. refuses_numbered (refusal_number a n)
+  where
+    go : (k : ℕ) → ((k ≡ 0 → ⊥) → RefusalNumbers.number (RefusalNumbers.numbered k) ≡ k) → given a.layout (result_at a k) ≡ (outcome_of a k).answer
+    go zero h = given_result a.layout (reading_at a) (reading_at a).value
+    go (suc k) h = ap E.refused (h (λ e. omega arith))
 
 exported_is : (a : Input) (O : List ℕ) → answer_bytes a.layout ≤ length O → exported a O ≡ answered a.layout (outcome a) O
 unfolding exported
@@ -102,7 +107,7 @@ pub entry_kept : (a : Input) (O : List ℕ) → answer_bytes a.layout ≤ length
 unfolding answered outcome
 entry_kept a O room =
     let e = exported_is a O room in
-    record { answer = given_at a (refusal a); number = ap answer_number (given_at a (refusal a)) ∙ outcome_number_lem a; nodes = ap (λ x. x.nodes) e; diagnostics = ap (λ x. x.diagnostics) e; value = refl }
+    record { answer = given_at a; number = ap answer_number (given_at a) ∙ outcome_number_lem a; nodes = ap (λ x. x.nodes) e; diagnostics = ap (λ x. x.diagnostics) e; value = refl }
 
 -- ---- of a valid input, with room for the answer
 
@@ -110,12 +115,12 @@ module _ (a : Input) (O : List ℕ) (v : Valid a) (room : answer_bytes a.layout 
   abbrev w : Layout
   w = a.layout
 
-  abbrev s : Reading (Maybe Operand)
+  abbrev s : Reading (Option Operand)
   s = reading_at a
 
   -- the entry's answer
-  abbrev r : Answer
-  r = result_of s s.value
+  abbrev r : Result Answer Refusal
+  r = Ok (result_of s s.value)
 
   abbrev N' : List ℕ
   N' = (exported a O).nodes
@@ -167,12 +172,12 @@ module _ (a : Input) (O : List ℕ) (v : Valid a) (room : answer_bytes a.layout 
   pub never_silent : (k : Token) (x : List ℕ) → place_of a a.start ≡ stands k x
       → ((j : ℕ) (t : Token) (y : List ℕ) → a.start ≤ j → place_of a j ≡ stands t y → eqb t.kind Kinds.error ≡ false)
       → kind_in O' ≡ no_operand_number → 0 < added_in w O'
-  never_silent k x here quiet e = rw there.added (go r (sym there.kind ∙ e) λ m. Answers.never_silent a N' D' r promise v k x here quiet m)
+  unfolding result_of
+  never_silent k x here quiet e = rw there.added (Answers.never_silent a N' D' r promise v k x here quiet (result_of s s.value) refl (none_read s.value (sym there.kind ∙ e)))
     where
-      go : (q : Answer) → Answers.gap_of q ≡ 1 → ((m : Missed) → q ≡ Answer.NoOperand m → 0 < m.diagnostics) → 0 < Answers.diagnostics_added q
-      go (Answer.Operand y) f h = absurd (omega arith)
-      go (Answer.NoOperand m) f h = h m refl
-      go (Answer.Refused n) f h = absurd (omega arith)
+      none_read : (v : Option Operand) → Answers.gap_of (Ok (result_of s v)) ≡ 1 → (result_of s v).operand ≡ None
+      none_read (Some x) f = absurd (omega arith)
+      none_read None f = refl
 
   -- "A reading adds at most twice its consumed tokens plus one."
   pub diagnostics_bound : added_in w O' + 2 * a.start ≤ 2 * cursor_in w O' + 1
@@ -218,8 +223,8 @@ module _ (a : Input) (O : List ℕ) (v : Valid a) (room : answer_bytes a.layout 
   -- the operand y up to the place j, its nodes, and no diagnostic: the number, the answer's bytes and both stores
   pub record Returns (y : Operand) (j : ℕ) : Type 0 where
     pub number : (exported a O).number ≡ 0
-    pub answer : take (answer_bytes w) O' ≡ head_laid w operand_number j (size_m (some y)) 0 ++ (operand_record w y ++ low_first 2 (mask_o y))
-    pub nodes : N' ≡ nodes_after w (some y) a.nodes
+    pub answer : take (answer_bytes w) O' ≡ head_laid w operand_number j (size_m (Some y)) 0 ++ (operand_record w y ++ low_first 2 (mask_o y))
+    pub nodes : N' ≡ nodes_after w (Some y) a.nodes
     pub diagnostics : D' ≡ a.diagnostics
 
   returned : {y : Operand} {j : ℕ} → Answered.Returns a N' D' r y j → Returns y j
@@ -247,25 +252,22 @@ module _ (a : Input) (O : List ℕ) (v : Valid a) (room : answer_bytes a.layout 
       record { operand = g.operand; returns = returned g.returns; spelled = g.spelled }
 
   pub answered_is_spelled : kind_in O' ≡ operand_number → added_in w O' ≡ 0 → Unerring (place_of a) a.start (cursor_in w O') → Spelt
-  answered_is_spelled k d u = go r refl (Answers.total a N' D' r promise)
+  answered_is_spelled k d u = go (Answers.total a N' D' r promise)
     where
-      go : (q : Answer) → r ≡ q → Answers.Total a N' D' q → Spelt
-      go (Answer.Operand x) e t =
-          let c : cursor_in w O' ≡ x.cursor = there.cursor ∙ ap Answers.cursor_of e in
-          spelt c (Spellings.answered_is_spelled a N' D' r promise v x e (sym (there.added ∙ ap Answers.diagnostics_added e) ∙ d) (rw c at u))
-      go (Answer.NoOperand x) e t = absurd (omega (arith, there.kind ∙ ap Answers.gap_of e))
-      go (Answer.Refused n) e (Answers.Total.refused _ f known x y) = absurd (omega (arith, f, v, refuses_bounds known))
+      go : Answers.Total a N' D' r → Spelt
+      go (Answers.Total.operand x o e _) = spelt there.cursor (Spellings.answered_is_spelled a N' D' r promise v x o refl e (sym there.added ∙ d) (rw there.cursor at u))
+      go (Answers.Total.no_operand x e n _) = absurd (omega (arith, there.kind, ap Answers.gap_read e))
 
 pub total : (a : Input) (O : List ℕ) → Total a O (exported a O)
 unfolding result_at
 total a O = go (ltb (length O) (answer_bytes a.layout)) refl
   where
-    roomy : (room : answer_bytes a.layout ≤ length O) (q : Answer) → result_at a (refusal a) ≡ q → Answers.Total a (exported a O).nodes (exported a O).diagnostics q → Total a O (exported a O)
-    roomy room (Answer.Operand x) e (Answers.Total.operand _ v) =
-        operand v room (number_roomy a O room ∙ v) ((there a O v room).kind ∙ ap (λ k. Answers.gap_of (result_at a k)) (sym v) ∙ ap Answers.gap_of e)
-    roomy room (Answer.NoOperand x) e (Answers.Total.no_operand _ v) =
-        no_operand v room (number_roomy a O room ∙ v) ((there a O v room).kind ∙ ap (λ k. Answers.gap_of (result_at a k)) (sym v) ∙ ap Answers.gap_of e)
-    roomy room (Answer.Refused n) e (Answers.Total.refused _ f known x y) =
+    roomy : (room : answer_bytes a.layout ≤ length O) (q : Result Answer Refusal) → result_at a (refusal a) ≡ q → Answers.Total a (exported a O).nodes (exported a O).diagnostics q → Total a O (exported a O)
+    roomy room (Ok x) e (Answers.Total.operand _ o f v) =
+        operand v room (number_roomy a O room ∙ v) ((there a O v room).kind ∙ ap (λ k. Answers.gap_of (result_at a k)) (sym v) ∙ ap Answers.gap_of e ∙ ap Answers.gap_read f)
+    roomy room (Ok x) e (Answers.Total.no_operand _ f n v) =
+        no_operand v room (number_roomy a O room ∙ v) ((there a O v room).kind ∙ ap (λ k. Answers.gap_of (result_at a k)) (sym v) ∙ ap Answers.gap_of e ∙ ap Answers.gap_read f)
+    roomy room (Err k) e (Answers.Total.refused _ f known x y) =
         let m = number_roomy a O room in
         refused room m (rw (m, ← f) known) (stays a O (omega (arith, m, f, refuses_bounds known)))
 
@@ -352,7 +354,7 @@ same_in_both a b O P ra rb g s t =
       number = number_roomy a O ra ∙ refusal_same a b g s t ∙ sym (number_roomy b P rb);
       answer = result_at a (refusal a);
       answers = (
-        ap (λ x. x.out) (exported_is a O ra) ∙ ap (λ x. out_after a.layout x O) (sym (given_at a (refusal a))),
-        ap (λ x. x.out) (exported_is b P rb) ∙ ap (λ x. out_after b.layout x P) (sym (given_at b (refusal b))) ∙ ap (λ x. out_after b.layout (given b.layout x) P) (sym e),
+        ap (λ x. x.out) (exported_is a O ra) ∙ ap (λ x. out_after a.layout x O) (sym (given_at a)),
+        ap (λ x. x.out) (exported_is b P rb) ∙ ap (λ x. out_after b.layout x P) (sym (given_at b)) ∙ ap (λ x. out_after b.layout (given b.layout x) P) (sym e),
       );
     }

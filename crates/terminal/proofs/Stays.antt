@@ -1,11 +1,11 @@
 -- "It returns its number; all lent bytes stay.": so does the exported call, and of all three stores.
 -- Assumes nothing.
-use Rattle.std.specs.Prelude.{◌≡◌, refl, Bool, true, false, List, [], ℕ, zero, suc, ◌≤◌, ◌<◌, ltb, length}
+use Rattle.std.specs.Prelude.{◌≡◌, refl, Bool, true, false, List, [], ℕ, zero, suc, ◌≤◌, ◌<◌, ltb, length, Option, Some, None}
 use Rattle.std.proofs.Common.{ap, arith, lt-ltb, le-ltb}
 use Rattle.names.specs.Choice.{pick}
 use Rattle.records.specs.Stores.{written}
 use Rattle.records.specs.Written.{written_fits}
-use Rattle.operand.specs.Operands.{Operand, Maybe, some, none}
+use Rattle.operand.specs.Operands.{Operand}
 use Rattle.expressions.specs.Reader.{Reading}
 use Rattle.operand.specs.declared.layouts.Layout.{Layout}
 use Rattle.operand.specs.Entry.{Input, reading_at, refusal, answer_of, outcome, outcome_of}
@@ -14,10 +14,10 @@ use Rattle.terminal.specs.Exported.{Exported, told, number_of, answer_laid, out_
 pub written_nothing : (O : List ℕ) → written O 0 [] ≡ O
 written_nothing O = written_fits O 0 [] (omega arith)
 
-none_refused : (w : Layout) (r : Reading (Maybe Operand)) (v : Maybe Operand) → number_of (answer_of w r v) ≡ 0
+none_refused : (w : Layout) (r : Reading (Option Operand)) (v : Option Operand) → number_of (answer_of w r v) ≡ 0
 unfolding number_of answer_of
-none_refused w r (some x) = refl
-none_refused w r none = refl
+none_refused w r (Some x) = refl
+none_refused w r None = refl
 
 number_at : (a : Input) (k : ℕ) → number_of (outcome_of a k).answer ≡ k
 unfolding number_of outcome_of

@@ -1,7 +1,7 @@
 -- The buyer's conditions, of what the exported call returns and writes. They follow from the entry's (layout `Answers`, spelling `Answers`), as the number
 -- and the bytes are its answer. Words in quotes are document 01's.
 -- Assumes nothing.
-use Rattle.std.specs.Prelude.{◌≡◌, List, ℕ, ◌+◌, ◌*◌, ◌≤◌, ◌<◌, length, take, get_or}
+use Rattle.std.specs.Prelude.{◌≡◌, List, ℕ, ◌+◌, ◌*◌, ◌≤◌, ◌<◌, length, take, get_or, Result}
 use Rattle.std.proofs.Math.ListN.{drop}
 use Rattle.names.specs.Places.{Place}
 use Rattle.operand.specs.declared.layouts.Layout.{Layout}
@@ -10,6 +10,7 @@ use Rattle.operand.specs.Layout.{operand_number, no_operand_number}
 use Rattle.operand.specs.Entry.{Input, refusal}
 use Rattle.operand.specs.Conditions.{Valid, Refuses, record_at, SameButPlus}
 use Rattle.layout.specs.Promise.{given}
+use Rattle.operand.specs.declared.refusals.Refusal.{Refusal}
 use Rattle.layout.specs.declared.answer.Answer.{Answer}
 use Rattle.terminal.specs.Exported.{Exported, told, out_after, answer_bytes, short_answer, exported}
 
@@ -68,5 +69,5 @@ pub record SameBytesButPlus (w : Place) (a b : Input) (O P : List ℕ) : Type 0 
 -- in the layout's bytes
 pub record OneAnswer (a b : Input) (O P : List ℕ) : Type 0 where
   pub number : (exported a O).number ≡ (exported b P).number
-  pub answer : Answer
+  pub answer : Result Answer Refusal
   pub answers : ((exported a O).out ≡ out_after a.layout (given a.layout answer) O) × ((exported b P).out ≡ out_after b.layout (given b.layout answer) P)

@@ -2,22 +2,18 @@
 ghost use Rattle.std.specs.Prelude.{◌≡◌, ◌≤◌, length};
 ghost use Rattle.operand.specs.Entry.{call};
 ghost use Rattle.operand.specs.declared.layouts.Layout.TheVariants as layouts;
-ghost use Rattle.layout.specs.declared.answer.Answer.TheVariants as answers;
-ghost use Rattle.terminal.specs.Exported.{answer_bytes, exported, told};
-ghost use Rattle.terminal.specs.Call.{AnswerPut};
+ghost use Rattle.layout.specs.Promise.{given};
+ghost use Rattle.terminal.specs.Exported.{answer_bytes, exported, out_after, told};
 
 use entry::parse_operand;
-use layout::{
-    Answer, Found, Missed, NO_OPERAND, OPERAND, head_size, write, write_head, write_operand,
-};
+use layout::{Answer, NO_OPERAND, OPERAND, head_size, write, write_head, write_operand};
 use operand::Layout;
-use operand::layouts::operand_size;
 
 // The number of the refusal of a store that is too short for an answer: the library's own.
 const SHORT_ANSWER: u8 = 255;
 
 // Reads the operand that begins at the token `start`, with at most `limit` terms open in each other, and writes the answer into `out`.
-// Returns 0, or the number of a refusal, which writes nothing.
+// Returns 0, or the number of a refusal, which writes nothing. Parameters and no struct: the call as C's interface has it.
 pub fn sagdrif_parse_operand(
     line: &[u8],
     tokens: &[u8],
@@ -45,7 +41,7 @@ pub fn sagdrif_parse_operand(
     )
 }
 
-// The same in the wide layout.
+// The same in the wide layout: the C interface has a function for each.
 pub fn sagdrif_parse_operand_wide(
     line: &[u8],
     tokens: &[u8],
@@ -73,7 +69,7 @@ pub fn sagdrif_parse_operand_wide(
     )
 }
 
-// The bytes of an answer.
+// The bytes of an answer. A match, as in `Layout`: the layout is a value of the call.
 fn answer_bytes(layout: Layout) -> usize
     ensures { result ≡ answer_bytes layout }
 {
@@ -100,7 +96,7 @@ fn answer(
     if out.len() < answer_bytes(layout) {
         return SHORT_ANSWER;
     }
-    let r = parse_operand(
+    match parse_operand(
         layout,
         line,
         tokens,
@@ -110,36 +106,33 @@ fn answer(
         nodes,
         diagnostics,
         used,
-    );
-    match r {
-        Answer::Operand(x) => put_found(layout, out, x),
-        Answer::NoOperand(x) => put_missed(layout, out, x),
-        Answer::Refused(k) => k,
+    ) {
+        Ok(x) => {
+            put_answer(layout, out, x);
+            0
+        }
+        Err(refusal) => refusal.number(),
     }
 }
 
-fn put_found(layout: Layout, out: &mut [u8], x: Found) -> u8
-    requires { answer_bytes layout ≤ length out.old }
-    ensures { AnswerPut layout (answers.Operand x) out.old out.new result }
-{
-    let operand = x.operand;
-    let m = operand.mask;
-    let mask = [(m % 256) as u8, (m / 256 % 256) as u8];
-    let head = head_size(layout);
-    write_head(layout, OPERAND, x.cursor, x.nodes, x.diagnostics, out, 0);
-    write_operand(layout, operand, out, head);
-    write(out, head + operand_size(layout), &mask);
-    0
-}
-
 // Without an operand its bytes and the mask are 0.
-fn put_missed(layout: Layout, out: &mut [u8], x: Missed) -> u8
+fn put_answer(layout: Layout, out: &mut [u8], x: Answer)
     requires { answer_bytes layout ≤ length out.old }
-    ensures { AnswerPut layout (answers.NoOperand x) out.old out.new result }
+    ensures { out.new ≡ out_after layout (given layout (Ok x)) out.old }
 {
-    let zeros: [u8; 32] = [0; 32];
-    let n = operand_size(layout) + 2;
-    write_head(layout, NO_OPERAND, x.cursor, 0, x.diagnostics, out, 0);
-    write(out, head_size(layout), &zeros[..n]);
-    0
+    let head = head_size(layout);
+    let size = layout.operand_size();
+    match x.operand {
+        Some(operand) => {
+            let mask = operand.mask.to_le_bytes();
+            write_head(layout, OPERAND, x.cursor, x.nodes, x.diagnostics, out, 0);
+            write_operand(layout, operand, out, head);
+            write(out, head + size, &[mask[0], mask[1]]);
+        }
+        None => {
+            let zeros = [0u8; 32];
+            write_head(layout, NO_OPERAND, x.cursor, 0, x.diagnostics, out, 0);
+            write(out, head, &zeros[..size + 2]);
+        }
+    }
 }

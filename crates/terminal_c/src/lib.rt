@@ -35,7 +35,7 @@ pub extern "C" fn sagdrif_parse_operand(
     )
 }
 
-// The same in the wide layout.
+// The same in the wide layout: the C interface has a function for each.
 #[unsafe(no_mangle)]
 pub extern "C" fn sagdrif_parse_operand_wide(
     line: &[u8],

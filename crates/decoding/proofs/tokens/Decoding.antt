@@ -1,40 +1,32 @@
 -- Tokens decoded one behind the other.
 -- Assumes nothing.
+use Rattle.std.proofs.Common.{Some, None}
 use mathlib.Core.Path.{◌≡◌, refl, sym, ◌∙◌, ap, ap₂}
-use mathlib.Core.Bool.{Bool, true, false}
+use mathlib.Core.Bool.{Bool, true, false, ◌&&◌}
 use mathlib.Core.List.{List, [], ◌∷◌, ◌++◌}
 use Prim.Native.Nat.{ℕ, zero, suc, ◌+◌, ◌*◌, ◌/◌, ◌≤◌, ◌<◌}
-use native.Mathlib.Nat.{add-zero}
 use native.Mathlib.Omega.{arith}
 use borrow.Author.Tests.{leb-true, le-leb, lt-leb}
 use lib.Dec.{leb}
-use lib.ListN.{length, take, drop, get_or, set}
-use lib.Seq.{length-take-le, take-add, paste, paste-zero}
+use lib.ListN.{length, take, drop, get_or}
+use lib.Seq.{length-take-le, take-add}
 use Rattle.names.specs.Choice.{pick, both}
 use Rattle.names.specs.Laws.{both_true}
 use Rattle.names.specs.Tokens.{count, token_from, token_at}
 use Rattle.names.specs.declared.tokens.Token.{Token}
-use Rattle.names.specs.declared.tokens.Peeked.TheVariants.{Is, End}
 use Rattle.records.specs.Stores.{written}
-use Rattle.records.specs.Written.{written_fits, written_take, written_more, written_not, length_written, paste_on, paste_all}
+use Rattle.records.specs.Written.{written_fits, written_take, written_more, written_not, length_written}
 use Rattle.operand.specs.declared.layouts.Layout.{Layout}
 use Rattle.operand.specs.Layouts.{joined, joined_tokens, token_numbers}
+use Rattle.operand.specs.RefusalNumbers
 use Rattle.operand.specs.Entry.{good_token, good_tokens}
 use Rattle.operand.specs.Listed.{token_below, four, tokens_end, tokens_from}
 use Rattle.decoding.specs.Tokens.{decodes, decoded, Decoded}
 
--- four stores, one behind the other
-pub four_written : (M : List ℕ) (p a b c d : ℕ) → p + 4 ≤ length M
-    → set (set (set (set M p a) (p + 1) b) (p + 2) c) (p + 3) d ≡ written M p (a ∷ b ∷ c ∷ d ∷ [])
-four_written M p a b c d h =
-    let s : List ℕ = a ∷ b ∷ c ∷ d ∷ [] in
-    let none : M ≡ paste M p s 0 = paste-zero M p s in
-    let one : set M p a ≡ paste M p s 1 = ap₂ (λ l k. set l k a) none (sym (add-zero p)) ∙ paste_on M p s 0 (omega arith) (omega arith) in
-    ap (λ l. set (set (set l (p + 1) b) (p + 2) c) (p + 3) d) one
-    ∙ ap (λ l. set (set l (p + 2) c) (p + 3) d) (paste_on M p s 1 (omega arith) (omega arith))
-    ∙ ap (λ l. set l (p + 3) d) (paste_on M p s 2 (omega arith) (omega arith))
-    ∙ paste_on M p s 3 (omega arith) (omega arith)
-    ∙ paste_all M p s 4 (omega arith) refl
+-- the code's and
+pub and_both : (a b : Bool) → (a && b) ≡ both a b
+and_both true b = refl
+and_both false b = refl
 
 both_assoc : (a b c : Bool) → both (both a b) c ≡ both a (both b c)
 both_assoc true b c = refl
@@ -67,32 +59,32 @@ module _ (T M : List ℕ) where
     unfolding decoded
     all_decoded M' i same f = f ∙ ap (λ j. written M 0 (take (4 * j) T)) same ∙ rw is refl
 
-    pub unfit : (L : List ℕ) → length M < 4 * count T → Decoded w L B M M false
+    pub unfit : (L : List ℕ) → length M < 4 * count T → Decoded w L B M M RefusalNumbers.bad_token
     unfolding decodes decoded
     unfit L h = record {
-      good = sym (rw (← is, lt-leb (4 * count T) (length M) h));
+      refusal = sym (rw (← is, lt-leb (4 * count T) (length M) h));
       numbers = rw (← is) (sym (written_not M 0 _ (omega (arith, length-take-le (4 * count T) T (omega arith)))));
     }
 
 -- ---- looked at one behind the other
 
-past : (T : List ℕ) (i : ℕ) → token_at T i ≡ End → count T ≤ i
+past : (T : List ℕ) (i : ℕ) → token_at T i ≡ None → count T ≤ i
 unfolding token_at
 past T i h = go (leb (count T) i) refl h
   where
-    go : (b : Bool) → leb (count T) i ≡ b → pick b End (Is (token_from T i)) ≡ End → count T ≤ i
+    go : (b : Bool) → leb (count T) i ≡ b → pick b None (Some (token_from T i)) ≡ None → count T ≤ i
     go true q g = leb-true (count T) i q
     go false q g = let z : ◌≡◌ {A = ℕ} 0 1 = cc in absurd (omega arith)
 
 module _ (L T : List ℕ) (i : ℕ) where
-  pub one_good : (t : Token) → token_at T i ≡ Is t → (g b r : Bool) (p : ℕ) → b ≡ good_token L p t.kind t.detail t.start t.end → r ≡ both g b
+  pub one_good : (t : Token) → token_at T i ≡ Some t → (g b r : Bool) (p : ℕ) → b ≡ good_token L p t.kind t.detail t.start t.end → r ≡ both g b
       → both r (good_tokens L t.end (drop (4 * (i + 1)) T)) ≡ both g (good_tokens L p (drop (4 * i) T))
   one_good t h g b r p f e =
       ap (λ z. both z (good_tokens L t.end (drop (4 * (i + 1)) T))) e
       ∙ both_assoc g b (good_tokens L t.end (drop (4 * (i + 1)) T))
       ∙ ap (both g) (let w = token_below T i t h in rw (f, ← w.1) (sym (tokens_from L p T i w.0)))
 
-  pub all_good : (g : Bool) (p : ℕ) → token_at T i ≡ End → both g (good_tokens L p (drop (4 * i) T)) ≡ good_tokens L 0 T → g ≡ good_tokens L 0 T
+  pub all_good : (g : Bool) (p : ℕ) → token_at T i ≡ None → both g (good_tokens L p (drop (4 * i) T)) ≡ good_tokens L 0 T → g ≡ good_tokens L 0 T
   all_good g p h e = sym (both_true g) ∙ ap (both g) (sym (tokens_end L p T i (past T i h))) ∙ e
 
 -- a rest that is no whole token is not looked at
@@ -107,7 +99,7 @@ whole L (k ∷ d ∷ s ∷ e ∷ ts) p =
     rw n (ap (both (good_token L p k d s e)) (whole L ts e))
 
 pub all_told : (L T M : List ℕ) (w : Layout) (B : List ℕ) → T ≡ token_numbers w B → 4 * count T ≤ length M → (k : ℕ) → k ≡ 4 * count T → (M' : List ℕ) (r : Bool)
-    → M' ≡ decoded w B M → r ≡ good_tokens L 0 (take k M') → Decoded w L B M M' r
+    → M' ≡ decoded w B M → r ≡ good_tokens L 0 (take k M') → Decoded w L B M M' (pick r 0 RefusalNumbers.bad_token)
 unfolding decodes decoded
 all_told L T M w B is h k all M' r f e =
     let x : List ℕ = take (4 * count T) T in
@@ -115,7 +107,7 @@ all_told L T M w B is h k all M' r f e =
     let n : k ≡ 0 + length x = omega arith in
     let front : take k (written M 0 x) ≡ x = ap (λ j. take j (written M 0 x)) n ∙ written_take M 0 x (omega arith) in
     record {
-      good = e ∙ ap (λ z. good_tokens L 0 (take k z)) (f ∙ rw (← is) refl) ∙ ap (good_tokens L 0) front ∙ whole L T 0 ∙ sym (rw (← is, le-leb (4 * count T) (length M) h));
+      refusal = ap (λ t. pick t 0 RefusalNumbers.bad_token) (e ∙ ap (λ z. good_tokens L 0 (take k z)) (f ∙ rw (← is) refl) ∙ ap (good_tokens L 0) front ∙ whole L T 0 ∙ sym (rw (← is, le-leb (4 * count T) (length M) h)));
       numbers = f;
     }
 

@@ -2,20 +2,20 @@
 -- Assumes nothing.
 use mathlib.Core.Path.{◌≡◌, refl, sym, ◌∙◌, ap, ap₂}
 use mathlib.Core.List.{List}
-use Prim.Native.Nat.{ℕ, ◌-◌, ◌*◌, ◌≤◌}
+use Rattle.std.specs.Prelude.{Ok}
+use Prim.Native.Nat.{ℕ, ◌*◌, ◌≤◌}
 use native.Mathlib.Omega.{arith}
 use lib.ListN.{length, take}
 use Rattle.records.specs.declared.counters.Counters.{Counters}
 use Rattle.expressions.specs.Reader.{Reading}
 use Rattle.names.specs.Tokens.{count}
-use Rattle.operand.specs.Operands.{Operand, Maybe, some, none}
+use Rattle.operand.specs.Operands.{Operand}
 use Rattle.operand.specs.Records.{size_m}
-use Rattle.operand.specs.Forms.{record_of, operand_read}
+use Rattle.operand.specs.Forms.{record_of}
 use Rattle.operand.specs.Entry.{Input, tokens_of, place_of, reading_at, nodes_after, diagnostics_after, answer_number, outcome, outcome_of, outcome_number_lem}
 use Rattle.operand.proofs.Readings.{raised_few}
 use Rattle.operand.specs.Conditions.{Valid}
 use Rattle.operand.proofs.Conditions.{valid_bounds, valid_count, valid_stores, valid_limit, cursor_bounds, nodes_bound, added_within}
-use Rattle.operand.specs.declared.forms.OperandStep.{OperandStep}
 use Rattle.decoding.specs.Tokens.{decoded, tokens_stored}
 use Rattle.layout.specs.Nodes.{nodes_encoded}
 use Rattle.layout.specs.Diagnostics.{diagnostics_encoded}
@@ -24,39 +24,40 @@ use Rattle.layout.specs.Promise.{given, result_of, result_at, given_result, Entr
 use Rattle.layout.specs.declared.answer.Answer.{Answer}
 use Rattle.operand_code.specs.Reading.{OperandAsks, OperandFits, OperandPromise, nodes_alone}
 use Rattle.operand_code.specs.Reading as P
-use Rattle.operand_code.specs.declared.reading.OperandAnswer.{OperandAnswer}
 use Rattle.entry.specs.Call.{StoresAsk, answer_of, AnswerTold}
 use Rattle.entry.proofs.call.Refusals.{whole_list}
+use Rattle.std.specs.Prelude.{Option, Some, None, option_map}
+use Rattle.operand.specs.declared.forms.OperandStep.{OperandStep}
 
 -- what a valid input is read as
 read_so : (a : Input) (N' D' : List ℕ) (r : Answer) → Valid a
     → r ≡ result_of (reading_at a) (reading_at a).value
     → N' ≡ nodes_after a.layout (reading_at a).value a.nodes
     → D' ≡ diagnostics_after a.layout (reading_at a) a.used a.diagnostics
-    → EntryPromise a N' D' r
+    → EntryPromise a N' D' (Ok r)
 unfolding result_at outcome outcome_of
 read_so a N' D' r v h n d =
     let s = reading_at a in
-    let e = ap (given a.layout) h ∙ given_result a.layout s s.value ∙ ap (λ m. (outcome_of a m).answer) (sym v) in
+    let e = ap (λ x. given a.layout (Ok x)) h ∙ given_result a.layout s s.value ∙ ap (λ m. (outcome_of a m).answer) (sym v) in
     record {
       answer = e;
       number = ap answer_number e ∙ outcome_number_lem a;
       nodes = n ∙ ap (λ m. (outcome_of a m).nodes) (sym v);
       diagnostics = d ∙ ap (λ m. (outcome_of a m).diagnostics) (sym v);
-      value = h ∙ ap (result_at a) (sym v);
+      value = ap Ok h ∙ ap (result_at a) (sym v);
     }
 
 -- the counters of a reading
-abbrev counted : Reading (Maybe Operand) → Counters
+abbrev counted : Reading (Option Operand) → Counters
 counted s = record { at = s.cursor; end = s.end; nodes = size_m s.value; diagnostics = length s.raised }
 
-answer_is : (s : Reading (Maybe Operand)) (v : Maybe Operand) → s.value ≡ v → answer_of (operand_read v) (counted s) ≡ result_of s v
-unfolding answer_of operand_read result_of
-answer_is s (some x) e = ap (λ v. Answer.Operand (record { operand = record_of x; cursor = s.cursor; nodes = size_m v; diagnostics = length s.raised })) e
-answer_is s none e = refl
+answer_is : (s : Reading (Option Operand)) (v : Option Operand) → s.value ≡ v → answer_of (option_map record_of v) (counted s) ≡ result_of s v
+unfolding answer_of result_of
+answer_is s (Some x) e = rw e refl
+answer_is s None e = rw e refl
 
-module _ (a : Input) (M M' N D N₁ D₁ : List ℕ) (v : Valid a) (asks : StoresAsk a.layout a.line a.tokens M N D) (list : M' ≡ decoded a.layout a.tokens M) where
-  abbrev s : Reading (Maybe Operand)
+module _ (a : Input) (M M' N D N₁ D₁ : List ℕ) (v : Valid a) (asks : StoresAsk a.layout a.line a.tokens (length M) (length N) (length D)) (list : M' ≡ decoded a.layout a.tokens M) where
+  abbrev s : Reading (Option Operand)
   s = reading_at a
 
   -- so many numbers the list has
@@ -64,10 +65,9 @@ module _ (a : Input) (M M' N D N₁ D₁ : List ℕ) (v : Valid a) (asks : Store
   long = 4 * count (tokens_of a)
 
   -- they stand at the store's front
-  tokens_are : take (long - 0) M' ≡ tokens_of a
+  tokens_are : take long M' ≡ tokens_of a
   tokens_are =
-      let n : long - 0 ≡ long = omega arith in
-      ap₂ take n list ∙ tokens_stored a.layout a.tokens M (whole_list a.layout _ _ asks.passed).0 asks.tokens
+      ap (take long) list ∙ tokens_stored a.layout a.tokens M (whole_list a.layout _ _ asks.passed).0 asks.tokens
 
   lim : 1 ≤ a.limit
   lim = (valid_limit a v).0
@@ -78,26 +78,26 @@ module _ (a : Input) (M M' N D N₁ D₁ : List ℕ) (v : Valid a) (asks : Store
   raised_room : 10 * length s.raised ≤ length D
   raised_room = omega (arith, raised_few a.limit lim a.mark (place_of a) a.start, cursor_bounds a lim v, asks.diagnostics)
 
-  module _ (end : ℕ) (whole : end ≡ long) (r : OperandAnswer) (told : OperandPromise a.line (take (end - 0) M') N D N₁ D₁ a.start a.mark a.limit r) where
+  module _ (end : ℕ) (whole : end ≡ long) (r : Option OperandStep) (told : OperandPromise a.line (take end M') N D N₁ D₁ a.start a.mark a.limit r) where
     of_list : OperandPromise a.line (tokens_of a) N D N₁ D₁ a.start a.mark a.limit r
-    of_list = rw (ap (λ n. take (n - 0) M') whole ∙ tokens_are) at told
+    of_list = rw (ap (λ n. take n M') whole ∙ tokens_are) at told
 
     -- there is room, so that it is read
-    pub never_unfit : r ≡ OperandAnswer.Unfit → ⊥
+    pub never_unfit : r ≡ None → ⊥
     never_unfit e = go of_list
       where
         go : OperandPromise a.line (tokens_of a) N D N₁ D₁ a.start a.mark a.limit r → ⊥
         go (P.OperandPromise.read t f q h) = let z : ◌≡◌ {A = ℕ} 0 1 = cc in omega arith
         go (P.OperandPromise.unread f q n d) = q room
 
-    fits : (t : OperandStep) → r ≡ OperandAnswer.Is t → OperandFits s N D N₁ D₁ t
+    fits : (t : OperandStep) → r ≡ Some t → OperandFits s N D N₁ D₁ t
     fits t e = go of_list
       where
         go : OperandPromise a.line (tokens_of a) N D N₁ D₁ a.start a.mark a.limit r → OperandFits s N D N₁ D₁ t
         go (P.OperandPromise.read u f q h) = let k : u ≡ t = cc in rw (← k) h
         go (P.OperandPromise.unread f q n d) = absurd (q room)
 
-    pub is_read : (t : OperandStep) → r ≡ OperandAnswer.Is t → (N' D' : List ℕ) (x : Answer) → AnswerTold a.layout t N₁ D₁ a.nodes a.diagnostics N' D' a.used x → EntryPromise a N' D' x
+    pub is_read : (t : OperandStep) → r ≡ Some t → (N' D' : List ℕ) (x : Answer) → AnswerTold a.layout t N₁ D₁ a.nodes a.diagnostics N' D' a.used x → EntryPromise a N' D' (Ok x)
     unfolding nodes_alone diagnostics_after
     is_read t e N' D' x w =
         let f = fits t e in

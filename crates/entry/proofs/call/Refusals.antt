@@ -3,7 +3,8 @@
 use mathlib.Core.Path.{◌≡◌, refl, sym, ◌∙◌, ap}
 use mathlib.Core.Bool.{Bool, true, false, not}
 use mathlib.Core.List.{List}
-use Prim.Native.Nat.{ℕ, zero, suc, ◌*◌, ◌/◌, ◌%◌, ◌≤◌}
+use Rattle.std.specs.Prelude.{Err}
+use Prim.Native.Nat.{ℕ, suc, ◌+◌, ◌*◌, ◌/◌, ◌%◌, ◌≤◌}
 use native.Mathlib.Omega.{arith}
 use borrow.Author.Tests.{eqb-true, ltb-false, not-false, le-leb}
 use lib.Dec.{eqb, ltb}
@@ -15,11 +16,13 @@ use Rattle.operand.specs.RefusalNumbers
 use Rattle.operand.specs.declared.layouts.Layout.{Layout}
 use Rattle.operand.specs.Layouts.{token_size, token_numbers, numbers_whole, numbers_count, longest_line, most_tokens, most_tokens_lem}
 use Rattle.operand.specs.Entry.{Input, tokens_of, foreign, good_tokens, line_and_list, start_stores_and_limit, first_of, refusal, answer_number, outcome, outcome_of, outcome_number_lem}
+use Rattle.operand.specs.Entry as E
+use Rattle.operand.specs.declared.refusals.Refusal.{Refusal}
 use Rattle.operand.specs.Conditions.{Valid}
 use Rattle.decoding.specs.Tokens.{decodes, Decoded}
 use Rattle.refusals.specs.Refusals.{or_else, refusal_is}
+use Rattle.entry.specs.Call.{StoresAsk}
 use Rattle.layout.specs.Promise.{given, result_at, EntryPromise}
-use Rattle.layout.specs.declared.answer.Answer.{Answer}
 
 -- ---- a line and a list that are not refused
 
@@ -40,26 +43,37 @@ whole_list w L T h =
     go false false true e = absurd (omega arith)
     go false false false e = refl
 
+-- ---- stores with room for a list of at most n tokens
+
+pub asked : (w : Layout) (L T : List ℕ) (n : ℕ) → first_of (line_and_list w L T) ≡ 0 → count (token_numbers w T) ≤ n → StoresAsk w L T (4 * n) (10 * n) (10 * (n + 1))
+asked w L T n passed few = record { passed = passed; tokens = omega arith; nodes = omega arith; diagnostics = omega arith }
+
+pub sizes : (n : ℕ) → n ≤ 1023 → (4 * n ≤ 4092) × (10 * n ≤ 10230) × (10 * (n + 1) ≤ 10240)
+sizes n h = (omega arith, omega arith, omega arith)
+
 -- with room for all, the tokens are good where they are decoded
-pub decoded_good : (w : Layout) (L T M M' : List ℕ) (r b : Bool) → Decoded w L T M M' r → 4 * count (token_numbers w T) ≤ length M → r ≡ b → good_tokens L 0 (token_numbers w T) ≡ b
+pub decoded_good : (w : Layout) (L T M M' : List ℕ) (n : ℕ) → Decoded w L T M M' n → 4 * count (token_numbers w T) ≤ length M
+    → n ≡ pick (good_tokens L 0 (token_numbers w T)) 0 RefusalNumbers.bad_token
 unfolding decodes
-decoded_good w L T M M' r b d room e =
+decoded_good w L T M M' n d room =
     let X = token_numbers w T in
-    sym (d.good ∙ ap (λ t. both t (good_tokens L 0 X)) (le-leb (4 * count X) (length M) room)) ∙ e
+    d.refusal ∙ ap (λ t. pick (both t (good_tokens L 0 X)) 0 RefusalNumbers.bad_token) (le-leb (4 * count X) (length M) room)
 
 -- ---- the refusals
 
 module _ (a : Input) where
-  refused : (n : ℕ) → refusal a ≡ n → (n ≡ 0 → ⊥) → EntryPromise a a.nodes a.diagnostics (Answer.Refused n)
+  refused : (k : Refusal) → refusal a ≡ RefusalNumbers.number k → EntryPromise a a.nodes a.diagnostics (Err k)
   unfolding given result_at outcome outcome_of
-  refused zero e h = absurd (h refl)
-  refused (suc k) e h = record {
-    answer = sym (ap (λ m. (outcome_of a m).answer) e);
-    number = sym (ap (λ m. answer_number (outcome_of a m).answer) e) ∙ outcome_number_lem a;
-    nodes = sym (ap (λ m. (outcome_of a m).nodes) e);
-    diagnostics = sym (ap (λ m. (outcome_of a m).diagnostics) e);
-    value = sym (ap (result_at a) e);
-  }
+  refused k e =
+      let n = RefusalNumbers.number_more k in
+      let f : refusal a ≡ suc n.0 = e ∙ n.1 in
+      record {
+        answer = ap E.refused n.1 ∙ sym (ap (λ m. (outcome_of a m).answer) f);
+        number = sym (ap answer_number (ap (λ m. (outcome_of a m).answer) f ∙ ap E.refused (sym n.1))) ∙ outcome_number_lem a;
+        nodes = sym (ap (λ m. (outcome_of a m).nodes) f);
+        diagnostics = sym (ap (λ m. (outcome_of a m).diagnostics) f);
+        value = sym (ap (result_at a) f ∙ ap (λ m. Err (RefusalNumbers.numbered m)) (sym n.1) ∙ ap Err (RefusalNumbers.number_numbered k));
+      }
 
   abbrev first : ℕ
   first = first_of (line_and_list a.layout a.line a.tokens)
@@ -67,22 +81,29 @@ module _ (a : Input) where
   abbrev last : ℕ
   last = first_of (start_stores_and_limit a.layout (count (tokens_of a)) a.start a.limit (length a.nodes) (length a.diagnostics) a.used)
 
-  pub line_refused : {n : ℕ} → n ≡ first → (n ≡ 0 → ⊥) → EntryPromise a a.nodes a.diagnostics (Answer.Refused n)
-  line_refused {n} e h = refused n (refusal_is a ∙ rw (← e) (go n (pick (good_tokens a.line 0 (tokens_of a)) last RefusalNumbers.bad_token) h)) h
-    where
-      go : (n k : ℕ) → (n ≡ 0 → ⊥) → or_else n k ≡ n
-      go zero k h = absurd (h refl)
-      go (suc n) k h = refl
+  -- the number of the refusal of a token
+  abbrev second : ℕ
+  second = pick (good_tokens a.line 0 (tokens_of a)) 0 RefusalNumbers.bad_token
+
+  or_else_first : (k : Refusal) (n m : ℕ) → n ≡ RefusalNumbers.number k → or_else n m ≡ RefusalNumbers.number k
+  or_else_first k n m e = let more = RefusalNumbers.number_more k in rw (e, more.1) refl
+
+  pub line_refused : {k : Refusal} → RefusalNumbers.number k ≡ first → EntryPromise a a.nodes a.diagnostics (Err k)
+  line_refused {k} e = refused k (refusal_is a ∙ or_else_first k first _ (sym e))
 
   module _ (passed : first ≡ 0) where
-    by : (b : Bool) → good_tokens a.line 0 (tokens_of a) ≡ b → refusal a ≡ pick b last RefusalNumbers.bad_token
-    by b e = refusal_is a ∙ rw (passed, e)
+    by : refusal a ≡ or_else second last
+    by = refusal_is a ∙ rw passed (go (good_tokens a.line 0 (tokens_of a)))
+      where
+        go : (b : Bool) → pick b last RefusalNumbers.bad_token ≡ or_else (pick b 0 RefusalNumbers.bad_token) last
+        go true = refl
+        go false = refl
 
-    pub token_refused : good_tokens a.line 0 (tokens_of a) ≡ false → EntryPromise a a.nodes a.diagnostics (Answer.Refused RefusalNumbers.bad_token)
-    token_refused e = refused RefusalNumbers.bad_token (by false e) (λ z. omega arith)
+    pub token_refused : {k : Refusal} → RefusalNumbers.number k ≡ second → EntryPromise a a.nodes a.diagnostics (Err k)
+    token_refused {k} e = refused k (by ∙ or_else_first k second last (sym e))
 
-    pub store_refused : {n : ℕ} → good_tokens a.line 0 (tokens_of a) ≡ true → n ≡ last → (n ≡ 0 → ⊥) → EntryPromise a a.nodes a.diagnostics (Answer.Refused n)
-    store_refused {n} g e h = refused n (by true g ∙ sym e) h
+    pub store_refused : {k : Refusal} → second ≡ 0 → RefusalNumbers.number k ≡ last → EntryPromise a a.nodes a.diagnostics (Err k)
+    store_refused {k} g e = refused k (by ∙ rw g (sym e))
 
-    pub valid : {n : ℕ} → good_tokens a.line 0 (tokens_of a) ≡ true → n ≡ last → n ≡ 0 → Valid a
-    valid g e h = by true g ∙ sym e ∙ h
+    pub valid : second ≡ 0 → last ≡ 0 → Valid a
+    valid g e = by ∙ rw g e

@@ -1,12 +1,12 @@
 -- Terms, and those of one token.
 -- Assumes nothing.
-use Rattle.std.specs.Prelude.{Bool, true, false, List, ℕ}
+use Rattle.std.specs.Prelude.{Result, Ok, Err, Bool, true, false, List, ℕ}
 use Rattle.names.specs.Kinds
 use Rattle.names.specs.Registers.{reserved}
 use Rattle.names.specs.Numbers.{number_of}
 use Rattle.names.specs.Cases.{value_number}
 use Rattle.names.specs.declared.tokens.Token.{Token}
-use Rattle.names.specs.declared.numbers.Number.{Number}
+use Rattle.names.specs.declared.numbers.NumberError.{NumberError}
 use Rattle.records.specs.Spans.{span_of}
 use Rattle.expressions.specs.Trees.{Expr, number, character_literal, symbol, current_address}
 use Rattle.records.specs.Diagnostics.{number_too_large, register_in_expression}
@@ -18,10 +18,10 @@ pub data Term : Type 0 where
   reported absent : Term
 
 -- `Parser::number`: the value, 0 where it has none
-unfoldable pub valued : Token → Number → Reader ℕ
-valued k (Number.Value v) = answer (value_number (Number.Value v))
-valued k Number.TooLarge = raise (number_too_large (span_of k)) (answer (value_number Number.TooLarge))
-valued k Number.Invalid = answer (value_number Number.Invalid)
+unfoldable pub valued : Token → Result ℕ NumberError → Reader ℕ
+valued k (Ok v) = answer (value_number (Ok v))
+valued k (Err NumberError.TooLarge) = raise (number_too_large (span_of k)) (answer (value_number (Err NumberError.TooLarge)))
+valued k (Err NumberError.Invalid) = answer (value_number (Err NumberError.Invalid))
 
 unfoldable pub named : Token → Bool → Reader Term
 named k true = raise (register_in_expression (span_of k)) (answer reported)

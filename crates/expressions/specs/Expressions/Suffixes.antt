@@ -1,6 +1,6 @@
 -- take_size_suffix.
 -- Assumes nothing.
-use Rattle.std.specs.Prelude.{List, ℕ, leb, length}
+use Rattle.std.specs.Prelude.{Option, Some, None, List, ℕ, leb, length}
 use Rattle.names.specs.Kinds
 use Rattle.names.specs.Sizes.{run_of, size_of}
 use Rattle.names.specs.Cases.{size_number}
@@ -16,9 +16,9 @@ pub data Suffix : Type 0 where
   suffixed : ℕ → Span → Suffix
   bare : Suffix
 
-unfoldable pub known : Token → SizeSuffix → Reader Suffix
-known k (SizeSuffix.Is size) = answer (suffixed (size_number (SizeSuffix.Is size)) (span_of k))
-known k SizeSuffix.Not = raise (unknown_size_suffix (span_of k)) (answer (suffixed (size_number SizeSuffix.Not) (span_of k)))
+unfoldable pub known : Token → Option SizeSuffix → Reader Suffix
+known k (Some size) = answer (suffixed (size_number (Some size)) (span_of k))
+known k None = raise (unknown_size_suffix (span_of k)) (answer (suffixed (size_number None) (span_of k)))
 
 -- a run of two letters or more is a dot inside a name, which began at `from`
 unfoldable pub suffix_run : ℕ → Token → List ℕ → Reader Suffix

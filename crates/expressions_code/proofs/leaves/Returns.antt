@@ -1,6 +1,7 @@
 -- What the terms of one token tell.
 -- Assumes nothing.
-use mathlib.Core.Path.{◌≡◌, refl, sym, ◌∙◌, ap}
+use Rattle.std.specs.Prelude.{Some, None, Result, Ok, Err}
+use mathlib.Core.Path.{◌≡◌, refl, sym, ◌∙◌, ap, subst}
 use mathlib.Core.Bool.{Bool, true, false}
 use mathlib.Core.List.{List, append-nil}
 use Prim.Native.Nat.{ℕ, ◌+◌, ◌*◌, ◌/◌, ◌%◌, ◌<◌}
@@ -12,18 +13,16 @@ use Rattle.names.specs.Kinds
 use Rattle.names.specs.Registers.{reserved}
 use Rattle.names.specs.Tokens.{token_at}
 use Rattle.names.specs.Places.{text_of}
-use Rattle.names.specs.declared.tokens.Peeked.TheVariants as peeked
 use Rattle.names.specs.Numbers.{number_of}
 use Rattle.names.specs.declared.tokens.Token.{Token}
-use Rattle.names.specs.declared.numbers.Number.{Number}
+use Rattle.names.specs.declared.numbers.NumberError.{NumberError}
 use Rattle.records.specs.DiagnosticKinds
 use Rattle.records.specs.Spans.{span_of, empty, no_span}
 use Rattle.expressions.specs.Trees.{Expr, number, character_literal, symbol, current_address, span_e, size}
 use Rattle.records.specs.declared.spans.Span.{Span}
 use Rattle.records.specs.declared.diagnostics.Diagnostic.{Diagnostic}
 use Rattle.records.specs.declared.counters.Counters.{Counters}
-use Rattle.expressions_code.specs.declared.terms.Step.{Step}
-use Rattle.expressions_code.specs.declared.terms.Parsed.TheVariants as parsed
+use Rattle.expressions_code.specs.declared.terms.TermError.TheVariants as errors
 use Rattle.records.specs.Diagnostics.{plain, nesting_too_deep, number_too_large, register_in_expression}
 use Rattle.expressions.specs.Reader.{Reader, answer, raise, ◌>>=◌}
 use Rattle.expressions.specs.Told.{Raised, Told, Same}
@@ -33,7 +32,7 @@ use Rattle.expressions.proofs.Costs.{size_pos}
 use Rattle.records.specs.Nodes.{node_record, words, own}
 use Rattle.expressions.specs.Records.{nodes}
 use Rattle.records.specs.Counters.{stepped, counters_are}
-use Rattle.expressions_code.specs.Terms.{parsed_of, size_t, nodes_t, Held, Said, LeafTold, DeepTold, ReaderTold, TokenTold, DepthTold, Spared}
+use Rattle.expressions_code.specs.Terms.{Parsed, parsed_of, size_t, nodes_t, Held, Said, LeafTold, DeepTold, ReaderTold, TokenTold, DepthTold, Spared}
 
 -- ---- a term without nodes
 
@@ -43,16 +42,16 @@ held_none (read e) z m k = absurd (omega (arith, size_pos e))
 held_none reported z m k = record { total = omega (arith, m); bytes = rw m (k ∙ sym (append-nil _)) }
 held_none absent z m k = record { total = omega (arith, m); bytes = rw m (k ∙ sym (append-nil _)) }
 
-pub deep_raised : {D D' : List ℕ} {c : Counters} {x : Diagnostic} {r : Step} → DeepTold D D' c x r → Raised D D' c x r.counters
-deep_raised {r = r} h = record { counters = counters_are r.counters _ _ _ _ h.at h.end h.same h.push.next; more = h.push.more }
+pub deep_raised : {D D' : List ℕ} {c : Counters} {x : Diagnostic} {v_r : Parsed} {r : Counters} → DeepTold D D' c x v_r r → Raised D D' c x r
+deep_raised {r = r} h = record { counters = counters_are r _ _ _ _ h.at h.end h.same h.push.next; more = h.push.more }
 
 -- a term that has failed
-pub report_told : {L T N D D' : List ℕ} {c : Counters} {x : Diagnostic} {r : Step} → DeepTold D D' c x r → Said (raise x (answer reported)) L T N D N D' c r
+pub report_told : {L T N D D' : List ℕ} {c : Counters} {x : Diagnostic} {v_r : Parsed} {r : Counters} → DeepTold D D' c x v_r r → Said (raise x (answer reported)) L T N D N D' c v_r r
 unfolding parsed_of size_t
 report_told h = raised (deep_raised h) (answered h.what refl (held_none reported refl h.same refl))
 
 -- nothing is read
-pub absent_told : {L T N D : List ℕ} {c : Counters} → Said (answer absent) L T N D N D c (record { parsed = parsed.Absent; counters = c })
+pub absent_told : {L T N D : List ℕ} {c : Counters} → Said (answer absent) L T N D N D c (Err errors.Absent) c
 unfolding parsed_of size_t
 absent_told = answered refl refl (held_none absent refl refl refl)
 
@@ -70,22 +69,22 @@ own_bytes s a b =
     rw (e₀, d₁, e₁, d₂)
 
 -- the node e
-leaf_told : {L T N N' D : List ℕ} {c : Counters} {r : Step} {kind detail value : ℕ} {s : Span} (e : Expr) → LeafTold N N' c kind detail s value r
-    → nodes c.nodes e ≡ node_record kind detail 65535 65535 s (words 4 value) → span_e e ≡ s → size e ≡ 1 → Said (answer (read e)) L T N D N' D c r
+leaf_told : {L T N N' D : List ℕ} {c : Counters} {v_r : Parsed} {r : Counters} {kind detail value : ℕ} {s : Span} (e : Expr) → LeafTold N N' c kind detail s value v_r r
+    → nodes c.nodes e ≡ node_record kind detail 65535 65535 s (words 4 value) → span_e e ≡ s → size e ≡ 1 → Said (answer (read e)) L T N D N' D c v_r r
 unfolding parsed_of size_t nodes_t
 leaf_told e h b sp one = counted h.at h.end h.seen (answered (rw sp h.what) refl (record { total = rw one h.put.next; bytes = rw b h.put.bytes }))
 
 -- ---- numbers and names
 
 module _ (N D : List ℕ) (c : Counters) (k : Token) (x : List ℕ) where
-  number_is : {n : Number} → number_of k.detail x ≡ n → (valued k n >>= λ v. answer (read (number k.detail v (span_of k)))) ≡ number_term k x
+  number_is : {n : Result ℕ NumberError} → number_of k.detail x ≡ n → (valued k n >>= λ v. answer (read (number k.detail v (span_of k)))) ≡ number_term k x
   unfolding number_term
   number_is e = rw e
 
-  module _ {N' D' : List ℕ} {r : Step} {detail v d : ℕ} {s : Span} where
+  module _ {N' D' : List ℕ} {v_r : Parsed} {r : Counters} {detail v d : ℕ} {s : Span} where
     -- the digits come to n, whose value is v
-    number_leaf : {n : Number} → number_of k.detail x ≡ n → ((L T : List ℕ) → Told (λ z. z) (Same c.nodes) (valued k n) L T D D' c v (record { at = c.at; end = c.end; nodes = c.nodes; diagnostics = d }))
-        → detail ≡ k.detail → s ≡ span_of k → LeafTold N N' (record { at = c.at; end = c.end; nodes = c.nodes; diagnostics = d }) 1 detail s v r → ReaderTold (number_term k x) N D N' D' c r
+    number_leaf : {n : Result ℕ NumberError} → number_of k.detail x ≡ n → ((L T : List ℕ) → Told (λ z. z) (Same c.nodes) (valued k n) L T D D' c v (record { at = c.at; end = c.end; nodes = c.nodes; diagnostics = d }))
+        → detail ≡ k.detail → s ≡ span_of k → LeafTold N N' (record { at = c.at; end = c.end; nodes = c.nodes; diagnostics = d }) 1 detail s v v_r r → ReaderTold (number_term k x) N D N' D' c v_r r
     unfolding nodes span_e size
     number_leaf e t f g h = record {
       told = λ L T. renamed (number_is e) (bound_as (t L T) (leaf_told (number k.detail v (span_of k)) (rw (f, g) at h) refl refl refl));
@@ -93,24 +92,25 @@ module _ (N D : List ℕ) (c : Counters) (k : Token) (x : List ℕ) where
       past = h.put.past;
     }
 
-  pub number_value : {N' : List ℕ} {r : Step} {detail v : ℕ} {s : Span} → number_of k.detail x ≡ Number.Value v → detail ≡ k.detail → s ≡ span_of k
-      → LeafTold N N' c 1 detail s v r → ReaderTold (number_term k x) N D N' D c r
+  pub number_value : {N' : List ℕ} {v_r : Parsed} {r : Counters} {detail v : ℕ} {s : Span} → number_of k.detail x ≡ Ok v → detail ≡ k.detail → s ≡ span_of k
+      → LeafTold N N' c 1 detail s v v_r r → ReaderTold (number_term k x) N D N' D c v_r r
   unfolding valued
   number_value e = number_leaf e λ L T. answered refl refl refl
 
-  pub number_invalid : {N' : List ℕ} {r : Step} {detail : ℕ} {s : Span} → number_of k.detail x ≡ Number.Invalid → detail ≡ k.detail → s ≡ span_of k
-      → LeafTold N N' c 1 detail s 0 r → ReaderTold (number_term k x) N D N' D c r
+  pub number_invalid : {N' : List ℕ} {v_r : Parsed} {r : Counters} {detail : ℕ} {s : Span} → number_of k.detail x ≡ Err NumberError.Invalid → detail ≡ k.detail → s ≡ span_of k
+      → LeafTold N N' c 1 detail s 0 v_r r → ReaderTold (number_term k x) N D N' D c v_r r
   unfolding valued
   number_invalid e = number_leaf e λ L T. answered refl refl refl
 
-  pub number_large : {N' D' : List ℕ} {r : Step} {detail m : ℕ} {s : Span} {y : Diagnostic} → number_of k.detail x ≡ Number.TooLarge → detail ≡ k.detail → s ≡ span_of k
-      → y ≡ plain DiagnosticKinds.number_too_large s s → Raised D D' c y (record { at = c.at; end = c.end; nodes = c.nodes; diagnostics = m })
-      → LeafTold N N' (record { at = c.at; end = c.end; nodes = c.nodes; diagnostics = m }) 1 detail s 0 r → ReaderTold (number_term k x) N D N' D' c r
+  pub number_large : {N' D' : List ℕ} {v_r : Parsed} {r c₁ : Counters} {detail : ℕ} {s : Span} {y : Diagnostic} → number_of k.detail x ≡ Err NumberError.TooLarge → detail ≡ k.detail → s ≡ span_of k
+      → y ≡ plain DiagnosticKinds.number_too_large s s → Raised D D' c y c₁ → LeafTold N N' c₁ 1 detail s 0 v_r r → ReaderTold (number_term k x) N D N' D' c v_r r
   unfolding valued
-  number_large {y = y} e f g q p = number_leaf e (λ L T. let z : y ≡ number_too_large (span_of k) = q ∙ rw g in raised (raised_as z p) (answered refl refl refl)) f g
+  number_large {N'} {v_r = v_r} {r = r} {detail = detail} {s = s} {y = y} e f g q p h =
+      number_leaf e (λ L T. let z : y ≡ number_too_large (span_of k) = q ∙ rw g in raised (raised_as z (record { counters = refl; more = p.more })) (answered refl refl refl)) f g
+      (subst (λ z. LeafTold N N' z 1 detail s 0 v_r r) p.counters h)
 
-  pub name_reserved : {D' : List ℕ} {r : Step} {s : Span} {y : Diagnostic} {b : Bool} → b ≡ true → s ≡ span_of k → y ≡ plain DiagnosticKinds.register_in_expression s s
-      → DeepTold D D' c y r → ReaderTold (named k b) N D N D' c r
+  pub name_reserved : {D' : List ℕ} {v_r : Parsed} {r : Counters} {s : Span} {y : Diagnostic} {b : Bool} → b ≡ true → s ≡ span_of k → y ≡ plain DiagnosticKinds.register_in_expression s s
+      → DeepTold D D' c y v_r r → ReaderTold (named k b) N D N D' c v_r r
   unfolding named
   name_reserved {y = y} e g q h = record {
     told = λ L T. let z : y ≡ register_in_expression (span_of k) = q ∙ rw g in rw e (report_told (rw z at h));
@@ -118,8 +118,8 @@ module _ (N D : List ℕ) (c : Counters) (k : Token) (x : List ℕ) where
     past = λ j b. refl;
   }
 
-  pub name_read : {N' : List ℕ} {r : Step} {s : Span} {v : ℕ} {b : Bool} → b ≡ false → s ≡ span_of k → (v ≡ s.start + 65536 * s.end) × (s.start < 65536) × (s.end < 65536)
-      → LeafTold N N' c 3 0 s v r → ReaderTold (named k b) N D N' D c r
+  pub name_read : {N' : List ℕ} {v_r : Parsed} {r : Counters} {s : Span} {v : ℕ} {b : Bool} → b ≡ false → s ≡ span_of k → (v ≡ s.start + 65536 * s.end) × (s.start < 65536) × (s.end < 65536)
+      → LeafTold N N' c 3 0 s v v_r r → ReaderTold (named k b) N D N' D c v_r r
   unfolding named nodes span_e size
   name_read e g q h = record {
     told = λ L T. let w = rw g at q in rw e (leaf_told (symbol (span_of k) (span_of k)) (rw g at h) (rw (w.0, own_bytes (span_of k) w.1 w.2)) refl refl);
@@ -130,46 +130,46 @@ module _ (N D : List ℕ) (c : Counters) (k : Token) (x : List ℕ) where
 -- ---- a term of one token, by its kind
 
 module _ (L N D : List ℕ) (c : Counters) (k : Token) where
-  module _ {N' : List ℕ} {r : Step} {s : Span} {q : Counters} (step : q ≡ stepped c k) (sp : s ≡ span_of k) where
-    spared : {kind detail v : ℕ} → LeafTold N N' q kind detail s v r → Spared N N' c r.counters
+  module _ {N' : List ℕ} {v_r : Parsed} {r : Counters} {s : Span} {q : Counters} (step : q ≡ stepped c k) (sp : s ≡ span_of k) where
+    spared : {kind detail v : ℕ} → LeafTold N N' q kind detail s v v_r r → Spared N N' c r
     spared h j b = h.put.past j (omega (arith, b, h.at, ap (λ z. z.at) step, ap (λ z. z.nodes) step))
 
-    pub star_told : k.kind ≡ Kinds.star → LeafTold N N' q 4 0 s 0 r → TokenTold leaf_term L k N D N' D c r
+    pub star_told : k.kind ≡ Kinds.star → LeafTold N N' q 4 0 s 0 v_r r → TokenTold leaf_term L k N D N' D c v_r r
     unfolding leaf_term nodes span_e size words
     star_told e h = record { told = λ T there. hit there (rw e) refl (leaf_told (current_address (span_of k)) (rw (step, sp) at h) refl refl refl); past = spared h }
 
     module _ {v detail : ℕ} (w : (v ≡ s.start + 65536 * s.end) × (s.start < 65536) × (s.end < 65536)) where
-      own_told : {T : List ℕ} (e : Expr) {kind : ℕ} → LeafTold N N' q kind detail s v r → nodes c.nodes e ≡ node_record kind detail 65535 65535 (span_of k) (own (span_of k)) → span_e e ≡ span_of k → size e ≡ 1
-          → Said (answer (read e)) L T N D N' D (stepped c k) r
+      own_told : {T : List ℕ} (e : Expr) {kind : ℕ} → LeafTold N N' q kind detail s v v_r r → nodes c.nodes e ≡ node_record kind detail 65535 65535 (span_of k) (own (span_of k)) → span_e e ≡ span_of k → size e ≡ 1
+          → Said (answer (read e)) L T N D N' D (stepped c k) v_r r
       own_told e h b f g = let z = rw sp at w in leaf_told e (rw (step, sp) at h) (b ∙ rw (z.0, own_bytes (span_of k) z.1 z.2)) f g
 
-      pub string_told : k.kind ≡ Kinds.string_literal → detail ≡ k.detail → LeafTold N N' q 2 detail s v r → TokenTold leaf_term L k N D N' D c r
+      pub string_told : k.kind ≡ Kinds.string_literal → detail ≡ k.detail → LeafTold N N' q 2 detail s v v_r r → TokenTold leaf_term L k N D N' D c v_r r
       unfolding leaf_term nodes span_e size
       string_told e f h = record {
         told = λ T there. miss there (rw e) (miss there (rw e) (hit there (rw e) refl (own_told (character_literal k.detail (span_of k) (span_of k)) h (rw f) refl refl)));
         past = spared h;
       }
 
-      pub local_told : k.kind ≡ Kinds.local_identifier → detail ≡ 0 → LeafTold N N' q 3 detail s v r → TokenTold leaf_term L k N D N' D c r
+      pub local_told : k.kind ≡ Kinds.local_identifier → detail ≡ 0 → LeafTold N N' q 3 detail s v v_r r → TokenTold leaf_term L k N D N' D c v_r r
       unfolding leaf_term nodes span_e size
       local_told e f h = record {
         told = λ T there. miss there (rw e) (miss there (rw e) (miss there (rw e) (miss there (rw e) (hit there (rw e) refl (own_told (symbol (span_of k) (span_of k)) h (rw f) refl refl)))));
         past = spared h;
       }
 
-  module _ {N' D' : List ℕ} {r : Step} {q : Counters} (step : q ≡ stepped c k) where
-    token_spared : {p : Reader Term} → ReaderTold p N D N' D' q r → Spared N N' c r.counters
+  module _ {N' D' : List ℕ} {v_r : Parsed} {r : Counters} {q : Counters} (step : q ≡ stepped c k) where
+    token_spared : {p : Reader Term} → ReaderTold p N D N' D' q v_r r → Spared N N' c r
     token_spared h j b = h.past j (omega (arith, b, h.stays, ap (λ z. z.at) step, ap (λ z. z.nodes) step))
 
-    pub number_told : k.kind ≡ Kinds.number → ReaderTold (number_term k (text_of L k.start k.end)) N D N' D' q r → TokenTold leaf_term L k N D N' D' c r
+    pub number_told : k.kind ≡ Kinds.number → ReaderTold (number_term k (text_of L k.start k.end)) N D N' D' q v_r r → TokenTold leaf_term L k N D N' D' c v_r r
     unfolding leaf_term
     number_told e h = record { told = λ T there. miss there (rw e) (hit there (rw e) refl ((rw step at h).told L T)); past = token_spared h }
 
-    pub name_told : k.kind ≡ Kinds.identifier → ReaderTold (named k (reserved (text_of L k.start k.end))) N D N' D' q r → TokenTold leaf_term L k N D N' D' c r
+    pub name_told : k.kind ≡ Kinds.identifier → ReaderTold (named k (reserved (text_of L k.start k.end))) N D N' D' q v_r r → TokenTold leaf_term L k N D N' D' c v_r r
     unfolding leaf_term
     name_told e h = record { told = λ T there. miss there (rw e) (miss there (rw e) (miss there (rw e) (hit there (rw e) refl ((rw step at h).told L T)))); past = token_spared h }
 
-  pub error_told : {q : Counters} → q ≡ stepped c k → k.kind ≡ Kinds.error → TokenTold leaf_term L k N D N D c (record { parsed = parsed.Reported; counters = q })
+  pub error_told : {q : Counters} → q ≡ stepped c k → k.kind ≡ Kinds.error → TokenTold leaf_term L k N D N D c (Err errors.Reported) q
   unfolding leaf_term parsed_of size_t
   error_told step e = record {
     told = λ T there. miss there (rw e) (miss there (rw e) (miss there (rw e) (miss there (rw e) (miss there (rw e) (hit there (rw e) step (answered refl refl (held_none reported refl (ap (λ z. z.nodes) step) refl)))))));
@@ -177,7 +177,7 @@ module _ (L N D : List ℕ) (c : Counters) (k : Token) where
   }
 
   pub other_told : (k.kind ≡ Kinds.star → ⊥) → (k.kind ≡ Kinds.number → ⊥) → (k.kind ≡ Kinds.string_literal → ⊥) → (k.kind ≡ Kinds.identifier → ⊥)
-      → (k.kind ≡ Kinds.local_identifier → ⊥) → (k.kind ≡ Kinds.error → ⊥) → TokenTold leaf_term L k N D N D c (record { parsed = parsed.Absent; counters = c })
+      → (k.kind ≡ Kinds.local_identifier → ⊥) → (k.kind ≡ Kinds.error → ⊥) → TokenTold leaf_term L k N D N D c (Err errors.Absent) c
   unfolding leaf_term
   other_told a b e f g h = record {
     told = λ T there. miss there (ne_eqb _ _ a) (miss there (ne_eqb _ _ b) (miss there (ne_eqb _ _ e) (miss there (ne_eqb _ _ f) (miss there (ne_eqb _ _ g) (miss there (ne_eqb _ _ h) absent_told)))));
@@ -186,11 +186,11 @@ module _ (L N D : List ℕ) (c : Counters) (k : Token) where
 
 -- ---- the depth
 
-module _ {T D D' : List ℕ} {c : Counters} {r : Step} {y : Diagnostic} where
-  pub deep_token : {t : Token} {s : Span} → token_at T c.at ≡ peeked.Is t → s ≡ span_of t → y ≡ plain DiagnosticKinds.nesting_too_deep s no_span → DeepTold D D' c y r → DepthTold T D D' c r
+module _ {T D D' : List ℕ} {c : Counters} {v_r : Parsed} {r : Counters} {y : Diagnostic} where
+  pub deep_token : {t : Token} {s : Span} → token_at T c.at ≡ Some t → s ≡ span_of t → y ≡ plain DiagnosticKinds.nesting_too_deep s no_span → DeepTold D D' c y v_r r → DepthTold T D D' c v_r r
   unfolding too_deep
   deep_token {t} e f g h = record { told = λ L N. let z : y ≡ nesting_too_deep (span_of t) = g ∙ rw f in hereby (seen (sym (add-zero c.at)) e refl (report_told (rw z at h))) }
 
-  pub deep_past : token_at T c.at ≡ peeked.End → y ≡ plain DiagnosticKinds.nesting_too_deep (empty c.end) no_span → DeepTold D D' c y r → DepthTold T D D' c r
+  pub deep_past : token_at T c.at ≡ None → y ≡ plain DiagnosticKinds.nesting_too_deep (empty c.end) no_span → DeepTold D D' c y v_r r → DepthTold T D D' c v_r r
   unfolding too_deep
   deep_past e g h = record { told = λ L N. hereby (beyond (sym (add-zero c.at)) e (report_told (rw g at h))) }

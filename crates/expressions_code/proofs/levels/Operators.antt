@@ -46,9 +46,9 @@ module _ (k : ℕ) where
   unfolding precedence
   level_bits a b = agree (λ i. 3) precedence 19 23 k refl a b
 
-  pub level_tilde : k ≡ 23 → 0 ≡ precedence k
+  pub level_tilde : 23 ≤ k → k < 24 → 0 ≡ precedence k
   unfolding precedence
-  level_tilde e = agree (λ i. 0) precedence 23 24 k refl (omega arith) (omega arith)
+  level_tilde a b = agree (λ i. 0) precedence 23 24 k refl a b
 
   pub level_shift : 24 ≤ k → k < 26 → 4 ≡ precedence k
   unfolding precedence

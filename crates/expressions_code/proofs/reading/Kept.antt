@@ -11,14 +11,12 @@ use Rattle.expressions.specs.Trees.{span_e, with_span, size}
 use Rattle.records.specs.declared.spans.Span.{Span}
 use Rattle.records.specs.declared.counters.Counters.{Counters}
 use Rattle.records.specs.Counters.{counters_are}
-use Rattle.expressions_code.specs.declared.terms.Step.{Step}
-use Rattle.expressions_code.specs.declared.terms.Chain.{Chain}
 use Rattle.expressions.specs.Reader.{run}
 use Rattle.expressions.specs.Expressions.{parse_expression, expression_from, fuel}
 use Rattle.records.specs.Rooms.{NodeRoom}
 use Rattle.records.specs.Stores.{cleared}
 use Rattle.records.specs.Written.{written_past, cleared_fits}
-use Rattle.expressions_code.specs.Terms.{ExpressionTold, Joined, ClimbTold}
+use Rattle.expressions_code.specs.Terms.{Parsed, ExpressionTold, Joined, ClimbTold}
 use Rattle.expressions.specs.Told.{Told}
 use Rattle.expressions_code.specs.Roots.{rooted, span_e_with_span}
 use Rattle.expressions_code.specs.Reading.{filled, spent, RoomTold, enough, lacking, ExpressionFits, FromFits}
@@ -31,14 +29,15 @@ filled_is : (N N₁ N₂ b : List ℕ) (n i m : ℕ) → take (10 * n) N₁ ≡ 
 unfolding filled
 filled_is N N₁ N₂ b n i m h e p l f k = k ∙ cleared_fits N₁ (10 * n) (10 * m) (omega arith) f ∙ ap₂ (λ x y. (x ++ replicate (10 * m - 10 * n) 0) ++ y) h p ∙ ap (λ z. (b ++ replicate (10 * m - 10 * z) 0) ++ drop (10 * m) N) e
 
-pub expression_kept : (L T N D N₁ D₁ N₂ : List ℕ) (c : Counters) (room : ℕ) (r : Step) → ExpressionTold L T N D N₁ D₁ c room r → 10 * spent c r.counters ≤ length N₁
-    → N₂ ≡ cleared N₁ (10 * r.counters.nodes) (10 * spent c r.counters) → ExpressionFits L T N D N₂ D₁ c room r
-expression_kept L T N D N₁ D₁ N₂ c room r g f k =
+pub expression_kept : (L T N D N₁ D₁ N₂ : List ℕ) (c : Counters) (room : ℕ) (v : Parsed) (r : Counters) → ExpressionTold L T N D N₁ D₁ c room v r → 10 * spent c r ≤ length N₁
+    → N₂ ≡ cleared N₁ (10 * r.nodes) (10 * spent c r) → ExpressionFits L T N D N₂ D₁ c room v r
+expression_kept L T N D N₁ D₁ N₂ c room v r g f k =
     let s = run (parse_expression room) (place L T) c.at c.end in
     let h = g.told in
     record {
-      answer = ap₂ (λ p q. record { parsed = p; counters = q }) h.what (counters_are r.counters _ _ _ _ h.at h.end h.held.total h.seen);
-      nodes = filled_is N N₁ N₂ _ r.counters.nodes _ (spent c r.counters) h.held.bytes h.held.total (g.past (spent c r.counters) (omega (arith, g.on))) (omega (arith, g.few, g.on)) f k;
+      answer = h.what;
+      counters = counters_are r _ _ _ _ h.at h.end h.held.total h.seen;
+      nodes = filled_is N N₁ N₂ _ r.nodes _ (spent c r) h.held.bytes h.held.total (g.past (spent c r) (omega (arith, g.on))) (omega (arith, g.few, g.on)) f k;
       diagnostics = h.more;
       on = g.on;
       within = g.within;
@@ -61,16 +60,17 @@ pub fit_climb : {T N N₁ : List ℕ} {c : Counters} → NodeRoom T N c 1 0 1 �
 fit_climb h e = omega (arith, h)
 
 -- N₁: the root has got the group's span. N₂: the climb has gone on. N₃: what failed terms left is cleared
-pub from_kept : (L T N D N₁ N₂ D₂ N₃ : List ℕ) (c : Counters) (group : Span) (room : ℕ) (r : Chain) → NodeRoom T N c 1 0 1 → N₁ ≡ rooted N c.nodes group
-    → ClimbTold L T N₁ D N₂ D₂ c group 1 room r → 10 * spent c r.counters ≤ length N₂ → N₃ ≡ cleared N₂ (10 * r.counters.nodes) (10 * spent c r.counters) → FromFits L T N D N₃ D₂ c group room r
+pub from_kept : (L T N D N₁ N₂ D₂ N₃ : List ℕ) (c : Counters) (group : Span) (room : ℕ) (v : Span) (r : Counters) → NodeRoom T N c 1 0 1 → N₁ ≡ rooted N c.nodes group
+    → ClimbTold L T N₁ D N₂ D₂ c group 1 room v r → 10 * spent c r ≤ length N₂ → N₃ ≡ cleared N₂ (10 * r.nodes) (10 * spent c r) → FromFits L T N D N₃ D₂ c group room v r
 unfolding expression_from
-from_kept L T N D N₁ N₂ D₂ N₃ c group room r asks w g f k = record {
+from_kept L T N D N₁ N₂ D₂ N₃ c group room v r asks w g f k = record {
   told = λ b e cnt.
-      let h : Told span_e (Joined (take (10 * c.nodes) (rooted N c.nodes group)) N₂ b (size e)) (expression_from room (with_span e group)) L T D D₂ c r.span r.counters
+      let h : Told span_e (Joined (take (10 * c.nodes) (rooted N c.nodes group)) N₂ b (size e)) (expression_from room (with_span e group)) L T D D₂ c v r
       = rw (w, size_with_span e group) at (g.told fuel (omega (arith, fuel_enough, asks)) b (with_span e group) (cnt ∙ ap (λ z. b + z) (sym (size_with_span e group))) (sym (span_e_with_span e group))) in
       record {
-        answer = ap₂ (λ p q. record { span = p; counters = q }) h.what (counters_are r.counters _ _ _ _ h.at h.end h.held.total h.seen);
-        nodes = filled_is N N₂ N₃ _ r.counters.nodes _ (spent c r.counters) h.held.bytes h.held.total (g.past (spent c r.counters) (omega (arith, g.on)) ∙ rw w (written_past N (10 * (c.nodes - 1) + 4) (group.start ∷ group.end ∷ []) (10 * spent c r.counters) (omega (arith, asks)) (omega (arith, asks, g.on)))) (omega (arith, g.few, g.on)) f k;
+        answer = h.what;
+        counters = counters_are r _ _ _ _ h.at h.end h.held.total h.seen;
+        nodes = filled_is N N₂ N₃ _ r.nodes _ (spent c r) h.held.bytes h.held.total (g.past (spent c r) (omega (arith, g.on)) ∙ rw w (written_past N (10 * (c.nodes - 1) + 4) (group.start ∷ group.end ∷ []) (10 * spent c r) (omega (arith, asks)) (omega (arith, asks, g.on)))) (omega (arith, g.few, g.on)) f k;
         diagnostics = h.more;
       };
   some = omega (arith, g.some);

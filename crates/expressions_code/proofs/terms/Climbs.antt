@@ -1,5 +1,6 @@
 -- What the returns of the climb show.
 -- Assumes nothing.
+use Rattle.std.specs.Prelude.{Some, None, Ok, Err}
 use mathlib.Core.Path.{◌≡◌, refl, sym, ◌∙◌, ap, ap₂, subst}
 use mathlib.Core.Bool.{false}
 use mathlib.Core.List.{List, ◌++◌, append_assoc}
@@ -11,15 +12,12 @@ use lib.Seq.{drop_at}
 use Rattle.names.specs.Tokens.{count, token_at}
 use Rattle.names.specs.Places.{place, there, nowhere, live}
 use Rattle.names.specs.declared.tokens.Token.{Token}
-use Rattle.names.specs.declared.tokens.Peeked.TheVariants as peeked
 use Rattle.records.specs.Spans.{span, span_of}
 use Rattle.expressions.specs.Trees.{Expr, binary, span_e, size}
 use Rattle.records.specs.declared.spans.Span.{Span}
 use Rattle.records.specs.declared.diagnostics.Diagnostic.{Diagnostic}
 use Rattle.records.specs.declared.counters.Counters.{Counters}
-use Rattle.expressions_code.specs.declared.terms.Parsed.TheVariants as parsed
-use Rattle.expressions_code.specs.declared.terms.Step.{Step}
-use Rattle.expressions_code.specs.declared.terms.Chain.{Chain}
+use Rattle.expressions_code.specs.declared.terms.TermError.TheVariants as errors
 use Rattle.records.specs.Diagnostics.{expression_expected}
 use Rattle.expressions.specs.Reader.{Reader, answer, ◌>>=◌, run}
 use Rattle.expressions.specs.Laws.{holds}
@@ -30,7 +28,7 @@ use Rattle.records.specs.Nodes.{node_record, words, zeros}
 use Rattle.expressions.specs.Records.{nodes, length_nodes}
 use Rattle.expressions.proofs.Grown.{Grown, grown_is, grown_none, grown_behind, climb_grows}
 use Rattle.records.specs.Counters.{stepped}
-use Rattle.expressions_code.specs.Terms.{NodeTold, size_t, nodes_t, Held, DeepTold, PrefixTold, Joined, ClimbTold, OperatedTold, longer, ended}
+use Rattle.expressions_code.specs.Terms.{Parsed, NodeTold, size_t, nodes_t, Held, DeepTold, PrefixTold, Joined, ClimbTold, OperatedTold, longer, ended}
 use Rattle.expressions_code.proofs.leaves.Returns.{deep_raised}
 use Rattle.expressions_code.proofs.terms.Returns.{kept, absent_quiet, is_read, is_reported, is_absent}
 
@@ -53,7 +51,7 @@ module _ (L T N D : List ℕ) (c : Counters) (left : Span) (min room : ℕ) wher
   stopped none zero e h = h
   stopped none (suc g) e h = missed none h
 
-  climb_stops : holds (operator min) (place L T c.at) ≡ false → 0 < c.nodes → c.at ≤ count T → ClimbTold L T N D N D c left min room (record { span = left; counters = c })
+  climb_stops : holds (operator min) (place L T c.at) ≡ false → 0 < c.nodes → c.at ≤ count T → ClimbTold L T N D N D c left min room left c
   climb_stops none some on = record {
     told = λ g hg b e cnt sp. stopped none g e (answered sp refl record { total = cnt; bytes = grown_none (take (10 * c.nodes) N) b e });
     past = λ j b. refl;
@@ -64,18 +62,18 @@ module _ (L T N D : List ℕ) (c : Counters) (left : Span) (min room : ℕ) wher
     quiet = omega arith;
   }
 
-  pub climb_ends : token_at T c.at ≡ peeked.End → 0 < c.nodes → c.at ≤ count T → ClimbTold L T N D N D c left min room (record { span = left; counters = c })
+  pub climb_ends : token_at T c.at ≡ None → 0 < c.nodes → c.at ≤ count T → ClimbTold L T N D N D c left min room left c
   climb_ends h = climb_stops (fails_end (operator min) _ (nowhere L T c.at h))
 
-  pub climb_lows : (k : Token) → token_at T c.at ≡ peeked.Is k → precedence k.kind < min → 0 < c.nodes → c.at ≤ count T → ClimbTold L T N D N D c left min room (record { span = left; counters = c })
+  pub climb_lows : (k : Token) → token_at T c.at ≡ Some k → precedence k.kind < min → 0 < c.nodes → c.at ≤ count T → ClimbTold L T N D N D c left min room left c
   unfolding operator
   climb_lows k h q = climb_stops (fails (operator min) _ k _ (there L T c.at k h) (lt-leb min (precedence k.kind) q))
 
 -- an operator k at the cursor, and a term behind it that answers r
-module _ (L T N D N₁ D₁ : List ℕ) (c : Counters) (left : Span) (room : ℕ) (k : Token) (r : Step) (next : Counters)
-    (op : token_at T c.at ≡ peeked.Is k) (step : next ≡ stepped c k) (term : PrefixTold L T N D N₁ D₁ next room r) (long : 10 * c.nodes ≤ length N) (some : 0 < c.nodes) where
-  h : PrefixTold L T N D N₁ D₁ (stepped c k) room r
-  h = subst (λ z. PrefixTold L T N D N₁ D₁ z room r) step term
+module _ (L T N D N₁ D₁ : List ℕ) (c : Counters) (left : Span) (room : ℕ) (k : Token) (v_r : Parsed) (r : Counters) (next : Counters)
+    (op : token_at T c.at ≡ Some k) (step : next ≡ stepped c k) (term : PrefixTold L T N D N₁ D₁ next room v_r r) (long : 10 * c.nodes ≤ length N) (some : 0 < c.nodes) where
+  h : PrefixTold L T N D N₁ D₁ (stepped c k) room v_r r
+  h = subst (λ z. PrefixTold L T N D N₁ D₁ z room v_r r) step term
 
   -- the numbers of the records that stand
   abbrev P : List ℕ
@@ -88,52 +86,52 @@ module _ (L T N D N₁ D₁ : List ℕ) (c : Counters) (left : Span) (room : ℕ
   module _ (min : ℕ) (low : min ≤ precedence k.kind) where
     -- the left side is the tree e; the fuel is enough for this turn
     module _ (b : ℕ) (e : Expr) (cnt : c.nodes ≡ b + size e) (sp : left ≡ span_e e) where
-      turned : {q : Chain} {N' D' : List ℕ} (g : ℕ) → count T ≤ g + c.at
-          → ((f : ℕ) → count T ≤ suc f + c.at → Told span_e (Joined P N' b (size e)) (parse_prefix fuel room >>= operated (climb f) min e k) L T D D' (stepped c k) q.span q.counters)
-          → Told span_e (Joined P N' b (size e)) (climb g min e) L T D D' c q.span q.counters
+      turned : {s_q : Span} {q : Counters} {N' D' : List ℕ} (g : ℕ) → count T ≤ g + c.at
+          → ((f : ℕ) → count T ≤ suc f + c.at → Told span_e (Joined P N' b (size e)) (parse_prefix fuel room >>= operated (climb f) min e k) L T D D' (stepped c k) s_q q)
+          → Told span_e (Joined P N' b (size e)) (climb g min e) L T D D' c s_q q
       unfolding parse_expression_from operator
       turned zero hg f = absurd (omega (arith, live T c.at k op))
       turned (suc g) hg f = hit op (le-leb min (precedence k.kind) low) refl (f g hg)
 
       -- no term is read: the left side stands as it did
-      stays : {v : Term} {q : Counters} → Held N N₁ c.nodes v r.counters → q.nodes ≡ c.nodes → Joined P N₁ b (size e) e q
+      stays : {v : Term} {q : Counters} → Held N N₁ c.nodes v r → q.nodes ≡ c.nodes → Joined P N₁ b (size e) e q
       stays t same = record { total = same ∙ cnt; bytes = rw same (kept t long ∙ grown_none P b e) }
 
-      at_read : (f : ℕ) {x : Span} {N₂ D₂ N₃ N₄ D₄ : List ℕ} {q w : Chain} {n : Counters} → r.parsed ≡ parsed.Read x → count T ≤ suc f + c.at
-          → ClimbTold L T N₁ D₁ N₂ D₂ r.counters x (precedence k.kind + 1) room q
-          → NodeTold N₂ N₃ q.counters (node_record 6 (binary_operator k.kind) (c.nodes - 1) (q.counters.nodes - 1) (span left.start q.span.end) (words 4 0)) n
-          → ClimbTold L T N₃ D₂ N₄ D₄ n (span left.start q.span.end) min room w
-          → Told span_e (Joined P N₄ b (size e)) (parse_prefix fuel room >>= operated (climb f) min e k) L T D D₄ (stepped c k) w.span w.counters
+      at_read : (f : ℕ) {x : Span} {N₂ D₂ N₃ N₄ D₄ : List ℕ} {s_q : Span} {q : Counters} {s_w : Span} {w : Counters} {n : Counters} → v_r ≡ Ok x → count T ≤ suc f + c.at
+          → ClimbTold L T N₁ D₁ N₂ D₂ r x (precedence k.kind + 1) room s_q q
+          → NodeTold N₂ N₃ q (node_record 6 (binary_operator k.kind) (c.nodes - 1) (q.nodes - 1) (span left.start s_q.end) (words 4 0)) n
+          → ClimbTold L T N₃ D₂ N₄ D₄ n (span left.start s_q.end) min room s_w w
+          → Told span_e (Joined P N₄ b (size e)) (parse_prefix fuel room >>= operated (climb f) min e k) L T D D₄ (stepped c k) s_w w
       unfolding operated size_t nodes_t size span_e
-      at_read f {x} {N₃ = N₃} {N₄ = N₄} {q = q} {w = w} {n = n} wh more hq hp hw =
+      at_read f {x} {N₃ = N₃} {N₄ = N₄} {s_q = s_q} {q = q} {n = n} wh more hq hp hw =
           let y = is_read h wh in
-          let t : Held N N₁ c.nodes (read y.0) r.counters = held_as h.told y.1 in
-          let v : Expr = (run (climb f (precedence k.kind + 1) y.0) (place L T) r.counters.at r.counters.end).value in
+          let t : Held N N₁ c.nodes (read y.0) r = held_as h.told y.1 in
+          let v : Expr = (run (climb f (precedence k.kind + 1) y.0) (place L T) r.at r.end).value in
           let sq = hq.told f (omega (arith, h.on)) c.nodes y.0 t.total y.2 in
           let o = binary_operator k.kind in
           let S : Span = span (span_e e).start (span_e v).end in
-          let sS : span left.start q.span.end ≡ S = ap₂ (λ i j. span i.start j.end) sp sq.what in
+          let sS : span left.start s_q.end ≡ S = ap₂ (λ i j. span i.start j.end) sp sq.what in
           let B : Expr = binary o e v S in
-          let st : take (10 * n.nodes) N₃ ≡ (P ++ nodes c.nodes v) ++ node_record 6 o (c.nodes - 1) (q.counters.nodes - 1) S (words 4 0) =
+          let st : take (10 * n.nodes) N₃ ≡ (P ++ nodes c.nodes v) ++ node_record 6 o (c.nodes - 1) (q.nodes - 1) S (words 4 0) =
           hp.put.bytes
-          ∙ ap₂ (λ z s. z ++ node_record 6 o (c.nodes - 1) (q.counters.nodes - 1) s (words 4 0))
+          ∙ ap₂ (λ z s. z ++ node_record 6 o (c.nodes - 1) (q.nodes - 1) s (words 4 0))
           (sq.held.bytes
           ∙ ap (λ z. z ++ drop (10 * size y.0) (nodes c.nodes v)) t.bytes
-          ∙ grown_behind P (climb_grows c.nodes f (parse_prefix fuel room) (precedence k.kind + 1) y.0 (place L T) r.counters.at r.counters.end))
+          ∙ grown_behind P (climb_grows c.nodes f (parse_prefix fuel room) (precedence k.kind + 1) y.0 (place L T) r.at r.end))
           sS in
           let sw = hw.told f (omega (arith, hq.on, h.on, hp.at)) b B (omega (arith, hp.put.next, sq.held.total, cnt)) sS in
           bound h.told y.1 (bound sq refl (counted hp.at hp.end hp.seen (reheld (λ j. record {
             total = j.total;
             bytes = j.bytes
                 ∙ ap (λ z. z ++ drop (10 * size B) (nodes b (run (climb f min B) (place L T) n.at n.end).value)) st
-                ∙ binary_added P b c.nodes q.counters.nodes o e v _ S cnt sq.held.total (climb_grows b f (parse_prefix fuel room) min B (place L T) n.at n.end);
+                ∙ binary_added P b c.nodes q.nodes o e v _ S cnt sq.held.total (climb_grows b f (parse_prefix fuel room) min B (place L T) n.at n.end);
           }) sw)))
 
-    climb_reports : r.parsed ≡ parsed.Reported → ClimbTold L T N D N₁ D₁ c left min room (record { span = left; counters = r.counters })
+    climb_reports : v_r ≡ Err errors.Reported → ClimbTold L T N D N₁ D₁ c left min room left r
     unfolding operated size_t
     climb_reports w =
         let v = is_reported h w in
-        let same : r.counters.nodes ≡ c.nodes = omega (arith, (held_as h.told v).total) in
+        let same : r.nodes ≡ c.nodes = omega (arith, (held_as h.told v).total) in
         record {
           told = λ g hg b e cnt sp. turned b e cnt sp g hg λ f hf. bound h.told v (answered sp refl (stays b e cnt sp h.told.held same));
           past = λ j b. h.past j (omega (arith, b));
@@ -144,12 +142,12 @@ module _ (L T N D N₁ D₁ : List ℕ) (c : Counters) (left : Span) (room : ℕ
           quiet = omega (arith, h.quiet);
         }
 
-    climb_absents : {D₂ : List ℕ} {y : Diagnostic} {q : Step} → r.parsed ≡ parsed.Absent → y ≡ expression_expected (span_of k) → DeepTold D₁ D₂ r.counters y q
-        → ClimbTold L T N D N₁ D₂ c left min room (record { span = left; counters = q.counters })
+    climb_absents : {D₂ : List ℕ} {y : Diagnostic} {v_q : Parsed} {q : Counters} → v_r ≡ Err errors.Absent → y ≡ expression_expected (span_of k) → DeepTold D₁ D₂ r y v_q q
+        → ClimbTold L T N D N₁ D₂ c left min room left q
     unfolding operated size_t
     climb_absents w z p =
         let v = is_absent h w in
-        let same : r.counters.nodes ≡ c.nodes = omega (arith, (held_as h.told v).total) in
+        let same : r.nodes ≡ c.nodes = omega (arith, (held_as h.told v).total) in
         record {
           told = λ g hg b e cnt sp. turned b e cnt sp g hg λ f hf. bound h.told v (raised (raised_as z (deep_raised p)) (answered sp refl (stays b e cnt sp h.told.held (p.same ∙ same))));
           past = λ j b. h.past j (omega (arith, b, p.at));
@@ -160,11 +158,11 @@ module _ (L T N D N₁ D₁ : List ℕ) (c : Counters) (left : Span) (room : ℕ
           quiet = omega (arith, p.push.next, p.at, absent_quiet room h w);
         }
 
-    climb_reads : {x : Span} {lv o : ℕ} {N₂ D₂ N₃ N₄ D₄ : List ℕ} {q w : Chain} {n : Counters} → r.parsed ≡ parsed.Read x → lv ≡ precedence k.kind → o ≡ binary_operator k.kind
-        → ClimbTold L T N₁ D₁ N₂ D₂ r.counters x (lv + 1) room q
-        → NodeTold N₂ N₃ q.counters (node_record 6 o (c.nodes - 1) (q.counters.nodes - 1) (span left.start q.span.end) (words 4 0)) n
-        → ClimbTold L T N₃ D₂ N₄ D₄ n (span left.start q.span.end) min room w
-        → ClimbTold L T N D N₄ D₄ c left min room w
+    climb_reads : {x : Span} {lv o : ℕ} {N₂ D₂ N₃ N₄ D₄ : List ℕ} {s_q : Span} {q : Counters} {s_w : Span} {w : Counters} {n : Counters} → v_r ≡ Ok x → lv ≡ precedence k.kind → o ≡ binary_operator k.kind
+        → ClimbTold L T N₁ D₁ N₂ D₂ r x (lv + 1) room s_q q
+        → NodeTold N₂ N₃ q (node_record 6 o (c.nodes - 1) (q.nodes - 1) (span left.start s_q.end) (words 4 0)) n
+        → ClimbTold L T N₃ D₂ N₄ D₄ n (span left.start s_q.end) min room s_w w
+        → ClimbTold L T N D N₄ D₄ c left min room s_w w
     climb_reads wh hl ho hq hp hw =
         record {
           told = λ g hg b e cnt sp. turned b e cnt sp g hg λ f hf. at_read b e cnt sp f wh hf (rw hl at hq) (rw ho at hp) hw;
@@ -180,18 +178,18 @@ module _ (L T N D N₁ D₁ : List ℕ) (c : Counters) (left : Span) (room : ℕ
           quiet = omega (arith, hw.quiet, hq.quiet, h.quiet, hp.at, hp.seen);
         }
 
-  pub operated_reports : r.parsed ≡ parsed.Reported → OperatedTold L T N D N₁ D₁ c left room k r
-  operated_reports w = ended w λ min low. climb_reports min low w
+  pub operated_reports : v_r ≡ Err errors.Reported → OperatedTold L T N D N₁ D₁ c left room k (Err errors.Reported) r
+  operated_reports w = ended refl λ min low. climb_reports min low w
 
-  pub operated_absents : {D₂ : List ℕ} {y : Diagnostic} {q : Step} → r.parsed ≡ parsed.Absent → y ≡ expression_expected (span_of k) → DeepTold D₁ D₂ r.counters y q → OperatedTold L T N D N₁ D₂ c left room k q
+  pub operated_absents : {D₂ : List ℕ} {y : Diagnostic} {v_q : Parsed} {q : Counters} → v_r ≡ Err errors.Absent → y ≡ expression_expected (span_of k) → DeepTold D₁ D₂ r y v_q q → OperatedTold L T N D N₁ D₂ c left room k v_q q
   operated_absents w z p = ended p.what λ min low. climb_absents min low w z p
 
-  pub operated_reads : {x : Span} {lv o : ℕ} {N₂ D₂ N₃ : List ℕ} {q : Chain} {n : Counters} → r.parsed ≡ parsed.Read x → lv ≡ precedence k.kind → o ≡ binary_operator k.kind
-      → ClimbTold L T N₁ D₁ N₂ D₂ r.counters x (lv + 1) room q
-      → NodeTold N₂ N₃ q.counters (node_record 6 o (c.nodes - 1) (q.counters.nodes - 1) (span left.start q.span.end) (words 4 0)) n
-      → OperatedTold L T N D N₃ D₂ c left room k (record { parsed = parsed.Read (span left.start q.span.end); counters = n })
-  operated_reads {q = q} {n = n} wh hl ho hq hp = longer (span left.start q.span.end) refl record {
-    whole = λ min low N₄ D₄ w hw. climb_reads min low wh hl ho hq hp hw;
+  pub operated_reads : {x : Span} {lv o : ℕ} {N₂ D₂ N₃ : List ℕ} {s_q : Span} {q : Counters} {n : Counters} → v_r ≡ Ok x → lv ≡ precedence k.kind → o ≡ binary_operator k.kind
+      → ClimbTold L T N₁ D₁ N₂ D₂ r x (lv + 1) room s_q q
+      → NodeTold N₂ N₃ q (node_record 6 o (c.nodes - 1) (q.nodes - 1) (span left.start s_q.end) (words 4 0)) n
+      → OperatedTold L T N D N₃ D₂ c left room k (Ok (span left.start s_q.end)) n
+  operated_reads {s_q = s_q} {n = n} wh hl ho hq hp = longer (span left.start s_q.end) refl record {
+    whole = λ min low N₄ D₄ v w hw. climb_reads min low wh hl ho hq hp hw;
     some = omega (arith, hp.put.next);
     on = omega (arith, hq.on, h.on, hp.at);
     within = omega (arith, hq.within, hp.at);

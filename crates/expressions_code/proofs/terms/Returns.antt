@@ -1,6 +1,7 @@
 -- What the returns of the terms and of the expression show: each follows its reader, a step at a time.
 -- Assumes nothing.
-use mathlib.Core.Path.{◌≡◌, refl, sym, ◌∙◌, ap, ap₂}
+use Rattle.std.specs.Prelude.{Some, None, Result, Ok, Err, IsErrAnd}
+use mathlib.Core.Path.{◌≡◌, refl, sym, ◌∙◌, ap, ap₂, subst}
 use mathlib.Core.Bool.{true, false}
 use mathlib.Core.List.{List, ◌++◌, append_assoc}
 use Prim.Native.Nat.{ℕ, zero, suc, ◌+◌, ◌-◌, ◌*◌, ◌<◌, ◌≤◌}
@@ -13,24 +14,23 @@ use Rattle.names.specs.Kinds
 use Rattle.names.specs.Tokens.{count, token_at}
 use Rattle.names.specs.Places.{Place, text_of, place, below}
 use Rattle.names.specs.declared.tokens.Token.{Token}
-use Rattle.names.specs.declared.tokens.Peeked.TheVariants as peeked
 use Rattle.records.specs.DiagnosticKinds
 use Rattle.records.specs.Spans.{span, span_of, no_span}
 use Rattle.expressions.specs.Trees.{Expr, unary, span_e, size}
 use Rattle.records.specs.declared.spans.Span.{Span}
 use Rattle.records.specs.declared.diagnostics.Diagnostic.{Diagnostic}
 use Rattle.records.specs.declared.counters.Counters.{Counters}
-use Rattle.expressions_code.specs.declared.terms.Parsed.TheVariants as parsed
-use Rattle.expressions_code.specs.declared.terms.Step.{Step}
-use Rattle.expressions_code.specs.declared.terms.Chain.{Chain}
+use Rattle.expressions_code.specs.declared.terms.TermError.{TermError}
+use Rattle.expressions_code.specs.declared.terms.TermError.TheVariants as errors
 use Rattle.records.specs.Diagnostics.{plain, expression_expected}
 use Rattle.expressions.specs.Reader.{Reading, Reader, answer, raise, ◌>>=◌, run}
-use Rattle.expressions.specs.Paths.{raised_as, held_as, renamed, counted, answered, raised, bound, hit, miss, done}
+use Rattle.expressions.specs.Told.{Raised}
+use Rattle.expressions.specs.Paths.{raised_here, raised_as, held_as, renamed, counted, answered, raised, bound, hit, miss, done}
 use Rattle.expressions.specs.Expressions.{Term, read, reported, absent, unary_operator, is_unary, negated, plussed, climbed, leaf_term, parse_prefix_term, parse_prefix, parse_expression_of, parse_expression, parse_expression_from, fuel}
 use Rattle.records.specs.Nodes.{node_record, words}
 use Rattle.expressions.specs.Records.{nodes}
 use Rattle.records.specs.Counters.{stepped}
-use Rattle.expressions_code.specs.Terms.{NodeTold, parsed_of, size_t, nodes_t, Held, Said, DeepTold, TokenTold, DepthTold, TermTold, PrefixTold, ExpressionTold, unary_term, plus_term, group_term, BehindTold, ClimbTold, Spared}
+use Rattle.expressions_code.specs.Terms.{Parsed, NodeTold, parsed_of, size_t, nodes_t, Held, Said, DeepTold, TokenTold, DepthTold, TermTold, PrefixTold, ExpressionTold, unary_term, plus_term, group_term, BehindTold, ClimbTold, Spared}
 use Rattle.expressions.specs.Laws as laws
 use Rattle.expressions.specs.Laws.{law_run}
 use Rattle.expressions.proofs.Costs.{Cost, prefix_cost, expression_cost, size_pos, all_clean}
@@ -38,6 +38,11 @@ use Rattle.expressions.specs.Fuel.{fuel_enough}
 use Rattle.expressions.proofs.Grown.{grown_behind, climb_grows}
 use Rattle.expressions_code.specs.Answers.{what_read, what_reported, what_absent}
 use Rattle.expressions_code.proofs.leaves.Returns.{held_none, deep_raised, absent_told}
+
+-- an error that is passed on
+pub err_given : {A E : Type 0} (r : Result A E) (e : E) → IsErrAnd r (λ x. x ≡ e) → r ≡ Err e
+err_given (Ok a) e h = absurd h
+err_given (Err x) e h = ap Err h
 
 -- the records before a term still stand, whatever it was
 pub kept : {N N' : List ℕ} {n : ℕ} {v : Term} {r : Counters} → Held N N' n v r → 10 * n ≤ length N → take (10 * n) N' ≡ take (10 * n) N
@@ -47,7 +52,7 @@ kept {N} {N'} {n} {v} {r} h long =
     ∙ take_at (take (10 * n) N) (nodes_t n v) (10 * n) (length-take-le (10 * n) N long)
 
 -- a tree that was read has a node
-pub read_some : {p : Reader Term} {L T N D N' D' : List ℕ} {c : Counters} {r : Step} {x : Span} → Said p L T N D N' D' c r → r.parsed ≡ parsed.Read x → 0 < r.counters.nodes
+pub read_some : {p : Reader Term} {L T N D N' D' : List ℕ} {c : Counters} {v_r : Parsed} {r : Counters} {x : Span} → Said p L T N D N' D' c v_r r → v_r ≡ Ok x → 0 < r.nodes
 unfolding size_t
 read_some h w =
     let y = what_read _ _ (sym h.what ∙ w) in
@@ -61,8 +66,8 @@ few_quiet at i (read x) j e r f h = omega arith
 few_quiet at i reported j e r f h = omega arith
 few_quiet at i absent j e r f h = omega arith
 
-bounded : {p : Reader Term} {L T N D N' D' : List ℕ} {c : Counters} {r : Step} → laws.Law p (place L T) (Cost (place L T) 0 (all_clean (place L T)) c.at 0 0) c.at c.end 0 0 → c.at ≤ count T
-    → Spared N N' c r.counters → Said p L T N D N' D' c r → TermTold p L T N D N' D' c r
+bounded : {p : Reader Term} {L T N D N' D' : List ℕ} {c : Counters} {v_r : Parsed} {r : Counters} → laws.Law p (place L T) (Cost (place L T) 0 (all_clean (place L T)) c.at 0 0) c.at c.end 0 0 → c.at ≤ count T
+    → Spared N N' c r → Said p L T N D N' D' c v_r r → TermTold p L T N D N' D' c v_r r
 bounded {p} {L} {T} {c = c} law on w h =
     let f = laws.forward p (place L T) c.at c.end in
     let s = run p (place L T) c.at c.end in
@@ -83,8 +88,8 @@ absent_nothing L T room i l e =
     let q = rw e at (law_run (prefix_cost (place L T) 0 (all_clean (place L T)) fuel room i l 0 0)) in
     (q.0, omega (arith, q.1))
 
-pub absent_quiet : {L T N D N₁ D₁ : List ℕ} {c : Counters} (room : ℕ) {r : Step} → PrefixTold L T N D N₁ D₁ c room r → r.parsed ≡ parsed.Absent
-    → (r.counters.at ≡ c.at) × (r.counters.diagnostics ≡ c.diagnostics)
+pub absent_quiet : {L T N D N₁ D₁ : List ℕ} {c : Counters} (room : ℕ) {v_r : Parsed} {r : Counters} → PrefixTold L T N D N₁ D₁ c room v_r r → v_r ≡ Err errors.Absent
+    → (r.at ≡ c.at) × (r.diagnostics ≡ c.diagnostics)
 absent_quiet {L} {T} {c = c} room g w =
     let n = absent_nothing L T room c.at c.end (what_absent _ (sym g.told.what ∙ w)) in
     (g.told.at ∙ n.0, omega (arith, g.told.seen, n.1))
@@ -92,10 +97,10 @@ absent_quiet {L} {T} {c = c} room g w =
 -- ---- parse_prefix
 
 module _ (L T N D : List ℕ) (c : Counters) (room : ℕ) (on : c.at ≤ count T) where
-  prefix_told : {N' D' : List ℕ} {r : Step} → Spared N N' c r.counters → Said (parse_prefix fuel room) L T N D N' D' c r → PrefixTold L T N D N' D' c room r
+  prefix_told : {N' D' : List ℕ} {v_r : Parsed} {r : Counters} → Spared N N' c r → Said (parse_prefix fuel room) L T N D N' D' c v_r r → PrefixTold L T N D N' D' c room v_r r
   prefix_told w h = bounded (prefix_cost (place L T) 0 (all_clean (place L T)) fuel room c.at c.end 0 0) on w h
 
-  pub prefix_full : {D' : List ℕ} {r : Step} → room ≡ 0 → DepthTold T D D' c r → PrefixTold L T N D N D' c room r
+  pub prefix_full : {D' : List ℕ} {v_r : Parsed} {r : Counters} → room ≡ 0 → DepthTold T D D' c v_r r → PrefixTold L T N D N D' c room v_r r
   unfolding parse_prefix
   prefix_full z h = prefix_told (λ j b. refl) (rw z (h.told L N))
 
@@ -108,54 +113,54 @@ module _ (L T N D : List ℕ) (c : Counters) (room : ℕ) (on : c.at ≤ count T
         go zero h = absurd (h refl)
         go (suc r) h = rw sub-one
 
-    pub prefix_end : token_at T c.at ≡ peeked.End → PrefixTold L T N D N D c room (record { parsed = parsed.Absent; counters = c })
+    pub prefix_end : token_at T c.at ≡ None → PrefixTold L T N D N D c room (Err errors.Absent) c
     unfolding parse_prefix_term leaf_term
     prefix_end e = prefix_told (λ j b. refl) (renamed opened (done e (done e (done e (done e (done e (done e (done e (done e (done e absent_told))))))))))
 
-    module _ {k : Token} (t : token_at T c.at ≡ peeked.Is k) where
+    module _ {k : Token} (t : token_at T c.at ≡ Some k) where
       abbrev text : List ℕ
       text = text_of L k.start k.end
 
-      module _ {N' D' : List ℕ} {r : Step} {q : Counters} (step : q ≡ stepped c k) where
+      module _ {N' D' : List ℕ} {v_r : Parsed} {r : Counters} {q : Counters} (step : q ≡ stepped c k) where
         -- its first token has left room for a record
-        behind_one : {p : Reader Term} → BehindTold p L T N D N' D' q r → Spared N N' c r.counters
+        behind_one : {p : Reader Term} → BehindTold p L T N D N' D' q v_r r → Spared N N' c r
         behind_one h j b = h.past j (omega (arith, b, ap (λ z. z.at) step, ap (λ z. z.nodes) step))
 
-        pub prefix_unary : is_unary k text ≡ true → BehindTold (unary_term (room - 1) k) L T N D N' D' q r → PrefixTold L T N D N' D' c room r
+        pub prefix_unary : is_unary k text ≡ true → BehindTold (unary_term (room - 1) k) L T N D N' D' q v_r r → PrefixTold L T N D N' D' c room v_r r
         unfolding parse_prefix_term
         prefix_unary u h = prefix_told (behind_one h) (renamed opened (hit t u refl (rw step at h).told))
 
-        pub prefix_plus : is_unary k text ≡ false → k.kind ≡ Kinds.plus → BehindTold (plus_term (room - 1) k) L T N D N' D' q r → PrefixTold L T N D N' D' c room r
+        pub prefix_plus : is_unary k text ≡ false → k.kind ≡ Kinds.plus → BehindTold (plus_term (room - 1) k) L T N D N' D' q v_r r → PrefixTold L T N D N' D' c room v_r r
         unfolding parse_prefix_term
         prefix_plus u e h = prefix_told (behind_one h) (renamed opened (miss t u (hit t (rw e) refl (rw step at h).told)))
 
-        pub prefix_group : is_unary k text ≡ false → k.kind ≡ Kinds.left_paren → BehindTold (group_term (room - 1) k) L T N D N' D' q r → PrefixTold L T N D N' D' c room r
+        pub prefix_group : is_unary k text ≡ false → k.kind ≡ Kinds.left_paren → BehindTold (group_term (room - 1) k) L T N D N' D' q v_r r → PrefixTold L T N D N' D' c room v_r r
         unfolding parse_prefix_term parse_expression
         prefix_group u e h = prefix_told (behind_one h) (renamed opened (miss t u (miss t (rw e) (hit t (rw e) refl (rw step at h).told))))
 
-      pub prefix_leaf : {N' D' : List ℕ} {r : Step} → is_unary k text ≡ false → (k.kind ≡ Kinds.plus → ⊥) → (k.kind ≡ Kinds.left_paren → ⊥)
-          → TokenTold leaf_term L k N D N' D' c r → PrefixTold L T N D N' D' c room r
+      pub prefix_leaf : {N' D' : List ℕ} {v_r : Parsed} {r : Counters} → is_unary k text ≡ false → (k.kind ≡ Kinds.plus → ⊥) → (k.kind ≡ Kinds.left_paren → ⊥)
+          → TokenTold leaf_term L k N D N' D' c v_r r → PrefixTold L T N D N' D' c room v_r r
       unfolding parse_prefix_term
       prefix_leaf u e f h = prefix_told h.past (renamed opened (miss t u (miss t (ne_eqb _ _ e) (miss t (ne_eqb _ _ f) (h.told T t)))))
 
 -- ---- behind a term or an expression: the reader p there answers r
 
-module _ {p : Reader Term} {L T N D N₁ D₁ : List ℕ} {c : Counters} {r : Step} (g : TermTold p L T N D N₁ D₁ c r) where
+module _ {p : Reader Term} {L T N D N₁ D₁ : List ℕ} {c : Counters} {v_r : Parsed} {r : Counters} (g : TermTold p L T N D N₁ D₁ c v_r r) where
   abbrev first : Reading Term
   first = run p (place L T) c.at c.end
 
-  pub is_read : {x : Span} → r.parsed ≡ parsed.Read x → (e : Expr) × (first.value ≡ read e) × (x ≡ span_e e)
+  pub is_read : {x : Span} → v_r ≡ Ok x → (e : Expr) × (first.value ≡ read e) × (x ≡ span_e e)
   is_read w = what_read _ _ (sym g.told.what ∙ w)
 
-  pub is_reported : r.parsed ≡ parsed.Reported → first.value ≡ reported
+  pub is_reported : v_r ≡ Err errors.Reported → first.value ≡ reported
   is_reported w = what_reported _ (sym g.told.what ∙ w)
 
-  pub is_absent : r.parsed ≡ parsed.Absent → first.value ≡ absent
+  pub is_absent : v_r ≡ Err errors.Absent → first.value ≡ absent
   is_absent w = what_absent _ (sym g.told.what ∙ w)
 
   -- at most one node and one diagnostic more
-  pub behind : {q : Reader Term} {N₂ D₂ : List ℕ} {s : Step} → Said q L T N D N₂ D₂ c s → ((j : ℕ) → r.counters.nodes < j → drop (10 * j) N₂ ≡ drop (10 * j) N₁)
-      → s.counters.at ≡ r.counters.at → s.counters.nodes ≤ r.counters.nodes + 1 → s.counters.diagnostics ≤ r.counters.diagnostics + 1 → BehindTold q L T N D N₂ D₂ c s
+  pub behind : {q : Reader Term} {N₂ D₂ : List ℕ} {v_s : Parsed} {s : Counters} → Said q L T N D N₂ D₂ c v_s s → ((j : ℕ) → r.nodes < j → drop (10 * j) N₂ ≡ drop (10 * j) N₁)
+      → s.at ≡ r.at → s.nodes ≤ r.nodes + 1 → s.diagnostics ≤ r.diagnostics + 1 → BehindTold q L T N D N₂ D₂ c v_s s
   behind t w a n d = record {
     told = t;
     past = λ j b. w j (omega (arith, b, g.few)) ∙ g.past j (omega (arith, b));
@@ -166,19 +171,19 @@ module _ {p : Reader Term} {L T N D N₁ D₁ : List ℕ} {c : Counters} {r : St
   }
 
   -- what the term is, the whole is
-  pub passed_on : (tail : Term → Reader Term) (v : Term) → first.value ≡ v → answer v ≡ tail v → Said (p >>= tail) L T N D N₁ D₁ c r
+  pub passed_on : (tail : Term → Reader Term) (v : Term) → first.value ≡ v → answer v ≡ tail v → Said (p >>= tail) L T N D N₁ D₁ c v_r r
   passed_on tail v e eq = bound g.told e (renamed eq (answered (g.told.what ∙ ap parsed_of e) refl (held_as g.told e)))
 
   -- the term has failed, and the whole with it
-  pub fails_on : (tail : Term → Reader Term) → r.parsed ≡ parsed.Reported → answer reported ≡ tail reported → BehindTold (p >>= tail) L T N D N₁ D₁ c r
-  fails_on tail w eq = behind (passed_on tail reported (is_reported w) eq) (λ j b. refl) refl (omega arith) (omega arith)
+  pub fails_on : (tail : Term → Reader Term) → v_r ≡ Err errors.Reported → answer reported ≡ tail reported → BehindTold (p >>= tail) L T N D N₁ D₁ c (Err errors.Reported) r
+  fails_on tail w eq = subst (λ z. BehindTold (p >>= tail) L T N D N₁ D₁ c z r) w (behind (passed_on tail reported (is_reported w) eq) (λ j b. refl) refl (omega arith) (omega arith))
 
   -- it has failed or is not there, told with one diagnostic more
   pub told_more : 10 * c.nodes ≤ length N → (tail : Term → Reader Term) {x y : Diagnostic} (v : Term) → first.value ≡ v → size_t v ≡ 0 → raise x (answer reported) ≡ tail v → y ≡ x
-      → {D₂ : List ℕ} {q : Step} → DeepTold D₁ D₂ r.counters y q → BehindTold (p >>= tail) L T N D N₁ D₂ c q
+      → {D₂ : List ℕ} {v_q : Parsed} {q : Counters} → DeepTold D₁ D₂ r y v_q q → BehindTold (p >>= tail) L T N D N₁ D₂ c v_q q
   unfolding parsed_of size_t
   told_more long tail v e z eq f h =
-      let back : r.counters.nodes ≡ c.nodes = omega (arith, (held_as g.told e).total, z) in
+      let back : r.nodes ≡ c.nodes = omega (arith, (held_as g.told e).total, z) in
       behind (bound g.told e (renamed eq (raised (raised_as f (deep_raised h)) (answered h.what refl (held_none reported refl (h.same ∙ back) (kept g.told.held long)))))) (λ j b. refl)
       h.at (omega (arith, h.same)) (omega (arith, h.push.next))
 
@@ -188,80 +193,91 @@ stored_unary : (P : List ℕ) (n x o : ℕ) (e : Expr) (s : Span) → x ≡ n + 
 unfolding nodes words
 stored_unary P n x o e s h = rw h (simp append_assoc)
 
-module _ {L T N D N₁ D₁ : List ℕ} {c : Counters} (room : ℕ) {r : Step} (long : 10 * c.nodes ≤ length N) (g : PrefixTold L T N D N₁ D₁ c room r) where
+module _ {L T N D N₁ D₁ : List ℕ} {c : Counters} (room : ℕ) {v_r : Parsed} {r : Counters} (long : 10 * c.nodes ≤ length N) (g : PrefixTold L T N D N₁ D₁ c room v_r r) where
   module _ (k : Token) where
-    pub unary_reads : {x : Span} {N₂ : List ℕ} {o : ℕ} {q : Counters} → r.parsed ≡ parsed.Read x → o ≡ unary_operator k.kind
-        → NodeTold N₁ N₂ r.counters (node_record 5 o (r.counters.nodes - 1) 65535 (span k.start x.end) (words 4 0)) q
-        → BehindTold (unary_term room k) L T N D N₂ D₁ c (record { parsed = parsed.Read (span k.start x.end); counters = q })
+    pub unary_reads : {x : Span} {N₂ : List ℕ} {o : ℕ} {q : Counters} → v_r ≡ Ok x → o ≡ unary_operator k.kind
+        → NodeTold N₁ N₂ r (node_record 5 o (r.nodes - 1) 65535 (span k.start x.end) (words 4 0)) q
+        → BehindTold (unary_term room k) L T N D N₂ D₁ c (Ok (span k.start x.end)) q
     unfolding negated parsed_of size_t nodes_t size span_e
     unary_reads {x} {N₂} {o} {q} w u p =
         let y = is_read g w in
-        let h : Held N N₁ c.nodes (read y.0) r.counters = held_as g.told y.1 in
+        let h : Held N N₁ c.nodes (read y.0) r = held_as g.told y.1 in
         behind g
-        (bound g.told y.1 (counted p.at p.end p.seen (answered (ap (λ z. parsed.Read (span k.start z.end)) y.2) refl record {
+        (bound g.told y.1 (counted p.at p.end p.seen (answered (ap (λ z. Ok (span k.start z.end)) y.2) refl record {
           total = omega (arith, p.put.next, h.total);
           bytes =
               p.put.bytes
-              ∙ ap (λ z. z ++ node_record 5 o (r.counters.nodes - 1) 65535 (span k.start x.end) (words 4 0)) h.bytes
-              ∙ stored_unary (take (10 * c.nodes) N) c.nodes r.counters.nodes o y.0 (span k.start x.end) h.total
+              ∙ ap (λ z. z ++ node_record 5 o (r.nodes - 1) 65535 (span k.start x.end) (words 4 0)) h.bytes
+              ∙ stored_unary (take (10 * c.nodes) N) c.nodes r.nodes o y.0 (span k.start x.end) h.total
               ∙ ap₂ (λ a z. take (10 * c.nodes) N ++ nodes c.nodes (unary a y.0 (span k.start z.end))) u y.2;
         })))
         p.put.past p.at (omega (arith, p.put.next)) (omega (arith, p.seen))
 
-    pub unary_reports : r.parsed ≡ parsed.Reported → BehindTold (unary_term room k) L T N D N₁ D₁ c r
+    pub unary_reports : v_r ≡ Err errors.Reported → BehindTold (unary_term room k) L T N D N₁ D₁ c (Err errors.Reported) r
     unfolding negated
     unary_reports w = fails_on g (negated k) w refl
 
-    pub unary_absents : {D₂ : List ℕ} {y : Diagnostic} {q : Step} → r.parsed ≡ parsed.Absent → y ≡ expression_expected (span_of k) → DeepTold D₁ D₂ r.counters y q
-        → BehindTold (unary_term room k) L T N D N₁ D₂ c q
+    pub unary_absents : {D₂ : List ℕ} {y : Diagnostic} {v_q : Parsed} {q : Counters} → v_r ≡ Err errors.Absent → y ≡ expression_expected (span_of k) → DeepTold D₁ D₂ r y v_q q
+        → BehindTold (unary_term room k) L T N D N₁ D₂ c v_q q
     unfolding negated size_t
     unary_absents w f h = told_more g long (negated k) absent (is_absent g w) refl refl f h
 
-    pub plus_reports : {D₂ : List ℕ} {s : Span} {y : Diagnostic} {q : Step} → r.parsed ≡ parsed.Reported → s ≡ span_of k → y ≡ plain DiagnosticKinds.plus_is_not_a_unary_operator s no_span → DeepTold D₁ D₂ r.counters y q
-        → BehindTold (plus_term room k) L T N D N₁ D₂ c q
+    pub plus_reports : {D₂ : List ℕ} {s : Span} {y : Diagnostic} {v_q : Parsed} {q : Counters} → v_r ≡ Err errors.Reported → s ≡ span_of k → y ≡ plain DiagnosticKinds.plus_is_not_a_unary_operator s no_span → DeepTold D₁ D₂ r y v_q q
+        → BehindTold (plus_term room k) L T N D N₁ D₂ c v_q q
     unfolding plussed size_t
     plus_reports w sp f h = told_more g long (plussed k) reported (is_reported g w) refl refl (f ∙ ap (λ z. plain DiagnosticKinds.plus_is_not_a_unary_operator z no_span) sp) h
 
-    pub plus_absents : {D₂ : List ℕ} {s : Span} {y : Diagnostic} {q : Step} → r.parsed ≡ parsed.Absent → s ≡ span_of k → y ≡ plain DiagnosticKinds.plus_is_not_a_unary_operator s no_span → DeepTold D₁ D₂ r.counters y q
-        → BehindTold (plus_term room k) L T N D N₁ D₂ c q
+    pub plus_absents : {D₂ : List ℕ} {s : Span} {y : Diagnostic} {v_q : Parsed} {q : Counters} → v_r ≡ Err errors.Absent → s ≡ span_of k → y ≡ plain DiagnosticKinds.plus_is_not_a_unary_operator s no_span → DeepTold D₁ D₂ r y v_q q
+        → BehindTold (plus_term room k) L T N D N₁ D₂ c v_q q
     unfolding plussed size_t
     plus_absents w sp f h = told_more g long (plussed k) absent (is_absent g w) refl refl (f ∙ ap (λ z. plain DiagnosticKinds.plus_is_not_a_unary_operator z no_span) sp) h
 
-    pub plus_reads : {D₂ : List ℕ} {s x : Span} {y : Diagnostic} {q : Step} → r.parsed ≡ parsed.Read x → s ≡ span_of k → y ≡ plain DiagnosticKinds.plus_is_not_a_unary_operator s x → DeepTold D₁ D₂ r.counters y q
-        → BehindTold (plus_term room k) L T N D N₁ D₂ c (record { parsed = parsed.Read x; counters = q.counters })
+    -- it has failed or is not there
+    pub plus_fails : (e : TermError) {D₂ : List ℕ} {s : Span} {y : Diagnostic} {v_q : Parsed} {q : Counters} → v_r ≡ Err e → s ≡ span_of k → y ≡ plain DiagnosticKinds.plus_is_not_a_unary_operator s no_span → DeepTold D₁ D₂ r y v_q q
+        → BehindTold (plus_term room k) L T N D N₁ D₂ c v_q q
+    plus_fails errors.Reported w = plus_reports w
+    plus_fails errors.Absent w = plus_absents w
+
+    pub plus_reads : {D₂ : List ℕ} {s x : Span} {y : Diagnostic} {q : Counters} → v_r ≡ Ok x → s ≡ span_of k → y ≡ plain DiagnosticKinds.plus_is_not_a_unary_operator s x → Raised D₁ D₂ r y q
+        → BehindTold (plus_term room k) L T N D N₁ D₂ c (Ok x) q
     unfolding plussed parsed_of
     plus_reads w sp f h =
         let y = is_read g w in
-        let t : Held N N₁ c.nodes (read y.0) r.counters = held_as g.told y.1 in
+        let t : Held N N₁ c.nodes (read y.0) r = held_as g.told y.1 in
+        let same = ap (λ z. z.nodes) h.counters in
         behind g
-        (bound g.told y.1 (raised (raised_as (f ∙ ap₂ (λ a b. plain DiagnosticKinds.plus_is_not_a_unary_operator a b) sp y.2) (deep_raised h)) (answered (ap parsed.Read y.2) refl record { total = h.same ∙ t.total; bytes = rw h.same t.bytes })))
-        (λ j b. refl) h.at (omega (arith, h.same)) (omega (arith, h.push.next))
+        (bound g.told y.1 (raised (raised_as (f ∙ ap₂ (λ a b. plain DiagnosticKinds.plus_is_not_a_unary_operator a b) sp y.2) (raised_here h)) (answered (ap Ok y.2) h.counters record { total = t.total; bytes = t.bytes })))
+        (λ j b. refl) (ap (λ z. z.at) h.counters) (omega (arith, same)) (omega (arith, ap (λ z. z.diagnostics) h.counters))
 
   -- ---- an expression whose first term answers r
 
-  expression_told : c.at ≤ count T → {N₂ D₂ : List ℕ} {q : Step} → Spared N N₂ c q.counters → Said (parse_prefix fuel room >>= climbed fuel (parse_prefix fuel room)) L T N D N₂ D₂ c q → ExpressionTold L T N D N₂ D₂ c room q
+  expression_told : c.at ≤ count T → {N₂ D₂ : List ℕ} {v_q : Parsed} {q : Counters} → Spared N N₂ c q → Said (parse_prefix fuel room >>= climbed fuel (parse_prefix fuel room)) L T N D N₂ D₂ c v_q q → ExpressionTold L T N D N₂ D₂ c room v_q q
   unfolding parse_expression parse_expression_of
   expression_told on w h = bounded (expression_cost (place L T) 0 (all_clean (place L T)) room c.at c.end 0 0) on w h
 
-  pub expression_reports : c.at ≤ count T → r.parsed ≡ parsed.Reported → ExpressionTold L T N D N₁ D₁ c room r
+  pub expression_reports : c.at ≤ count T → v_r ≡ Err errors.Reported → ExpressionTold L T N D N₁ D₁ c room v_r r
   unfolding climbed
   expression_reports on w = expression_told on g.past (passed_on g (climbed fuel (parse_prefix fuel room)) reported (is_reported g w) refl)
 
-  pub expression_absents : c.at ≤ count T → r.parsed ≡ parsed.Absent → ExpressionTold L T N D N₁ D₁ c room r
+  pub expression_absents : c.at ≤ count T → v_r ≡ Err errors.Absent → ExpressionTold L T N D N₁ D₁ c room v_r r
   unfolding climbed
   expression_absents on w = expression_told on g.past (passed_on g (climbed fuel (parse_prefix fuel room)) absent (is_absent g w) refl)
 
-  pub expression_reads : {x : Span} {N₂ D₂ : List ℕ} {q : Chain} → c.at ≤ count T → count T ≤ 1023 → r.parsed ≡ parsed.Read x → ClimbTold L T N₁ D₁ N₂ D₂ r.counters x 1 room q
-      → ExpressionTold L T N D N₂ D₂ c room (record { parsed = parsed.Read q.span; counters = q.counters })
+  pub expression_fails : (e : TermError) → c.at ≤ count T → v_r ≡ Err e → ExpressionTold L T N D N₁ D₁ c room (Err e) r
+  expression_fails errors.Reported on w = subst (λ z. ExpressionTold L T N D N₁ D₁ c room z r) w (expression_reports on w)
+  expression_fails errors.Absent on w = subst (λ z. ExpressionTold L T N D N₁ D₁ c room z r) w (expression_absents on w)
+
+  pub expression_reads : {x : Span} {N₂ D₂ : List ℕ} {s_q : Span} {q : Counters} → c.at ≤ count T → count T ≤ 1023 → v_r ≡ Ok x → ClimbTold L T N₁ D₁ N₂ D₂ r x 1 room s_q q
+      → ExpressionTold L T N D N₂ D₂ c room (Ok s_q) q
   unfolding climbed parsed_of size_t nodes_t
   expression_reads on few w h =
       let y = is_read g w in
-      let t : Held N N₁ c.nodes (read y.0) r.counters = held_as g.told y.1 in
+      let t : Held N N₁ c.nodes (read y.0) r = held_as g.told y.1 in
       let s = h.told fuel (omega (arith, fuel_enough)) c.nodes y.0 t.total y.2 in
       expression_told on (λ j b. h.past j (omega (arith, b, g.few)) ∙ g.past j (omega (arith, b, h.on)))
-      (bound g.told y.1 (bound s refl (answered (ap parsed.Read s.what) refl record {
+      (bound g.told y.1 (bound s refl (answered (ap Ok s.what) refl record {
         total = s.held.total;
         bytes = s.held.bytes
-            ∙ ap (λ z. z ++ drop (10 * size y.0) (nodes c.nodes (run (parse_expression_from fuel (parse_prefix fuel room) 1 y.0) (place L T) r.counters.at r.counters.end).value)) t.bytes
-            ∙ grown_behind (take (10 * c.nodes) N) (climb_grows c.nodes fuel (parse_prefix fuel room) 1 y.0 (place L T) r.counters.at r.counters.end);
+            ∙ ap (λ z. z ++ drop (10 * size y.0) (nodes c.nodes (run (parse_expression_from fuel (parse_prefix fuel room) 1 y.0) (place L T) r.at r.end).value)) t.bytes
+            ∙ grown_behind (take (10 * c.nodes) N) (climb_grows c.nodes fuel (parse_prefix fuel room) 1 y.0 (place L T) r.at r.end);
       })))

@@ -18,8 +18,7 @@ use Rattle.frames.specs.Reply.{refused, ended, frame_bytes, line_bytes, answer_l
 use Rattle.frames.specs.Machine.{longest, roomy, State, held_line, held_on, carry_on, step, steps, fresh, last_line}
 use Rattle.frames.specs.Batches.{BatchTold, FinishTold}
 use Rattle.frames.specs.Lengths.{length_spelled, long_refused}
-use Rattle.frames.specs.Inner.{Put, Spelled, DigitsAsk, HoldTold, TurnAsks, TurnTold, state}
-use Rattle.frames.specs.declared.batches.Turned.{Turned}
+use Rattle.frames.specs.Inner.{Put, Spelled, DigitsAsk, HoldTold, TurnAsks, state}
 use Rattle.frames.proofs.hex.Digits.{written_none}
 
 -- ---- the line that is held
@@ -134,13 +133,17 @@ pub hold_long : (C : List ℕ) (h b : ℕ) → 917507 ≤ h → HoldTold C h b C
 unfolding held_on carry_on longest
 hold_long C h b g = record { next = rw (le-ltb h 917507 g); carry = rw (le-ltb h 917507 g) }
 
-pub turn_fed : (b h at : ℕ) (C O O' : List ℕ) (w : ℕ) → b ≡ 10 → Put O O' at (held_line h C) w → TurnTold b h at C O C O' (record { held = 0; written = w })
-unfolding step
-turn_fed b h at C O O' w e p = record { stepped = λ i. rw (eq-eqb b 10 e, p.next, p.out) }
+-- a step, at whatever place of the input
+abbrev pub Turned : ℕ → ℕ → ℕ → List ℕ → List ℕ → ℕ → ℕ → List ℕ → List ℕ → Type 0
+Turned b h at C O h' at' C' O' = (i : ℕ) → step b (state i h at C O) ≡ state (i + 1) h' at' C' O'
 
-pub turn_kept : (b h at : ℕ) (C O C' : List ℕ) (r : ℕ) → (b ≡ 10 → ⊥) → HoldTold C h b C' r → TurnTold b h at C O C' O (record { held = r; written = at })
+pub turn_fed : (b h at : ℕ) (C O O' : List ℕ) (w : ℕ) → b ≡ 10 → Put O O' at (held_line h C) w → Turned b h at C O 0 w C O'
 unfolding step
-turn_kept b h at C O C' r e p = record { stepped = λ i. rw (ne_eqb b 10 e, p.next, p.carry) }
+turn_fed b h at C O O' w e p = λ i. rw (eq-eqb b 10 e, p.next, p.out)
+
+pub turn_kept : (b h at : ℕ) (C O C' : List ℕ) (r : ℕ) → (b ≡ 10 → ⊥) → HoldTold C h b C' r → Turned b h at C O r at C' O
+unfolding step
+turn_kept b h at C O C' r e p = λ i. rw (ne_eqb b 10 e, p.next, p.carry)
 
 -- ---- a part of the input
 
@@ -166,11 +169,11 @@ module _ (I C₀ O₀ : List ℕ) (h₀ i h w : ℕ) (C O : List ℕ) (inv : ste
     unfolding steps roomy
     batch_full g = batch_told (sym (ap (λ l. steps l (state i h w C O)) next_byte ∙ rw (lt-ltb 61432 w g)) ∙ inv)
 
-    pub batch_on : (C' O' : List ℕ) (t : Turned) → w ≤ 61432 → TurnTold (get_or I i 0) h w C O C' O' t
-        → steps (drop (i + 1) I) (state (i + 1) t.held t.written C' O') ≡ steps I (fresh h₀ C₀ O₀)
+    pub batch_on : (h' w' : ℕ) (C' O' : List ℕ) → w ≤ 61432 → Turned (get_or I i 0) h w C O h' w' C' O'
+        → steps (drop (i + 1) I) (state (i + 1) h' w' C' O') ≡ steps I (fresh h₀ C₀ O₀)
     unfolding steps roomy
-    batch_on C' O' t g p =
-        ap (λ s. steps (drop (i + 1) I) s) (sym (p.stepped i))
+    batch_on h' w' C' O' g p =
+        ap (λ s. steps (drop (i + 1) I) s) (sym (p i))
         ∙ sym (ap (λ l. steps l (state i h w C O)) next_byte ∙ rw (le-ltb 61432 w g))
         ∙ inv
 

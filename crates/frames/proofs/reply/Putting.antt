@@ -3,22 +3,23 @@
 use mathlib.Core.Path.{◌≡◌, refl, ◌∙◌, ap, ap₂}
 use mathlib.Core.List.{List, [], ◌∷◌, ◌++◌, append_assoc}
 use Prim.Native.Nat.{ℕ, ◌+◌, ◌*◌, ◌≤◌, ◌<◌}
-use native.Mathlib.Nat.{mul-zero}
 use native.Mathlib.Omega.{arith}
 use lib.ListN.{length, take, set, length-append}
 use Rattle.records.specs.Stores.{written}
 use Rattle.operand.specs.declared.layouts.Layout.{Layout}
 use Rattle.operand.specs.Layouts.{node_size, diagnostic_size, operand_size, free_records, nodes_within}
-use Rattle.operand.specs.Layout.{bytes_of, head_laid, operand_number, no_operand_number}
+use Rattle.operand.specs.Layout.{bytes_of, head_laid}
 use Rattle.layout.specs.Head.{head_size}
-use Rattle.layout.specs.declared.answer.Found.{Found}
-use Rattle.layout.specs.declared.answer.Missed.{Missed}
+use Rattle.std.specs.Prelude.{Option, Some, None}
+use Rattle.operand.specs.Lengths.{length_bytes}
+use Rattle.operand.specs.declared.forms.OperandRecord.{OperandRecord}
+use Rattle.layout.specs.declared.answer.Answer.{Answer}
 use Rattle.frames.specs.Frame.{diagnostic_bytes, opening}
 use Rattle.frames.specs.Hex.{digits}
 use Rattle.frames.specs.Reply.{ended}
 use Rattle.records.specs.Written.{written_more, written_take}
 use Rattle.frames.specs.Lengths.{length_digits, digits_append, parts_short}
-use Rattle.frames.specs.Inner.{Put, found_bytes, FoundAsks, missed_bytes, MissedAsks}
+use Rattle.frames.specs.Inner.{Put, case_of, record_bytes, RecordPut, answer_bytes, AnswerAsks}
 use Rattle.frames.proofs.hex.Digits.{written_none, written_one}
 
 pub put_one : (O : List ℕ) (at b : ℕ) → at < length O → Put O (set O at b) at (b ∷ []) (at + 1)
@@ -114,8 +115,8 @@ module _ (w : Layout) where
     pub diagnostics : diagnostic_size w * d ≤ length D
     pub room : at + 2 * (head_size w + operand_size w + node_size w * n + diagnostic_size w * d) + 2 ≤ length O
 
-  pub found_long : (O N D : List ℕ) (at : ℕ) (x : Found) → FoundAsks w O at x N D → Long O N D at x.nodes x.diagnostics
-  found_long O N D at x a =
+  pub answer_long : (O N D : List ℕ) (at : ℕ) (x : Answer) → AnswerAsks w O at x N D → Long O N D at x.nodes x.diagnostics
+  answer_long O N D at x a =
       record {
         head = sizes.0;
         operand = sizes.1;
@@ -124,23 +125,17 @@ module _ (w : Layout) where
         room = omega (arith, parts_short w x.nodes x.diagnostics a.nodes_few a.diagnostics_few, a.room);
       }
 
-  pub missed_long : (O D : List ℕ) (at : ℕ) (x : Missed) → MissedAsks w O at x D → Long O [] D at 0 x.diagnostics
-  missed_long O D at x a =
-      record {
-        head = sizes.0;
-        operand = sizes.1;
-        nodes = omega (arith, mul-zero (node_size w));
-        diagnostics = omega (arith, diagnostics_within x.diagnostics a.diagnostics_few, a.diagnostics_long);
-        room = omega (arith, parts_short w 0 x.diagnostics (omega arith) a.diagnostics_few, a.room);
-      }
+  pub record_long : (x : Option OperandRecord) → length (record_bytes w x) ≤ operand_size w
+  record_long (Some x) = omega (arith, length_bytes w x)
+  record_long None = omega arith
+
+  pub record_put : (x : OperandRecord) (S S' : List ℕ) (n : ℕ) → length S ≡ 30 → n ≡ operand_size w → S' ≡ written S 0 (bytes_of w x) → RecordPut w (Some x) S' n
+  record_put x S S' n l e f =
+      let long = length_bytes w x in
+      record { few = omega (arith, sizes.1); bytes = alone S S' (bytes_of w x) n (omega arith) (omega (arith, sizes.1)) f }
 
   -- the parts of an answer as they are taken, under the answer's name
-  pub found_line : (x : Found) (H R N D O P : List ℕ) (at r h k n d : ℕ) → take h H ≡ head_laid w operand_number x.cursor x.nodes x.diagnostics → take k R ≡ bytes_of w x.operand
-      → n ≡ node_size w * x.nodes → d ≡ diagnostic_size w * x.diagnostics → Put O P at (ended w (take h H ++ (take k R ++ (take n N ++ take d D)))) r → Put O P at (ended w (found_bytes w x N D)) r
-  unfolding found_bytes
-  found_line x H R N D O P at r h k n d e f g i p = rw (e, f, g, i) at p
-
-  pub missed_line : (x : Missed) (H D O P : List ℕ) (at r h d : ℕ) → take h H ≡ head_laid w no_operand_number x.cursor 0 x.diagnostics → d ≡ diagnostic_size w * x.diagnostics
-      → Put O P at (ended w (take h H ++ ([] ++ ([] ++ take d D)))) r → Put O P at (ended w (missed_bytes w x D)) r
-  unfolding missed_bytes
-  missed_line x H D O P at r h d e i p = rw (e, i) at p
+  pub answer_line : (x : Answer) (H R N D O P : List ℕ) (at r h k n d : ℕ) → take h H ≡ head_laid w (case_of x.operand) x.cursor x.nodes x.diagnostics → take k R ≡ record_bytes w x.operand
+      → n ≡ node_size w * x.nodes → d ≡ diagnostic_size w * x.diagnostics → Put O P at (ended w (take h H ++ (take k R ++ (take n N ++ take d D)))) r → Put O P at (ended w (answer_bytes w x N D)) r
+  unfolding answer_bytes
+  answer_line x H R N D O P at r h k n d e f g i p = rw (e, f, g, i) at p

@@ -2,115 +2,85 @@
 -- Assumes nothing.
 use mathlib.Core.Path.{◌≡◌, refl, sym, ◌∙◌, ap, ap₂}
 use mathlib.Core.List.{List, ◌++◌}
-use Prim.Native.Nat.{ℕ, zero, suc, ◌+◌, ◌-◌, ◌*◌, ◌≤◌}
+use Prim.Native.Nat.{ℕ, ◌+◌, ◌-◌, ◌*◌, ◌≤◌}
 use native.Mathlib.Nat.{mul-zero}
 use native.Mathlib.Omega.{arith}
 use borrow.Author.Tests.{eq-eqb, ne_eqb}
 use lib.ListN.{length, take, drop}
 use Rattle.expressions.specs.Reader.{Reading}
 use Rattle.operand.specs.RefusalNumbers
-use Rattle.operand.specs.Operands.{Operand, Maybe, some, none}
+use Rattle.operand.specs.Operands.{Operand}
 use Rattle.operand.specs.Records.{size_m}
-use Rattle.operand.specs.Forms.{record_of}
 use Rattle.operand.specs.declared.layouts.Layout.{Layout}
 use Rattle.operand.specs.Layouts.{width, number_at, token_size, diagnostic_size, node_store}
-use Rattle.operand.specs.Layout.{nodes_laid, diagnostics_laid, bytes_of, operand_number, no_operand_number, head_laid, answer_line}
+use Rattle.operand.specs.Layout.{records_laid, nodes_laid, diagnostics_laid, head_laid, answer_line}
 use Rattle.operand.specs.Entry.{Input, refusal, reading_at}
 use Rattle.layout.specs.Promise.{result_of, result_at, EntryPromise}
 use Rattle.operand.specs.Conditions.{Valid}
-use Rattle.operand.proofs.Conditions.{refuses_bounds}
 use Rattle.layout.specs.Answers as Answers
-use Rattle.layout.specs.Answers.{Total, operand_valid, missed_valid}
+use Rattle.layout.specs.Answers.{Total, answer_valid}
+use Rattle.std.specs.Prelude.{Option, Some, None, Result, Ok, Err}
+use Rattle.operand.specs.declared.refusals.Refusal.{Refusal}
 use Rattle.layout.specs.declared.answer.Answer.{Answer}
-use Rattle.layout.specs.declared.answer.Found.{Found}
-use Rattle.layout.specs.declared.answer.Missed.{Missed}
 use Rattle.frames.specs.Frame.{diagnostic_bytes, max_nesting_depth, max_nesting_depth_lem, line_length, token_count, frame_length, is_frame, input_of, lent}
 use Rattle.frames.specs.Reply.{refused, bytes_at, input_bytes, frame_bytes, ended}
 use Rattle.frames.specs.Lent.{lent_same}
-use Rattle.frames.specs.Inner.{Put, found_bytes, FoundAsks, missed_bytes, MissedAsks, answer_bytes, AnswerAsks, ReadAsks}
+use Rattle.frames.specs.Inner.{Put, case_of, record_bytes, answer_bytes, AnswerAsks, ReadAsks}
 
 -- ---- of a call that keeps the entry's promise
 
-refused_by : {a : Input} {N D : List ℕ} {k : ℕ} → Total a N D (Answer.Refused k) → (k ≡ refusal a) × (1 ≤ k)
-refused_by (Answers.Total.refused n e known f g) = (e, (refuses_bounds known).0)
+refused_by : {a : Input} {N D : List ℕ} {k : Refusal} → Total a N D (Err k) → RefusalNumbers.number k ≡ refusal a
+refused_by (Answers.Total.refused k e known f g) = e
 
--- the code's answer for a reading
-abbrev found_of : Reading (Maybe Operand) → Operand → Found
-found_of r y = record { operand = record_of y; cursor = r.cursor; nodes = size_m (some y); diagnostics = length r.raised }
-
-abbrev missed_of : Reading (Maybe Operand) → Missed
-missed_of r = record { cursor = r.cursor; diagnostics = length r.raised }
-
-module _ (a : Input) (none-used : a.used ≡ 0) (N D : List ℕ) where
-  abbrev s : Reading (Maybe Operand)
+module _ (a : Input) (None-used : a.used ≡ 0) (N D : List ℕ) where
+  abbrev s : Reading (Option Operand)
   s = reading_at a
 
   abbrev w : Layout
   w = a.layout
 
-  -- the added diagnostics are the first ones
-  first_added : (r : Answer) → EntryPromise a N D r → Valid a → take (diagnostic_size w * Answers.diagnostics_added r) D ≡ diagnostics_laid w s.raised
-  first_added r p v =
-      ap (λ k. take (diagnostic_size w * Answers.diagnostics_added r) (drop k D)) (sym (ap (λ k. diagnostic_size w * k) none-used ∙ mul-zero (diagnostic_size w)))
-      ∙ Answers.added_records_lem a N D r p v
-
-  module _ (x : Found) (p : EntryPromise a N D (Answer.Operand x)) where
+  module _ (x : Answer) (p : EntryPromise a N D (Ok x)) where
     v : Valid a
-    v = operand_valid (Answers.total a N D (Answer.Operand x) p)
+    v = answer_valid (Answers.total a N D (Ok x) p)
 
-    found_is : Answer.Operand x ≡ result_of s s.value
+    read_is : x ≡ result_of s s.value
     unfolding result_at
-    found_is = p.value ∙ ap (result_at a) v
+    read_is = let e = p.value ∙ ap (result_at a) v in cc
 
-    pub found_bytes_lem : found_bytes w x N D ≡ input_bytes a
-    unfolding found_bytes input_bytes bytes_at result_of answer_line size_m
-    found_bytes_lem = go s.value refl found_is ∙ ap (bytes_at a) (sym v)
+    -- the added diagnostics are the first ones
+    first_added : take (diagnostic_size w * x.diagnostics) D ≡ diagnostics_laid w s.raised
+    first_added =
+        ap (λ k. take (diagnostic_size w * x.diagnostics) (drop k D)) (sym (ap (λ k. diagnostic_size w * k) None-used ∙ mul-zero (diagnostic_size w)))
+        ∙ Answers.added_records_lem a N D (Ok x) p v
+
+    pub answer_bytes_is : answer_bytes w x N D ≡ input_bytes a
+    unfolding answer_bytes input_bytes bytes_at result_of answer_line size_m records_laid
+    answer_bytes_is = go s.value refl read_is ∙ ap (bytes_at a) (sym v)
       where
-        go : (m : Maybe Operand) → s.value ≡ m → Answer.Operand x ≡ result_of s m → found_bytes w x N D ≡ answer_line w s m
-        go (some y) e h =
-            let q : x ≡ found_of s y = cc in
-            ap₂ (λ l r. l ++ r) (ap (λ (z : Found). head_laid w operand_number z.cursor z.nodes z.diagnostics) q)
-            (ap₂ (λ l r. l ++ r) (ap (λ (z : Found). bytes_of w z.operand) q)
-            (ap₂ (λ l r. l ++ r) (Answers.used_records a N D (Answer.Operand x) p v ∙ ap (nodes_laid w) e) (first_added (Answer.Operand x) p v)))
-        go none e h = let z : ◌≡◌ {A = ℕ} 0 1 = cc in absurd (omega arith)
+        go : (m : Option Operand) → s.value ≡ m → x ≡ result_of s m → answer_bytes w x N D ≡ answer_line w s m
+        go (Some y) e h =
+            ap₂ (λ l r. l ++ r) (ap (λ (z : Answer). head_laid w (case_of z.operand) z.cursor z.nodes z.diagnostics) h)
+            (ap₂ (λ l r. l ++ r) (ap (λ (z : Answer). record_bytes w z.operand) h)
+            (ap₂ (λ l r. l ++ r) (Answers.used_records a N D (Ok x) p v ∙ ap (nodes_laid w) e) first_added))
+        go None e h =
+            ap₂ (λ l r. l ++ r) (ap (λ (z : Answer). head_laid w (case_of z.operand) z.cursor z.nodes z.diagnostics) h)
+            (ap₂ (λ l r. l ++ r) (ap (λ (z : Answer). record_bytes w z.operand) h)
+            (ap₂ (λ l r. l ++ r) (Answers.used_records a N D (Ok x) p v ∙ ap (nodes_laid w) e) first_added))
 
-    pub found_asks : (O : List ℕ) (at : ℕ) → at + 102408 ≤ length O → length N ≡ node_store w → length D ≡ diagnostic_bytes w → FoundAsks w O at x N D
-    found_asks O at room n d = record {
+    pub asks : (O : List ℕ) (at : ℕ) → at + 102408 ≤ length O → length N ≡ node_store w → length D ≡ diagnostic_bytes w → AnswerAsks w O at x N D
+    asks O at room n d = record {
       room = room;
-      nodes_few = Answers.nodes_few a N D (Answer.Operand x) p v;
+      nodes_few = Answers.nodes_few a N D (Ok x) p v;
       nodes_long = n;
-      diagnostics_few = Answers.records_enough a N D (Answer.Operand x) p v;
+      diagnostics_few = Answers.records_enough a N D (Ok x) p v;
       diagnostics_long = d;
     }
 
-  module _ (x : Missed) (p : EntryPromise a N D (Answer.NoOperand x)) where
-    u : Valid a
-    u = missed_valid (Answers.total a N D (Answer.NoOperand x) p)
-
-    missed_is : Answer.NoOperand x ≡ result_of s s.value
-    unfolding result_at
-    missed_is = p.value ∙ ap (result_at a) u
-
-    pub missed_bytes_lem : missed_bytes w x D ≡ input_bytes a
-    unfolding missed_bytes input_bytes bytes_at result_of answer_line
-    missed_bytes_lem = go s.value refl missed_is ∙ ap (bytes_at a) (sym u)
-      where
-        go : (m : Maybe Operand) → s.value ≡ m → Answer.NoOperand x ≡ result_of s m → missed_bytes w x D ≡ answer_line w s m
-        go (some y) e h = let z : ◌≡◌ {A = ℕ} 0 1 = cc in absurd (omega arith)
-        go none e h =
-            let q : x ≡ missed_of s = cc in
-            ap₂ (λ l r. l ++ r) (ap (λ (z : Missed). head_laid w no_operand_number z.cursor 0 z.diagnostics) q) (first_added (Answer.NoOperand x) p u)
-
-    pub missed_asks : (O : List ℕ) (at : ℕ) → at + 102408 ≤ length O → length D ≡ diagnostic_bytes w → MissedAsks w O at x D
-    missed_asks O at room d = record { room = room; diagnostics_few = Answers.records_enough a N D (Answer.NoOperand x) p u; diagnostics_long = d }
-
-  pub refused_bytes : (k : ℕ) → EntryPromise a N D (Answer.Refused k) → refused k ≡ input_bytes a
+  pub refused_bytes : (k : Refusal) → EntryPromise a N D (Err k) → refused (RefusalNumbers.number k) ≡ input_bytes a
   unfolding input_bytes bytes_at
-  refused_bytes k p = go k (refused_by (Answers.total a N D (Answer.Refused k) p))
-    where
-      go : (k : ℕ) → (k ≡ refusal a) × (1 ≤ k) → refused k ≡ bytes_at a (refusal a)
-      go zero h = absurd (omega arith)
-      go (suc k) h = ap (bytes_at a) h.0
+  refused_bytes k p =
+      let n = RefusalNumbers.number_more k in
+      ap refused n.1 ∙ ap (bytes_at a) (sym n.1 ∙ refused_by (Answers.total a N D (Err k) p))
 
 -- ---- a frame
 
@@ -162,26 +132,24 @@ module _ (w : Layout) (B : List ℕ) (line k start mark : ℕ) (N D N' D' : List
           → ◌≡◌ {A = Input} (record { layout = w; line = take i (drop n B); tokens = take j (drop m B); start = s; mark = t; limit = d; nodes = N; diagnostics = D; used = 0 }) (lent w B N D)
       part f₁ f₂ f₃ f₄ f₅ f₆ f₇ = rw (f₁, f₂, f₃, f₄, f₅, f₆, f₇)
 
-  pub read_lent : (r : Answer) → EntryPromise (parts w B line k start mark N D) N' D' r → EntryPromise (lent w B N D) N' D' r
+  pub read_lent : (r : Result Answer Refusal) → EntryPromise (parts w B line k start mark N D) N' D' r → EntryPromise (lent w B N D) N' D' r
   read_lent r p = rw parts_lent at p
 
 module _ (w : Layout) (B N D N' D' : List ℕ) where
-  pub answer_asks : (r : Answer) → EntryPromise (lent w B N D) N' D' r → (O : List ℕ) (at : ℕ) → at + 102408 ≤ length O → length N' ≡ node_store w → length D' ≡ diagnostic_bytes w
-      → AnswerAsks w O at r N' D'
-  unfolding AnswerAsks
-  answer_asks (Answer.Operand x) p O at room n d = found_asks (lent w B N D) refl N' D' x p O at room n d
-  answer_asks (Answer.NoOperand x) p O at room n d = missed_asks (lent w B N D) refl N' D' x p O at room d
-  answer_asks (Answer.Refused k) p O at room n d = omega arith
-
   same_bytes : length B ≡ frame_length w B → length N ≡ node_store w → length D ≡ diagnostic_bytes w → input_bytes (lent w B N D) ≡ frame_bytes w B
   same_bytes h n d = lent_same w B N D n d ∙ sym (is_frame_lem w B h)
 
-  pub answer_bytes_lem : (r : Answer) → EntryPromise (lent w B N D) N' D' r → length B ≡ frame_length w B → length N ≡ node_store w → length D ≡ diagnostic_bytes w
-      → answer_bytes w r N' D' ≡ frame_bytes w B
-  unfolding answer_bytes
-  answer_bytes_lem (Answer.Operand x) p h n d = found_bytes_lem (lent w B N D) refl N' D' x p ∙ same_bytes h n d
-  answer_bytes_lem (Answer.NoOperand x) p h n d = missed_bytes_lem (lent w B N D) refl N' D' x p ∙ same_bytes h n d
-  answer_bytes_lem (Answer.Refused k) p h n d = refused_bytes (lent w B N D) refl N' D' k p ∙ same_bytes h n d
+  pub answer_asks : (x : Answer) → EntryPromise (lent w B N D) N' D' (Ok x) → (O : List ℕ) (at : ℕ) → at + 102408 ≤ length O → length N' ≡ node_store w → length D' ≡ diagnostic_bytes w
+      → AnswerAsks w O at x N' D'
+  answer_asks x p = asks (lent w B N D) refl N' D' x p
+
+  pub answer_bytes_lem : (x : Answer) → EntryPromise (lent w B N D) N' D' (Ok x) → length B ≡ frame_length w B → length N ≡ node_store w → length D ≡ diagnostic_bytes w
+      → answer_bytes w x N' D' ≡ frame_bytes w B
+  answer_bytes_lem x p h n d = answer_bytes_is (lent w B N D) refl N' D' x p ∙ same_bytes h n d
+
+  pub refused_bytes_lem : (k : Refusal) → EntryPromise (lent w B N D) N' D' (Err k) → length B ≡ frame_length w B → length N ≡ node_store w → length D ≡ diagnostic_bytes w
+      → refused (RefusalNumbers.number k) ≡ frame_bytes w B
+  refused_bytes_lem k p h n d = refused_bytes (lent w B N D) refl N' D' k p ∙ same_bytes h n d
 
 -- an answer's line, under its other name
 pub line_of : {O P : List ℕ} {at r : ℕ} (w : Layout) (b c : List ℕ) → b ≡ c → Put O P at (ended w b) r → Put O P at (ended w c) r

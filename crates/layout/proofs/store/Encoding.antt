@@ -13,7 +13,7 @@ use lib.ListN.{length, take, drop, get_or, replicate, length-append, length-take
 use lib.Seq.{drop_at}
 use Rattle.records.specs.Nodes.{low_first}
 use Rattle.records.specs.Stores.{written, cleared}
-use Rattle.records.specs.Written.{written_fits, written_more, written_not, length_written, cleared_fits}
+use Rattle.records.specs.Written.{written_fits, written_more, written_not, cleared_fits}
 use Rattle.operand.specs.declared.layouts.Layout.{Layout}
 use Rattle.operand.specs.Layouts.{number, node_size, diagnostic_size, most_tokens, node_store, nodes_within, records_within, records_past}
 use Rattle.operand.specs.Layout.{last_eight, records_laid, node_from, node_bytes}
@@ -22,12 +22,6 @@ use Rattle.layout.specs.Nodes.{head_from, nodes_encoded}
 use Rattle.layout.specs.Diagnostics.{diagnostic_from, diagnostics_encoded}
 
 -- ---- records one behind the other
-
--- the place of the next one
-pub next_place_lem : (k at i from : ℕ) → at ≡ from + k * i → at + k ≡ from + k * (i + 1)
-next_place_lem k at i from e =
-    let more : k * (i + 1) ≡ k * i + k = ap (λ j. k * j) (add-one i) ∙ mul-suc k i in
-    omega (arith, more)
 
 pub mul_le : (k i n : ℕ) → i ≤ n → k * i ≤ k * n
 mul_le k i n h =
@@ -60,9 +54,6 @@ module _ (f : List ℕ → ℕ → List ℕ) (k : ℕ) (M : List ℕ) (long : (p
       g ∙ ap₂ (λ n p. written n p (f M (10 * i))) e j
       ∙ written_more N from (records_laid f M i) (f M (10 * i)) (omega (arith, l, long (10 * i)))
       ∙ ap (λ n. written N from (records_laid f M n)) (sym (add-one i))
-
-  pub records_long : (N₁ : List ℕ) (i : ℕ) → from + k * i ≤ length N → N₁ ≡ written N from (records_laid f M i) → length N₁ ≡ length N
-  records_long N₁ i h e = ap length e ∙ length_written N from (records_laid f M i) (omega (arith, length_records f k M long i))
 
 -- ---- a node
 

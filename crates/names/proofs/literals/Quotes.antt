@@ -1,97 +1,100 @@
--- The bytes of a literal from a place on.
+-- The bytes of a literal, from its front.
 -- Assumes nothing.
-use mathlib.Core.Path.{◌≡◌, refl, sym, ◌∙◌, ap}
-use mathlib.Core.List.{List, [], ◌∷◌}
-use Prim.Native.Nat.{ℕ, ◌+◌, ◌≤◌, ◌<◌}
-use native.Mathlib.Omega.{arith}
-use native.Mathlib.Nat.{zero-add}
-use native.Mathlib.Numerals.{add-one}
-use borrow.Author.Tests.{eq-eqb, ne_eqb, le-leb, lt-leb}
-use lib.ListN.{length, get_or, drop, set, length-drop, drop_of_length-le}
+use Rattle.std.proofs.Common.{◌≡◌, refl, sym, ◌∙◌, ap, Bool, true, false, eqb, List, [], ◌∷◌, ℕ, ◌+◌, ◌≤◌, ◌<◌, length, get_or, drop, set, arith, zero-add, add-one, eq-eqb, ne_eqb, le-leb, Some, None, MatchOption, Bor}
+use Rattle.std.specs.Bool.{then_some}
+use borrow.Author.Tests.{lt-leb}
 use lib.Seq.{take_all, paste, paste-zero, paste-suc, length-paste}
-use Rattle.names.specs.Literals.{quoted, literal_bytes, Stored}
-use Rattle.names.specs.declared.literals.Literal.{Literal}
-use Rattle.names.proofs.tokens.Lists.{from}
+use Rattle.names.specs.Choice.{pick}
+use Rattle.names.specs.Literals.{quoted, literal_bytes, FirstInner, Stored}
+use Rattle.names.proofs.tokens.Lists.{from, rest, front, length_rest}
 
-quoted_cons : (q c : ℕ) (cs : List ℕ) → (c ≡ q → ⊥) → quoted q (c ∷ cs) ≡ c ∷ quoted q cs
+byte : (q c : ℕ) (cs : List ℕ) → (c ≡ q → ⊥) → quoted q (c ∷ cs) ≡ c ∷ quoted q cs
 unfolding quoted
-quoted_cons q c [] h = simp (ne_eqb c q h)
-quoted_cons q c (d ∷ ds) h = simp (ne_eqb c q h)
+byte q c [] h = simp (ne_eqb c q h)
+byte q c (d ∷ ds) h = simp (ne_eqb c q h)
 
-module _ (t : List ℕ) (q i : ℕ) where
-  pub quoted_out : length t ≤ i → quoted q (drop i t) ≡ []
+last : (q c : ℕ) (cs : List ℕ) → c ≡ q → length cs < 1 → quoted q (c ∷ cs) ≡ []
+unfolding quoted
+last q c [] e h = rw (eq-eqb c q e)
+last q c (d ∷ ds) e h = absurd (omega arith)
+
+two : (q c d : ℕ) (ds : List ℕ) → c ≡ q → (b : Bool) → eqb d q ≡ b → quoted q (c ∷ d ∷ ds) ≡ pick b (q ∷ quoted q ds) []
+unfolding quoted
+two q c d ds e b h = rw (eq-eqb c q e, h, e)
+
+module _ (q : ℕ) (t : List ℕ) where
+  pub quoted_none : length t < 1 → quoted q t ≡ []
   unfolding quoted
-  quoted_out h = rw (drop_of_length-le t h)
+  quoted_none h = go t h
+    where
+      go : (l : List ℕ) → length l < 1 → quoted q l ≡ []
+      go [] g = refl
+      go (c ∷ cs) g = absurd (omega arith)
 
-  pub quoted_byte : i < length t → (get_or t i 0 ≡ q → ⊥) → quoted q (drop i t) ≡ get_or t i 0 ∷ quoted q (drop (i + 1) t)
-  quoted_byte h n = rw (from t i h) (quoted_cons q _ _ n)
+  module _ (h : 1 ≤ length t) where
+    pub quoted_first : (get_or t 0 0 ≡ q → ⊥) → FirstInner q t (get_or t 0 0) (rest t)
+    quoted_first n = (ap (quoted q) (front t h) ∙ byte q _ (rest t) n, omega (arith, length_rest t h))
 
-  module _ (e : get_or t i 0 ≡ q) where
-    pub quoted_last : i < length t → length t ≤ i + 1 → quoted q (drop i t) ≡ []
-    unfolding quoted
-    quoted_last h g = rw (from t i h, drop_of_length-le t {i = i + 1} g, eq-eqb _ _ e)
+    module _ (e : get_or t 0 0 ≡ q) where
+      pub quoted_last : length (rest t) < 1 → quoted q t ≡ []
+      quoted_last g = ap (quoted q) (front t h) ∙ last q _ (rest t) e g
 
-    module _ (h : i + 1 < length t) where
-      two : drop i t ≡ get_or t i 0 ∷ get_or t (i + 1) 0 ∷ drop (i + 1 + 1) t
-      two = from t i (omega arith) ∙ ap (λ l. get_or t i 0 ∷ l) (from t (i + 1) h)
+      module _ (g : 1 ≤ length (rest t)) where
+        both_are : (b : Bool) → eqb (get_or (rest t) 0 0) q ≡ b → quoted q t ≡ pick b (q ∷ quoted q (rest (rest t))) []
+        both_are b f = ap (quoted q) (front t h ∙ ap (λ l. get_or t 0 0 ∷ l) (front (rest t) g)) ∙ two q _ _ (rest (rest t)) e b f
 
-      pub quoted_close : (get_or t (i + 1) 0 ≡ q → ⊥) → quoted q (drop i t) ≡ []
-      unfolding quoted
-      quoted_close n = rw (two, eq-eqb _ _ e, ne_eqb _ _ n)
+        pub quoted_second : (r : Bor (List ℕ)) → r.now ≡ rest (rest t)
+            → MatchOption {T = ℕ × Bor (List ℕ)} (then_some (eqb (get_or (rest t) 0 0) q) (q, r)) (quoted q t ≡ []) (λ p. FirstInner q t p.0 p.1.now)
+        quoted_second r f = go (eqb (get_or (rest t) 0 0) q) refl
+          where
+            go : (b : Bool) → eqb (get_or (rest t) 0 0) q ≡ b → MatchOption {T = ℕ × Bor (List ℕ)} (then_some b (q, r)) (quoted q t ≡ []) (λ p. FirstInner q t p.0 p.1.now)
+            go true e = (both_are true e ∙ ap (λ l. q ∷ quoted q l) (sym f), omega (arith, ap length f, length_rest t h, length_rest (rest t) g))
+            go false e = both_are false e
 
-      pub quoted_double : get_or t (i + 1) 0 ≡ q → quoted q (drop i t) ≡ get_or t i 0 ∷ quoted q (drop (i + 1 + 1) t)
-      unfolding quoted
-      quoted_double d = rw (two, eq-eqb _ _ e, eq-eqb _ _ d)
+pub literal_none : (t : List ℕ) → length t < 1 → literal_bytes t ≡ []
+unfolding literal_bytes
+literal_none [] h = refl
+literal_none (c ∷ cs) h = absurd (omega arith)
 
-pub literal_from : (t : List ℕ) → literal_bytes t ≡ quoted (get_or t 0 0) (drop 1 t)
-unfolding literal_bytes quoted
-literal_from [] = refl
-literal_from (q ∷ cs) = refl
+pub literal_some : (t : List ℕ) → 1 ≤ length t → literal_bytes t ≡ quoted (get_or t 0 0) (rest t)
+unfolding literal_bytes
+literal_some t h = ap literal_bytes (front t h)
 
 -- ---- the bytes in a store
 
--- the literal of t has `total` bytes, of which n stand in the store, o before; the others are what t has from i on
-pub record Storing (t o : List ℕ) (total q n i : ℕ) (o' : List ℕ) : Type 0 where
-  pub all : total ≡ length (literal_bytes t)
-  pub room : total ≤ length o
-  pub done : n ≤ total
-  pub rest : drop n (literal_bytes t) ≡ quoted q (drop i t)
-  pub store : o' ≡ paste o 0 (literal_bytes t) n
+-- of the bytes b, n stand in the store, o before; left are the others
+pub record Storing (b o : List ℕ) (n : ℕ) (left o' : List ℕ) : Type 0 where
+  pub room : length b ≤ length o
+  pub all : n + length left ≡ length b
+  pub rest : drop n b ≡ left
+  pub store : o' ≡ paste o 0 b n
 
-module _ (t o : List ℕ) (total : ℕ) (e : total ≡ length (literal_bytes t)) where
-  pub storing_first : total ≤ length o → Storing t o total (get_or t 0 0) 0 1 o
-  storing_first r = record { all = e; room = r; done = omega arith; rest = literal_from t; store = paste-zero o 0 (literal_bytes t) }
+module _ (b o : List ℕ) where
+  pub stored_not : length o < length b → Stored b o o None
+  stored_not h = let x = lt-leb (length b) (length o) h in record { answer = simp x; store = simp x }
 
-  pub stored_not : length o < total → Stored (literal_bytes t) o o Literal.NoRoom
-  stored_not h = let x = lt-leb (length (literal_bytes t)) (length o) (omega arith) in record { answer = simp x; store = simp x }
+  pub storing_first : length b ≤ length o → Storing b o 0 b o
+  storing_first r = record { room = r; all = omega arith; rest = refl; store = paste-zero o 0 b }
 
-module _ {t o : List ℕ} {total q n i : ℕ} {o' : List ℕ} (s : Storing t o total q n i o') where
-  abbrev lits : List ℕ
-  lits = literal_bytes t
+module _ {b o : List ℕ} {n : ℕ} {left o' : List ℕ} (s : Storing b o n left o') where
+  pub storing_room : {c : ℕ} {more : List ℕ} → left ≡ c ∷ more → n < length o'
+  storing_room e = omega (arith, s.room, s.all, ap length e, ap length s.store, length-paste o 0 b n (omega (arith, s.room, s.all)) (omega (arith, s.all)))
 
   -- one byte more in the store
-  stored_on : n < total → set (paste o 0 lits n) n (get_or lits n 0) ≡ paste o 0 lits (n + 1)
-  stored_on h =
-      ap (λ k. set (paste o 0 lits n) k (get_or lits n 0)) (sym (zero-add n))
-      ∙ paste-suc o 0 lits n 0 (rw zero-add (omega (arith, s.room))) (omega (arith, s.all))
-      ∙ ap (paste o 0 lits) (sym (add-one n))
+  pub storing_next : (c : ℕ) (more : List ℕ) → left ≡ c ∷ more → Storing b o (n + 1) more (set o' n c)
+  storing_next c more e =
+      let h : n < length b = omega (arith, s.all, ap length e) in
+      let k = from b n h in
+      let r = s.rest ∙ e in
+      let g : get_or b n 0 ≡ c = cc in
+      let f =
+      ap (λ k. set (paste o 0 b n) k (get_or b n 0)) (sym (zero-add n))
+      ∙ paste-suc o 0 b n 0 (rw zero-add (omega (arith, s.room))) h
+      ∙ ap (paste o 0 b) (sym (add-one n)) in
+      record { room = s.room; all = omega (arith, s.all, ap length e); rest = cc; store = ap (λ x. set x n c) s.store ∙ ap (set (paste o 0 b n) n) (sym g) ∙ f }
 
-  pub storing_next : (c j : ℕ) → n < total → quoted q (drop i t) ≡ c ∷ quoted q (drop j t) → Storing t o total q (n + 1) j (set o' n c)
-  storing_next c j h g =
-      let k = from lits n (omega (arith, s.all)) in
-      let r = s.rest ∙ g in
-      let e : get_or lits n 0 ≡ c = cc in
-      record { all = s.all; room = s.room; done = omega arith; rest = cc; store = ap (λ x. set x n c) s.store ∙ ap (set (paste o 0 lits n) n) (sym e) ∙ stored_on h }
-
-  -- a byte is left to store, so the literal has not ended
-  pub storing_not_end : n < total → quoted q (drop i t) ≡ [] → ⊥
-  storing_not_end h g = omega (arith, simp length-drop at (ap length (s.rest ∙ g)), s.all)
-
-  pub storing_same : length o' ≡ length o
-  storing_same = ap length s.store ∙ length-paste o 0 lits n (omega (arith, s.done, s.room)) (omega (arith, s.done, s.all))
-
-  pub storing_last : total ≤ n → Stored lits o o' (Literal.Is total)
-  storing_last h =
-      let x = le-leb (length lits) (length o) (omega (arith, s.all, s.room)) in
-      let y : n ≡ length lits = omega (arith, s.done, s.all) in
-      record { answer = rw x (ap Literal.Is s.all); store = rw x (s.store ∙ rw (zero-add, take_all n lits (omega arith), y)) }
+  pub storing_last : left ≡ [] → Stored b o o' (Some n)
+  storing_last e =
+      let x = le-leb (length b) (length o) s.room in
+      let y : n ≡ length b = omega (arith, s.all, ap length e) in
+      record { answer = rw x (ap Some y); store = rw x (s.store ∙ rw (zero-add, take_all n b (omega arith), y)) }

@@ -1,26 +1,44 @@
 -- Special registers and reserved names by the length of the name.
 -- Assumes nothing.
-use mathlib.Core.Path.{◌≡◌, refl, ap}
-use mathlib.Core.Bool.{false}
+use mathlib.Core.Path.{◌≡◌, refl, sym, ◌∙◌, ap}
+use mathlib.Core.Bool.{Bool, true, false}
 use mathlib.Core.List.{List, [], ◌∷◌}
+use Rattle.std.specs.Prelude.{Some, None}
+use Rattle.std.specs.Bool.{then_some}
+use Rattle.names.specs.Choice.{pick, either}
 use Prim.Native.Nat.{ℕ, ◌<◌}
 use native.Mathlib.Omega.{arith}
 use lib.ListN.{length}
-use Rattle.names.specs.Laws.{both_false}
-use Rattle.names.specs.Letters.{bytes, lowered, same}
-use Rattle.names.specs.Registers.{program_counter, numbered, special_names, special_of, reserved}
-use Rattle.names.specs.Reserved.{reserved_rule}
-use Rattle.names.specs.declared.registers.SpecialRegister.{SpecialRegister}
+use Rattle.names.specs.Laws.{both_false, either_assoc}
+use Rattle.names.specs.Letters.{bytes, lowered, same, spelled}
+use Rattle.names.specs.Registers.{register_of, program_counter, named, special_registers, special_of, reserved}
+use Rattle.names.specs.declared.registers.SpecialRegister.TheVariants.{Cacr, Caar}
+use Rattle.names.specs.Reserved.{is_register, is_special, reserved_rule}
 use Rattle.names.proofs.letters.Spelling.{spelled_differ, letters, lowered_letters}
 use Rattle.names.proofs.registers.Pairs.{register_not}
 
-pub special_letters : (n : List ℕ) (k : ℕ) → length n ≡ k → special_of n ≡ numbered 1 special_names (letters 0 k n)
+pub then_some_pick : {A : Type 0} (b : Bool) (x : A) → then_some b x ≡ pick b (Some x) None
+then_some_pick true x = refl
+then_some_pick false x = refl
+
+pub special_letters : (n : List ℕ) (k : ℕ) → length n ≡ k → special_of n ≡ named special_registers (letters 0 k n)
 unfolding special_of
-special_letters n k h = ap (numbered 1 special_names) (lowered_letters n 0 k (omega arith))
+special_letters n k h = ap (named special_registers) (lowered_letters n 0 k (omega arith))
+
+module _ (n : List ℕ) (h : length n ≡ 4) where
+  four : special_of n ≡ pick (spelled (bytes "cacr") n) (Some Cacr) (pick (spelled (bytes "caar") n) (Some Caar) None)
+  unfolding named spelled same
+  four = rw (special_letters n 4 h, lowered_letters n 0 4 h) (simp both_false)
+
+  pub special_cacr : spelled (bytes "cacr") n ≡ true → special_of n ≡ Some Cacr
+  special_cacr e = rw e at four
+
+  pub special_caar : spelled (bytes "cacr") n ≡ false → special_of n ≡ pick (spelled (bytes "caar") n) (Some Caar) None
+  special_caar e = rw e at four
 
 -- no special register has another length
-pub special_other : (n : List ℕ) → (length n ≡ 2 → ⊥) → (length n ≡ 3 → ⊥) → (length n ≡ 4 → ⊥) → special_of n ≡ SpecialRegister.Not
-unfolding special_of numbered lowered same
+pub special_other : (n : List ℕ) → (length n ≡ 2 → ⊥) → (length n ≡ 3 → ⊥) → (length n ≡ 4 → ⊥) → special_of n ≡ None
+unfolding special_of named lowered same
 special_other [] x y z = refl
 special_other (c ∷ []) x y z = simp both_false
 special_other (c ∷ d ∷ []) x y z = absurd (x refl)
@@ -36,3 +54,23 @@ reserved_long n h =
     let b = spelled_differ (bytes "pc") n (omega arith) in
     let c = special_other n (omega arith) (omega arith) (omega arith) in
     rw (reserved_rule n, a, b, c)
+
+-- ---- what has been asked of a name before its special register
+
+-- whether it is a register, r, and then whether it is the program counter
+module _ (n : List ℕ) (r : Bool) (e : r ≡ is_register (register_of n)) where
+  pub either_register : r ≡ true → r ≡ either (is_register (register_of n)) (program_counter n)
+  either_register h = rw (← e, h)
+
+  pub either_counter : r ≡ false → program_counter n ≡ either (is_register (register_of n)) (program_counter n)
+  either_counter h = rw (← e, h)
+
+module _ (n : List ℕ) (v : Bool) (e : v ≡ either (is_register (register_of n)) (program_counter n)) where
+  table : either v (is_special (special_of n)) ≡ reserved n
+  table = rw e (either_assoc (is_register (register_of n)) (program_counter n) (is_special (special_of n)) ∙ sym (reserved_rule n))
+
+  pub reserved_before : v ≡ true → v ≡ reserved n
+  reserved_before h = h ∙ rw h at table
+
+  pub reserved_special : v ≡ false → is_special (special_of n) ≡ reserved n
+  reserved_special h = rw h at table

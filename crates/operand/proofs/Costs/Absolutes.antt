@@ -1,6 +1,6 @@
 -- Expressions as operands.
 -- Assumes nothing.
-use Rattle.std.specs.Prelude.{◌≡◌, true, false, List, ℕ, zero, suc, ◌+◌, ◌≤◌, eqb}
+use Rattle.std.specs.Prelude.{◌≡◌, true, false, List, ℕ, zero, suc, ◌+◌, ◌≤◌, eqb, Some, None}
 use native.Mathlib.Omega.{arith}
 use Rattle.names.specs.Kinds
 use Rattle.names.specs.Places.{Place, stands}
@@ -10,7 +10,7 @@ use Rattle.expressions.specs.Reader.{any}
 use Rattle.expressions.specs.Expressions.{read, reported, absent, suffixed, bare, parse_expression}
 use Rattle.expressions.specs.Laws.{holds, All, Law, call}
 use Rattle.expressions.proofs.Costs.{Clean, true_false, Signed, suffix_cost, expression_cost, unary_expression}
-use Rattle.operand.specs.Operands.{displaced, some, none}
+use Rattle.operand.specs.Operands.{displaced}
 use Rattle.operand.specs.Operand
 use Rattle.expressions.specs.declared.reading.Setting.{Setting}
 use Rattle.operand.specs.Records.{size_d, size_o}
@@ -27,7 +27,7 @@ module _ (at : ℕ → Place) (w : ℕ) (clean : Clean at w) where
   unfolding All Operand.displacement_tail size_d
   operand_cost z x i l d r = record {
     all = (
-      (λ k y h p. call (base_cost at w clean z k (displaced x 0) _ _ _ _) λ j e s. elim [ some x ↦ omega arith | none ↦ omega arith ]),
+      (λ k y h p. call (base_cost at w clean z k (displaced x 0) _ _ _ _) λ j e s. elim [ Some x ↦ omega arith | None ↦ omega arith ]),
       λ p. (finish_cost z x _ _ _ _).all,
     );
   }
@@ -38,7 +38,7 @@ module _ (at : ℕ → Place) (w : ℕ) (clean : Clean at w) where
       let h = sm at w clean in
       record {
         all = call (expression_cost at w clean _ _ _ _ _) λ j e s. elim [
-          | read x ↦ λ a b c g m. call (operand_cost z x _ _ _ _) λ j₂ e₂ s₂. elim [ some x ↦ omega arith | none ↦ omega arith ]
+          | read x ↦ λ a b c g m. call (operand_cost z x _ _ _ _) λ j₂ e₂ s₂. elim [ Some x ↦ omega arith | None ↦ omega arith ]
           | reported ↦ omega arith
           | absent ↦ λ a b c g m. ((λ k x h p. omega arith), λ p. omega arith)
         ];
@@ -54,7 +54,7 @@ module _ (at : ℕ → Place) (w : ℕ) (clean : Clean at w) where
     unfolding All Operand.parse_expression_operand Operand.or_absent
     signed_operand_cost z l d r lim near = record {
       all = call (signed_cost z.limit l d r lim) λ j e s. elim [
-        | read x ↦ λ a b c g m. call (operand_cost z x _ _ _ _) λ j₂ e₂ s₂. elim [ some x ↦ omega arith | none ↦ omega arith ]
+        | read x ↦ λ a b c g m. call (operand_cost z x _ _ _ _) λ j₂ e₂ s₂. elim [ Some x ↦ omega arith | None ↦ omega arith ]
         | reported ↦ omega arith
         | absent ↦ λ a b c g m. absurd g
       ];

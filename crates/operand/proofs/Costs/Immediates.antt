@@ -1,6 +1,6 @@
 -- An immediate.
 -- Assumes nothing.
-use Rattle.std.specs.Prelude.{ℕ, eqb}
+use Rattle.std.specs.Prelude.{ℕ, eqb, Some, None}
 use native.Mathlib.Omega.{arith}
 use Rattle.names.specs.Places.{Place}
 use Rattle.names.specs.declared.tokens.Token.{Token}
@@ -9,7 +9,6 @@ use Rattle.records.specs.Shapes
 use Rattle.expressions.specs.Expressions.{read, reported, absent, suffixed, bare}
 use Rattle.expressions.specs.Laws.{All, all_choose, Law, call}
 use Rattle.expressions.proofs.Costs.{Clean, suffix_cost, expression_cost}
-use Rattle.operand.specs.Operands.{some, none}
 use Rattle.operand.specs.Operand
 use Rattle.expressions.specs.declared.reading.Setting.{Setting}
 use Rattle.operand.specs.Records.{size_o}
@@ -21,7 +20,7 @@ module _ (at : ℕ → Place) (w : ℕ) (clean : Clean at w) where
   immediate_cost z hash i l d r = record {
     all = call (expression_cost at w clean _ _ _ _ _) λ j e s. elim [
       | read x ↦ λ a b c g m. call (suffix_cost at w clean _ _ _ _ _) λ j₂ e₂ s₂. elim [
-        | suffixed n t ↦ λ a₂ b₂ c₂ g₂ m₂. all_choose (eqb n 3) _ _ _ _ _ _ _ _ (omega arith) (all_choose (eqb n 0) _ _ _ _ _ _ _ _ (omega arith) (call (malformed_cost at w clean size_o z Shapes.immediate Problems.immediate_carries_no_size 0 0 0 _ _ _ _) λ j₃ e₃ s₃. elim [ some x ↦ omega arith | none ↦ omega arith ]))
+        | suffixed n t ↦ λ a₂ b₂ c₂ g₂ m₂. all_choose (eqb n 3) _ _ _ _ _ _ _ _ (omega arith) (all_choose (eqb n 0) _ _ _ _ _ _ _ _ (omega arith) (call (malformed_cost at w clean size_o z Shapes.immediate Problems.immediate_carries_no_size 0 0 0 _ _ _ _) λ j₃ e₃ s₃. elim [ Some x ↦ omega arith | None ↦ omega arith ]))
         | bare ↦ omega arith
       ]
       | reported ↦ omega arith

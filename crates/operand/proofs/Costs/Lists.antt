@@ -1,6 +1,6 @@
 -- Register lists, and a register as an operand.
 -- Assumes nothing.
-use Rattle.std.specs.Prelude.{◌≡◌, refl, Bool, true, false, leb, ltb, length}
+use Rattle.std.specs.Prelude.{◌≡◌, refl, Bool, true, false, leb, ltb, length, Some, None}
 use mathlib.Core.List.{List, []}
 use Prim.Native.Nat.{ℕ, zero, suc, ◌+◌}
 use native.Mathlib.Omega.{arith}
@@ -12,7 +12,7 @@ use Rattle.records.specs.declared.spans.Span.{Span}
 use Rattle.expressions.specs.declared.reading.Setting.{Setting}
 use Rattle.expressions.specs.Laws.{All, all_choose, Law, call}
 use Rattle.expressions.proofs.Costs.{Clean}
-use Rattle.operand.specs.Operands.{RegisterListItem, Operand, some, none}
+use Rattle.operand.specs.Operands.{RegisterListItem, Operand}
 use Rattle.operand.specs.declared.forms.Register.{Register}
 use Rattle.operand.specs.Operands as O
 use Rattle.operand.specs.Operand
@@ -38,7 +38,7 @@ module _ (at : ℕ → Place) (w : ℕ) (clean : Clean at w) where
     all = (
       (λ k x h p. (
         (λ t y h₂ p₂. all_choose (ltb (Operand.register_from t y).index q.index) _ _ _ _ _ _ _ _ (omega arith) (omega arith)),
-        λ p₂. call (expected_cost (nil at w clean) Problems.after_minus 0 0 0 _ _ _ _) λ j e s. elim [ some x ↦ omega arith | none ↦ omega arith ],
+        λ p₂. call (expected_cost (nil at w clean) Problems.after_minus 0 0 0 _ _ _ _) λ j e s. elim [ Some x ↦ omega arith | None ↦ omega arith ],
       )),
       λ p. omega arith,
     );
@@ -51,14 +51,14 @@ module _ (at : ℕ → Place) (w : ℕ) (clean : Clean at w) where
   list_cost zero z items q i l d r = record { all = rw length-append (omega arith) }
   list_cost (suc f) z items q i l d r = record {
     all = call (item_cost q _ _ _ _) λ j e s. elim [
-      | some x ↦ λ a b c g m. (
+      | Some x ↦ λ a b c g m. (
         (λ k y h p. (
-          (λ t y₂ h₂ p₂. call (list_cost f z _ _ _ _ _ _) λ j₂ e₂ s₂. elim [ some x ↦ rw length-append (omega arith) | none ↦ omega arith ]),
-          λ p₂. call (expected_cost size_o Problems.after_slash 0 0 0 _ _ _ _) λ j₂ e₂ s₂. elim [ some x ↦ omega arith | none ↦ omega arith ],
+          (λ t y₂ h₂ p₂. call (list_cost f z _ _ _ _ _ _) λ j₂ e₂ s₂. elim [ Some x ↦ rw length-append (omega arith) | None ↦ omega arith ]),
+          λ p₂. call (expected_cost size_o Problems.after_slash 0 0 0 _ _ _ _) λ j₂ e₂ s₂. elim [ Some x ↦ omega arith | None ↦ omega arith ],
         )),
         λ p. rw length-append (omega arith),
       )
-      | none ↦ omega arith
+      | None ↦ omega arith
     ];
   }
 
@@ -66,7 +66,7 @@ module _ (at : ℕ → Place) (w : ℕ) (clean : Clean at w) where
   unfolding All Operand.parse_register_operand Operand.parse_register_list
   register_operand_cost z q i l d r = record {
     all = (
-      (λ k y h p. call (list_cost _ z [] q _ _ _ _) λ j e s. elim [ some x ↦ omega arith | none ↦ omega arith ]),
+      (λ k y h p. call (list_cost _ z [] q _ _ _ _) λ j e s. elim [ Some x ↦ omega arith | None ↦ omega arith ]),
       λ p. let z = direct_size q q.span in omega arith,
     );
   }

@@ -1,6 +1,6 @@
 -- What a reader leaves, and what a malformed operand does.
 -- Assumes nothing.
-use Rattle.std.specs.Prelude.{ℕ, ◌+◌, ◌≤◌, max}
+use Rattle.std.specs.Prelude.{ℕ, ◌+◌, ◌≤◌, max, Option, Some, None}
 use native.Mathlib.Omega.{arith}
 use Rattle.names.specs.Places.{Place}
 use Rattle.names.specs.declared.tokens.Token.{Token}
@@ -8,15 +8,14 @@ use Rattle.records.specs.Problems
 use Rattle.expressions.specs.declared.reading.Setting.{Setting}
 use Rattle.expressions.specs.Laws.{All, Law, call}
 use Rattle.expressions.proofs.Costs.{Clean}
-use Rattle.operand.specs.Operands.{Maybe, some, none}
 use Rattle.operand.specs.Operand
 
 module _ (at : ℕ → Place) (w : ℕ) (clean : Clean at w) where
   -- what a reader that starts at i, with d diagnostics raised and r the farthest place seen, leaves.
   -- f: the nodes of an answer. c: what it consumes at least. m: the nodes that it was given. g: how far past the cursor it may have looked
-  abbrev pub Left : {A : Type 0} → (A → ℕ) → ℕ → ℕ → ℕ → ℕ → ℕ → ℕ → ℕ → ℕ → ℕ → Maybe A → Type 0
-  Left f c m g i d r j e s (some x) = (i + c ≤ j) × (f x + i ≤ m + j) × (e + i ≤ d + j) × (s ≤ max r (j + g))
-  Left f c m g i d r j e s none = (e + i ≤ d + j + 1) × (d + w ≤ e) × (s ≤ max r (j + 1))
+  abbrev pub Left : {A : Type 0} → (A → ℕ) → ℕ → ℕ → ℕ → ℕ → ℕ → ℕ → ℕ → ℕ → ℕ → Option A → Type 0
+  Left f c m g i d r j e s (Some x) = (i + c ≤ j) × (f x + i ≤ m + j) × (e + i ≤ d + j) × (s ≤ max r (j + g))
+  Left f c m g i d r j e s None = (e + i ≤ d + j + 1) × (d + w ≤ e) × (s ≤ max r (j + 1))
 
   -- an answer without nodes
   abbrev pub nil : {A : Type 0} → A → ℕ
@@ -41,7 +40,7 @@ module _ (at : ℕ → Place) (w : ℕ) (clean : Clean at w) where
   unfolding All Operand.stepped_over
   stepped_cost f z shape problem c m g i l d r = record {
     all = (
-      (λ k x h q. call (malformed_cost f z shape problem c m g _ _ _ _) λ j e s. elim [ some x ↦ omega arith | none ↦ omega arith ]),
+      (λ k x h q. call (malformed_cost f z shape problem c m g _ _ _ _) λ j e s. elim [ Some x ↦ omega arith | None ↦ omega arith ]),
       λ q. (malformed_cost f z shape problem c m g _ _ _ _).all,
     );
   }

@@ -1,6 +1,6 @@
 -- Memory indirect.
 -- Assumes nothing.
-use Rattle.std.specs.Prelude.{ℕ}
+use Rattle.std.specs.Prelude.{ℕ, Option, Some, None}
 use native.Mathlib.Omega.{arith}
 use Rattle.names.specs.Places.{Place}
 use Rattle.names.specs.declared.tokens.Token.{Token}
@@ -9,8 +9,6 @@ use Rattle.records.specs.Shapes
 use Rattle.expressions.specs.Expressions.{read, reported, absent, suffixed, bare}
 use Rattle.expressions.specs.Laws.{All, Law, call}
 use Rattle.expressions.proofs.Costs.{Clean, suffix_cost, expression_cost}
-use Rattle.operand.specs.Operands.{some, none}
-use Rattle.operand.specs.declared.forms.Index.{Index}
 use Rattle.operand.specs.Operand
 use Rattle.expressions.specs.declared.reading.Setting.{Setting}
 use Rattle.operand.specs.Operand.{Inner, Outer}
@@ -18,6 +16,7 @@ use Rattle.operand.specs.Records.{size_d, size_o}
 use Rattle.operand.proofs.Costs.Malformed.{Left, unclosed_cost, stepped_cost, close_cost}
 use Rattle.operand.proofs.Costs.Indexes.{index_cost}
 use Rattle.operand.proofs.Costs.Full.{registers_cost}
+use Rattle.operand.specs.declared.forms.IndexRegister.{IndexRegister}
 
 module _ (at : ℕ → Place) (w : ℕ) (clean : Clean at w) where
   pub displacement_cost : (z : Setting) (i l d r : ℕ) → Law (Operand.parse_sized_displacement z) at (Left at w clean size_d 0 0 0 i d r) i l d r
@@ -26,7 +25,7 @@ module _ (at : ℕ → Place) (w : ℕ) (clean : Clean at w) where
     all = call (expression_cost at w clean _ _ _ _ _) λ j e s. elim [
       | read x ↦ λ a b c g m. call (suffix_cost at w clean _ _ _ _ _) λ j₂ e₂ s₂. elim [ suffixed n t ↦ omega arith | bare ↦ omega arith ]
       | reported ↦ omega arith
-      | absent ↦ λ a b c g m. call (stepped_cost at w clean size_d z Shapes.memory_indirect Problems.a_displacement_missing 0 0 0 _ _ _ _) λ j₂ e₂ s₂. elim [ some x ↦ omega arith | none ↦ omega arith ]
+      | absent ↦ λ a b c g m. call (stepped_cost at w clean size_d z Shapes.memory_indirect Problems.a_displacement_missing 0 0 0 _ _ _ _) λ j₂ e₂ s₂. elim [ Some x ↦ omega arith | None ↦ omega arith ]
     ];
   }
 
@@ -42,38 +41,38 @@ module _ (at : ℕ → Place) (w : ℕ) (clean : Clean at w) where
     all = (
       (λ k x h p. omega arith),
       λ p. (
-        (λ k x h p₂. call (registers_cost at w clean z Shapes.memory_indirect _ _ _ _) λ j e s. elim [ some x ↦ omega arith | none ↦ omega arith ]),
+        (λ k x h p₂. call (registers_cost at w clean z Shapes.memory_indirect _ _ _ _) λ j e s. elim [ Some x ↦ omega arith | None ↦ omega arith ]),
         λ p₂. call (displacement_cost z _ _ _ _) λ j e s. elim [
-          | some y ↦ λ a b c g m. (
-            (λ t x h p₃. call (registers_cost at w clean z Shapes.memory_indirect _ _ _ _) λ j₂ e₂ s₂. elim [ some x ↦ omega arith | none ↦ omega arith ]),
+          | Some y ↦ λ a b c g m. (
+            (λ t x h p₃. call (registers_cost at w clean z Shapes.memory_indirect _ _ _ _) λ j₂ e₂ s₂. elim [ Some x ↦ omega arith | None ↦ omega arith ]),
             λ p₃. omega arith,
           )
-          | none ↦ omega arith
+          | None ↦ omega arith
         ],
       ),
     );
   }
 
-  outer_index_cost : (z : Setting) (v : Index) (i l d r : ℕ) → Law (Operand.outer_index z v) at (Left at w clean size_u 0 0 0 i d r) i l d r
+  outer_index_cost : (z : Setting) (v : Option IndexRegister) (i l d r : ℕ) → Law (Operand.outer_index z v) at (Left at w clean size_u 0 0 0 i d r) i l d r
   unfolding All Operand.outer_index Operand.outer_indexed Operand.or_none size_d
-  outer_index_cost z (Index.Indexed x) i l d r = stepped_cost at w clean size_u z Shapes.memory_indirect Problems.index_twice 0 0 0 i l d r
-  outer_index_cost z Index.Unindexed i l d r = record {
+  outer_index_cost z (Some x) i l d r = stepped_cost at w clean size_u z Shapes.memory_indirect Problems.index_twice 0 0 0 i l d r
+  outer_index_cost z None i l d r = record {
     all = call (index_cost at w clean z Shapes.memory_indirect _ _ _ _) λ j e s. elim [
-      | some v ↦ λ a b c g m. (
-        (λ t x h p. call (displacement_cost z _ _ _ _) λ j₂ e₂ s₂. elim [ some x ↦ omega arith | none ↦ omega arith ]),
+      | Some v ↦ λ a b c g m. (
+        (λ t x h p. call (displacement_cost z _ _ _ _) λ j₂ e₂ s₂. elim [ Some x ↦ omega arith | None ↦ omega arith ]),
         λ p. omega arith,
       )
-      | none ↦ omega arith
+      | None ↦ omega arith
     ];
   }
 
-  pub outer_cost : (z : Setting) (v : Index) (i l d r : ℕ) → Law (Operand.parse_outer z v) at (Left at w clean size_u 0 0 0 i d r) i l d r
+  pub outer_cost : (z : Setting) (v : Option IndexRegister) (i l d r : ℕ) → Law (Operand.parse_outer z v) at (Left at w clean size_u 0 0 0 i d r) i l d r
   unfolding All Operand.parse_outer Operand.or_none size_d
   outer_cost z v i l d r = record {
     all = (
       (λ c y h p. (
-        (λ t x h₂ p₂. call (outer_index_cost z v _ _ _ _) λ j e s. elim [ some x ↦ omega arith | none ↦ omega arith ]),
-        λ p₂. call (displacement_cost z _ _ _ _) λ j e s. elim [ some x ↦ omega arith | none ↦ omega arith ],
+        (λ t x h₂ p₂. call (outer_index_cost z v _ _ _ _) λ j e s. elim [ Some x ↦ omega arith | None ↦ omega arith ]),
+        λ p₂. call (displacement_cost z _ _ _ _) λ j e s. elim [ Some x ↦ omega arith | None ↦ omega arith ],
       )),
       λ p. omega arith,
     );
@@ -83,13 +82,13 @@ module _ (at : ℕ → Place) (w : ℕ) (clean : Clean at w) where
   unfolding All Operand.parse_memory_indirect Operand.or_none size_o
   memory_cost z k i l d r = record {
     all = call (inner_cost z _ _ _ _) λ j e s. elim [
-      | some n ↦ λ a b c g m. (
+      | Some n ↦ λ a b c g m. (
         (λ t x h p. call (outer_cost z _ _ _ _ _) λ j₂ e₂ s₂. elim [
-          | some u ↦ λ a₂ b₂ c₂ g₂ m₂. call (close_cost at w clean z k Shapes.memory_indirect _ _ _ _) λ j₃ e₃ s₃. elim [ some x ↦ omega arith | none ↦ omega arith ]
-          | none ↦ omega arith
+          | Some u ↦ λ a₂ b₂ c₂ g₂ m₂. call (close_cost at w clean z k Shapes.memory_indirect _ _ _ _) λ j₃ e₃ s₃. elim [ Some x ↦ omega arith | None ↦ omega arith ]
+          | None ↦ omega arith
         ]),
-        λ p. call (unclosed_cost at w clean size_o z k Shapes.memory_indirect Problems.bracket_missing 1 0 0 _ _ _ _) λ j₂ e₂ s₂. elim [ some x ↦ omega arith | none ↦ omega arith ],
+        λ p. call (unclosed_cost at w clean size_o z k Shapes.memory_indirect Problems.bracket_missing 1 0 0 _ _ _ _) λ j₂ e₂ s₂. elim [ Some x ↦ omega arith | None ↦ omega arith ],
       )
-      | none ↦ omega arith
+      | None ↦ omega arith
     ];
   }

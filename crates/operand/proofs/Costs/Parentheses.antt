@@ -1,6 +1,6 @@
 -- Behind a parenthesis.
 -- Assumes nothing.
-use Rattle.std.specs.Prelude.{ℕ, ◌+◌, ◌≤◌, max}
+use Rattle.std.specs.Prelude.{ℕ, ◌+◌, ◌≤◌, max, Option, Some, None}
 use native.Mathlib.Omega.{arith}
 use Rattle.names.specs.Places.{Place}
 use Rattle.names.specs.declared.tokens.Token.{Token}
@@ -10,7 +10,7 @@ use Rattle.expressions.specs.Reader.{Reader}
 use Rattle.expressions.specs.Expressions.{read, reported, absent, Suffix, suffixed, bare}
 use Rattle.expressions.specs.Laws.{All, Law, call}
 use Rattle.expressions.proofs.Costs.{Clean, size_with_span, suffix_cost, expression_cost, from_cost}
-use Rattle.operand.specs.Operands.{displaced, undisplaced, Operand, Maybe, some, none}
+use Rattle.operand.specs.Operands.{displaced, undisplaced, Operand}
 use Rattle.operand.specs.Operand
 use Rattle.expressions.specs.declared.reading.Setting.{Setting}
 use Rattle.operand.specs.Records.{size_d, size_o}
@@ -22,10 +22,10 @@ use Rattle.operand.proofs.Costs.Absolutes.{finish_cost}
 
 module _ (at : ℕ → Place) (w : ℕ) (clean : Clean at w) where
   -- a reader that may start a full index has looked at the place behind the cursor
-  near : {v : Reader (Maybe Operand)} (m i l d s : ℕ) (r : ℕ) → s ≤ max r (i + 1) → Law v at (Left at w clean size_o 1 m 0 i d s) i l d s → All v at (Left at w clean size_o 1 m 0 i d r) i l d s
-  near m i l d s r b h = call h λ j e s. elim [ some x ↦ omega arith | none ↦ omega arith ]
+  near : {v : Reader (Option Operand)} (m i l d s : ℕ) (r : ℕ) → s ≤ max r (i + 1) → Law v at (Left at w clean size_o 1 m 0 i d s) i l d s → All v at (Left at w clean size_o 1 m 0 i d r) i l d s
+  near m i l d s r b h = call h λ j e s. elim [ Some x ↦ omega arith | None ↦ omega arith ]
 
-  starts_cost : (z : Setting) (p q : Unit {0} → Reader (Maybe Operand)) (m i l d r : ℕ)
+  starts_cost : (z : Setting) (p q : Unit {0} → Reader (Option Operand)) (m i l d r : ℕ)
       → ((s : ℕ) → Law (p tt) at (Left at w clean size_o 1 m 0 i d s) i l d s) → ((s : ℕ) → Law (q tt) at (Left at w clean size_o 1 m 0 i d s) i l d s)
       → Law (Operand.starts_a_full_index z p q) at (Left at w clean size_o 1 m 0 i d r) i l d r
   unfolding All Operand.starts_a_full_index
@@ -39,7 +39,7 @@ module _ (at : ℕ → Place) (w : ℕ) (clean : Clean at w) where
     );
   }
 
-  starts_base_cost : (p q : Unit {0} → Reader (Maybe Operand)) (m i l d r : ℕ)
+  starts_base_cost : (p q : Unit {0} → Reader (Option Operand)) (m i l d r : ℕ)
       → ((s : ℕ) → Law (p tt) at (Left at w clean size_o 1 m 0 i d s) i l d s) → ((s : ℕ) → Law (q tt) at (Left at w clean size_o 1 m 0 i d s) i l d s)
       → Law (Operand.starts_a_base p q) at (Left at w clean size_o 1 m 0 i d r) i l d r
   unfolding All Operand.starts_a_base
@@ -68,8 +68,8 @@ module _ (at : ℕ → Place) (w : ℕ) (clean : Clean at w) where
   unfolding All Operand.displacement_tail size_d
   grouped_cost z k n x i l d r = record {
     all = (
-      (λ t y h p. call (base_cost at w clean z t (displaced x 0) _ _ _ _) λ j e s. elim [ some x ↦ omega arith | none ↦ omega arith ]),
-      λ p. call (from_cost at w clean _ _ _ _ _ _) λ j e s y a b c g m. call (finish_cost at w clean z y _ _ _ _) λ j₂ e₂ s₂. elim [ some v ↦ omega (arith, size_with_span x (span k.start n)) | none ↦ omega arith ],
+      (λ t y h p. call (base_cost at w clean z t (displaced x 0) _ _ _ _) λ j e s. elim [ Some x ↦ omega arith | None ↦ omega arith ]),
+      λ p. call (from_cost at w clean _ _ _ _ _ _) λ j e s y a b c g m. call (finish_cost at w clean z y _ _ _ _) λ j₂ e₂ s₂. elim [ Some v ↦ omega (arith, size_with_span x (span k.start n)) | None ↦ omega arith ],
     );
   }
 
@@ -78,13 +78,13 @@ module _ (at : ℕ → Place) (w : ℕ) (clean : Clean at w) where
   unfolding All Operand.sized_base Operand.over size_d
   sized_base_cost z k x (suffixed n t) i l d r = record {
     all = (
-      (λ t y h p. call (full_index_cost at w clean z k (displaced x n) _ _ _ _) λ j e s. elim [ some x ↦ omega arith | none ↦ omega arith ]),
+      (λ t y h p. call (full_index_cost at w clean z k (displaced x n) _ _ _ _) λ j e s. elim [ Some x ↦ omega arith | None ↦ omega arith ]),
       λ p. (full_index_cost at w clean z k (displaced x n) _ _ _ _).all,
     );
   }
   sized_base_cost z k x bare i l d r = record {
     all = (
-      (λ t y h p. call (full_index_cost at w clean z k (displaced x 0) _ _ _ _) λ j e s. elim [ some x ↦ omega arith | none ↦ omega arith ]),
+      (λ t y h p. call (full_index_cost at w clean z k (displaced x 0) _ _ _ _) λ j e s. elim [ Some x ↦ omega arith | None ↦ omega arith ]),
       λ p. (full_index_cost at w clean z k (displaced x 0) _ _ _ _).all,
     );
   }
@@ -95,15 +95,15 @@ module _ (at : ℕ → Place) (w : ℕ) (clean : Clean at w) where
     all = (
       (λ t y h p. call
           (starts_cost z _ _ (size x) _ _ _ _ (λ s. full_index_cost at w clean z k (displaced x 0) _ _ _ s) (λ s. base_cost at w clean z k (displaced x 0) _ _ _ s))
-          λ j e s. elim [ some x ↦ omega arith | none ↦ omega arith ]),
+          λ j e s. elim [ Some x ↦ omega arith | None ↦ omega arith ]),
       λ p. (
-        (λ t y h p₂. call (grouped_cost z k _ x _ _ _ _) λ j e s. elim [ some x ↦ omega arith | none ↦ omega arith ]),
+        (λ t y h p₂. call (grouped_cost z k _ x _ _ _ _) λ j e s. elim [ Some x ↦ omega arith | None ↦ omega arith ]),
         λ p₂. (
           (λ t y h p₃. (
-            (λ u v h₂ p₄. call (suffix_cost at w clean _ _ _ _ _) λ j e s b a c g f m. call (sized_base_cost z k x b _ _ _ _) λ j₂ e₂ s₂. elim [ some x ↦ omega arith | none ↦ omega arith ]),
-            λ p₄. call (unexpected_cost k 1 (size x) 0 _ _ _ _) λ j e s. elim [ some x ↦ omega arith | none ↦ omega arith ],
+            (λ u v h₂ p₄. call (suffix_cost at w clean _ _ _ _ _) λ j e s b a c g f m. call (sized_base_cost z k x b _ _ _ _) λ j₂ e₂ s₂. elim [ Some x ↦ omega arith | None ↦ omega arith ]),
+            λ p₄. call (unexpected_cost k 1 (size x) 0 _ _ _ _) λ j e s. elim [ Some x ↦ omega arith | None ↦ omega arith ],
           )),
-          λ p₃. call (unexpected_cost k 1 (size x) 0 _ _ _ _) λ j e s. elim [ some x ↦ omega arith | none ↦ omega arith ],
+          λ p₃. call (unexpected_cost k 1 (size x) 0 _ _ _ _) λ j e s. elim [ Some x ↦ omega arith | None ↦ omega arith ],
         ),
       ),
     );
@@ -115,7 +115,7 @@ module _ (at : ℕ → Place) (w : ℕ) (clean : Clean at w) where
       let h = sm at w clean in
       record {
         all = call (expression_cost at w clean _ _ _ _ _) λ j e s. elim [
-          | read x ↦ λ a b c g m. call (after_expression_cost z k x _ _ _ _) λ j₂ e₂ s₂. elim [ some x ↦ omega arith | none ↦ omega arith ]
+          | read x ↦ λ a b c g m. call (after_expression_cost z k x _ _ _ _) λ j₂ e₂ s₂. elim [ Some x ↦ omega arith | None ↦ omega arith ]
           | reported ↦ omega arith
           | absent ↦ omega arith
         ];
@@ -125,7 +125,7 @@ module _ (at : ℕ → Place) (w : ℕ) (clean : Clean at w) where
   unfolding All Operand.parse_parenthesised_operand size_d
   parenthesised_operand_cost z k i l d r = record {
     all = (
-      (λ t x h p. call (memory_cost at w clean z k _ _ _ _) λ j e s. elim [ some x ↦ omega arith | none ↦ omega arith ]),
+      (λ t x h p. call (memory_cost at w clean z k _ _ _ _) λ j e s. elim [ Some x ↦ omega arith | None ↦ omega arith ]),
       λ p. (starts_cost z _ _ 0 _ _ _ _ (λ s. full_index_cost at w clean z k undisplaced _ _ _ s)
           (λ s. starts_base_cost _ _ 0 _ _ _ s (λ s₂. base_cost at w clean z k undisplaced _ _ _ s₂) (λ s₂. parenthesised_cost z k _ _ _ s₂))).all,
     );

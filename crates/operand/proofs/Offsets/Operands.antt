@@ -1,13 +1,12 @@
 -- What of an operand lies within m: every offset that it has. And a suppressed address register is one of eight.
 -- Assumes nothing.
-use Rattle.std.specs.Prelude.{List, [], ◌∷◌, ℕ, ◌≤◌}
+use Rattle.std.specs.Prelude.{List, [], ◌∷◌, ℕ, ◌≤◌, Option, Some, None}
 use Rattle.expressions.proofs.Offsets.{SpanIn, TreeIn}
-use Rattle.operand.specs.Operands.{Displacement, displaced, undisplaced, RegisterListItem, single, range, Operand, Maybe, some, none}
+use Rattle.operand.specs.Operands.{Displacement, displaced, undisplaced, RegisterListItem, single, range, Operand}
 use Rattle.operand.specs.Operands as O
 use Rattle.operand.specs.declared.forms.Register.{Register}
 use Rattle.operand.specs.declared.forms.IndexRegister.{IndexRegister}
 use Rattle.operand.specs.declared.forms.BaseRegister.{BaseRegister}
-use Rattle.operand.specs.declared.forms.Index.{Index}
 use Rattle.operand.specs.declared.forms.Registers.{Registers}
 
 abbrev pub RegisterIn : ℕ → Register → Type 0
@@ -23,9 +22,9 @@ BaseIn m (BaseRegister.SuppressedAddress n) = n ≤ 7
 BaseIn m BaseRegister.SuppressedProgramCounter = Unit {0}
 BaseIn m BaseRegister.Omitted = Unit {0}
 
-abbrev pub IndexIn : ℕ → Index → Type 0
-IndexIn m (Index.Indexed x) = IndexRegisterIn m x
-IndexIn m Index.Unindexed = Unit {0}
+abbrev pub IndexIn : ℕ → Option IndexRegister → Type 0
+IndexIn m (Some x) = IndexRegisterIn m x
+IndexIn m None = Unit {0}
 
 abbrev pub RegistersIn : ℕ → Registers → Type 0
 RegistersIn m r = BaseIn m r.base × IndexIn m r.index
@@ -59,6 +58,6 @@ OperandIn m (O.absolute e n s) = TreeIn m e × SpanIn m s
 OperandIn m (O.register_list xs s) = ItemsIn m xs × SpanIn m s
 
 -- of an answer, if there is one
-abbrev pub MaybeIn : {A : Type 0} → (A → Type 0) → Maybe A → Type 0
-MaybeIn P (some x) = P x
-MaybeIn P none = Unit {0}
+abbrev pub MaybeIn : {A : Type 0} → (A → Type 0) → Option A → Type 0
+MaybeIn P (Some x) = P x
+MaybeIn P None = Unit {0}

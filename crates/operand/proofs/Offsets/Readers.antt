@@ -1,6 +1,6 @@
 -- Each reader of an operand leaves only offsets within m, where the operand starts within it.
 -- Assumes nothing.
-use Rattle.std.specs.Prelude.{◌≡◌, refl, Bool, eqb, leb, ltb}
+use Rattle.std.specs.Prelude.{◌≡◌, refl, Bool, eqb, leb, ltb, Option, Some, None}
 use Rattle.std.proofs.Math.Bool.{true, false}
 use mathlib.Core.List.{List, [], ◌∷◌, ◌++◌}
 use Prim.Native.Nat.{ℕ, zero, suc, ◌+◌, ◌-◌, ◌≤◌}
@@ -9,7 +9,6 @@ use Rattle.names.specs.Choice.{pick, both}
 use Rattle.names.specs.Letters.{bytes, lowered, same}
 use Rattle.names.specs.Registers.{pair, register, register_of, suppressing, suppressed, suppressed_of}
 use Rattle.names.specs.declared.tokens.Token.{Token}
-use Rattle.names.specs.declared.registers.Reg.{Reg}
 use Rattle.names.specs.declared.registers.Suppressed.{Suppressed}
 use Rattle.records.specs.Problems
 use Rattle.records.specs.Shapes
@@ -20,12 +19,11 @@ use Rattle.expressions.specs.Trees.{Expr}
 use Rattle.expressions.specs.Reader.{Reader}
 use Rattle.expressions.specs.Expressions.{Suffix, suffixed, bare, read, reported, absent}
 use Rattle.expressions.proofs.Offsets.{SpanIn, TreeIn, Fits, answers, from_here, raises, steps, sees, chooses, then, root, widened, suffix_fits, valued_fits, expression_fits, from_fits}
-use Rattle.operand.specs.Operands.{Displacement, displaced, undisplaced, RegisterListItem, Operand, Maybe, some, none}
+use Rattle.operand.specs.Operands.{Displacement, displaced, undisplaced, RegisterListItem, Operand}
 use Rattle.operand.specs.Operands as O
 use Rattle.operand.specs.declared.forms.Register.{Register}
 use Rattle.operand.specs.declared.forms.IndexRegister.{IndexRegister}
 use Rattle.operand.specs.declared.forms.BaseRegister.{BaseRegister}
-use Rattle.operand.specs.declared.forms.Index.{Index}
 use Rattle.operand.specs.Operand
 use Rattle.operand.specs.Operand.{◌>>=?◌}
 use Rattle.operand.specs.Operand.{Inner, Outer}
@@ -33,16 +31,16 @@ use Rattle.operand.proofs.Offsets.Operands.{RegisterIn, IndexRegisterIn, BaseIn,
 
 -- ---- a name spells one of sixteen registers
 
-abbrev Small : Reg → Type 0
-Small (Reg.Is r) = r ≤ 15
-Small Reg.Not = Unit {0}
+abbrev Small : Option ℕ → Type 0
+Small (Some r) = r ≤ 15
+Small None = Unit {0}
 
 small_pair : (c d : ℕ) → Small (pair c d)
 unfolding pair
 small_pair c d = go (eqb c 115) (eqb d 112) (leb 48 d) (leb d 55) refl (eqb c 100) (eqb c 97)
   where
     go : (a b e f : Bool) → leb d 55 ≡ f → (g h : Bool)
-        → Small (pick a (pick b (Reg.Is 15) Reg.Not) (pick (both e f) (pick g (Reg.Is (d - 48)) (pick h (Reg.Is (d - 48 + 8)) Reg.Not)) Reg.Not))
+        → Small (pick a (pick b (Some 15) None) (pick (both e f) (pick g (Some (d - 48)) (pick h (Some (d - 48 + 8)) None)) None))
     go true true e f q g h = omega arith
     go true false e f q g h = tt
     go false b true true q true h = omega (arith, leb-true d 55 q)
@@ -62,19 +60,19 @@ small_index : (x : List ℕ) → Operand.index_of (register_of x) ≤ 15
 unfolding register_of Operand.index_of
 small_index x = go (register (lowered x)) (small_register (lowered x))
   where
-    go : (r : Reg) → Small r → Operand.index_of r ≤ 15
-    go (Reg.Is n) h = h
-    go Reg.Not h = omega arith
+    go : (r : Option ℕ) → Small r → Operand.index_of r ≤ 15
+    go (Some n) h = h
+    go None h = omega arith
 
 small_suppressed : (x : List ℕ) → Operand.suppressed_index (suppressed_of x) ≤ 15
 unfolding suppressed_of suppressed suppressing Operand.suppressed_index
 small_suppressed x = letters (lowered x)
   where
-    one : (q : Reg) → Small q → Operand.suppressed_index (suppressing q) ≤ 15
-    one (Reg.Is r) h = h
-    one Reg.Not h = omega arith
+    one : (q : Option ℕ) → Small q → Operand.suppressed_index (suppressing q) ≤ 15
+    one (Some r) h = h
+    one None h = omega arith
 
-    go : (b c : Bool) (cs : List ℕ) → Operand.suppressed_index (pick b (pick c Suppressed.ProgramCounter (suppressing (register cs))) Suppressed.Not) ≤ 15
+    go : (b c : Bool) (cs : List ℕ) → Operand.suppressed_index (pick b (pick c (Some Suppressed.ProgramCounter) (suppressing (register cs))) None) ≤ 15
     go true true cs = omega arith
     go true false cs = one (register cs) (small_register cs)
     go false c cs = omega arith
@@ -89,10 +87,10 @@ items_in m (y ∷ ys) x h g = (h.0, items_in m ys x h.1 g)
 
 -- ---- the Rust's `?`
 
-tries : {m : ℕ} {A B : Type 0} {P : A → Type 0} {Q : B → Type 0} {p : Reader (Maybe A)} {f : A → Reader (Maybe B)}
+tries : {m : ℕ} {A B : Type 0} {P : A → Type 0} {Q : B → Type 0} {p : Reader (Option A)} {f : A → Reader (Option B)}
     → Fits m (MaybeIn P) p → ((a : A) → P a → Fits m (MaybeIn Q) (f a)) → Fits m (MaybeIn Q) (p >>=? f)
 unfolding Operand.or_none
-tries h k = then h (elim [ some a ↦ λ g. k a g | none ↦ λ g. answers tt ])
+tries h k = then h (elim [ Some a ↦ λ g. k a g | None ↦ λ g. answers tt ])
 
 module _ {m : ℕ} (s : Setting) (low : s.start ≤ m) where
   -- ---- readers that answer none
@@ -123,7 +121,7 @@ module _ {m : ℕ} (s : Setting) (low : s.start ≤ m) where
   over_fits h = steps (λ k x g. h) h
 
   -- an expression, or what is said where none stands
-  expressed : {A : Type 0} {Q : A → Type 0} {p : Reader (Maybe A)} {f : Expr → Reader (Maybe A)}
+  expressed : {A : Type 0} {Q : A → Type 0} {p : Reader (Option A)} {f : Expr → Reader (Option A)}
       → Fits m (MaybeIn Q) p → ((e : Expr) → TreeIn m e → Fits m (MaybeIn Q) (f e)) → Fits m (MaybeIn Q) (Operand.expression_or s p f)
   unfolding Operand.or_absent
   expressed h k = then (expression_fits _) (elim [ read e ↦ λ g. k e g | reported ↦ λ g. answers tt | absent ↦ λ g. h ])
@@ -201,7 +199,7 @@ module _ {m : ℕ} (s : Setting) (low : s.start ≤ m) where
       (tries (close_fits k Shapes.predecrement g) λ e q. answers (h, (f.0, q))) (not_address_fits Shapes.predecrement t h))))
 
   indexed_in : (d : Displacement) (b : BaseRegister) (x : IndexRegister) (f : IndexRegister → Span → Operand) (z : Span) → DisplacementIn m d → BaseIn m b
-      → IndexRegisterIn m x → SpanIn m z → OperandIn m (f x z) → (c : Bool) → OperandIn m (pick c (O.full_index d b (Index.Indexed x) 0 undisplaced z) (f x z))
+      → IndexRegisterIn m x → SpanIn m z → OperandIn m (f x z) → (c : Bool) → OperandIn m (pick c (O.full_index d b (Some x) 0 undisplaced z) (f x z))
   indexed_in d b x f z hd hb hx hz h true = (hd, hb, hx, tt, hz)
   indexed_in d b x f z hd hb hx hz h false = h
 
@@ -262,7 +260,7 @@ module _ {m : ℕ} (s : Setting) (low : s.start ≤ m) where
   unfolding Operand.parse_full_index
   full_index_fits k d h g = tries (registers_fits Shapes.index) λ r q. tries (close_fits k Shapes.index h) λ e b. answers (g, q.0, q.1, tt, (low, b))
 
-  starts_fits : (p q : Unit {0} → Reader (Maybe Operand)) → Fits m (MaybeIn (OperandIn m)) (p tt) → Fits m (MaybeIn (OperandIn m)) (q tt)
+  starts_fits : (p q : Unit {0} → Reader (Option Operand)) → Fits m (MaybeIn (OperandIn m)) (p tt) → Fits m (MaybeIn (OperandIn m)) (q tt)
       → Fits m (MaybeIn (OperandIn m)) (Operand.starts_a_full_index s p q)
   unfolding Operand.starts_a_full_index
   starts_fits p q f g =
@@ -292,15 +290,15 @@ module _ {m : ℕ} (s : Setting) (low : s.start ≤ m) where
       (sees (λ k x g. with_registers_fits undisplaced tt)
       (tries displacement_fits λ d g. steps (λ c x q. with_registers_fits d g) (answers (g, (tt, tt)))))
 
-  outer_displacement_fits : (x : Index) (n : ℕ) → IndexIn m x → Fits m (MaybeIn OuterIn) (Operand.outer_displacement s x n)
+  outer_displacement_fits : (x : Option IndexRegister) (n : ℕ) → IndexIn m x → Fits m (MaybeIn OuterIn) (Operand.outer_displacement s x n)
   outer_displacement_fits x n h = tries displacement_fits λ d g. answers (h, g)
 
-  outer_index_fits : (x : Index) → Fits m (MaybeIn OuterIn) (Operand.outer_index s x)
+  outer_index_fits : (x : Option IndexRegister) → Fits m (MaybeIn OuterIn) (Operand.outer_index s x)
   unfolding Operand.outer_index Operand.outer_indexed
-  outer_index_fits (Index.Indexed x) = stepped_fits Shapes.memory_indirect Problems.index_twice
-  outer_index_fits Index.Unindexed = tries (index_fits Shapes.memory_indirect) λ x h. steps (λ c y g. outer_displacement_fits (Index.Indexed x) 2 h) (answers (h, tt))
+  outer_index_fits (Some x) = stepped_fits Shapes.memory_indirect Problems.index_twice
+  outer_index_fits None = tries (index_fits Shapes.memory_indirect) λ x h. steps (λ c y g. outer_displacement_fits (Some x) 2 h) (answers (h, tt))
 
-  outer_fits : (x : Index) → IndexIn m x → Fits m (MaybeIn OuterIn) (Operand.parse_outer s x)
+  outer_fits : (x : Option IndexRegister) → IndexIn m x → Fits m (MaybeIn OuterIn) (Operand.parse_outer s x)
   unfolding Operand.parse_outer
   outer_fits x h = steps (λ c y g. from_here λ i l q. sees (λ t z b. outer_index_fits x) (outer_displacement_fits x 1 h)) (answers (h, tt))
 
@@ -317,7 +315,7 @@ module _ {m : ℕ} (s : Setting) (low : s.start ≤ m) where
   unfolding Operand.finish_expression_operand Operand.absolute_size
   finish_fits e h = then (suffix_fits _ (root e h).0) (elim [ suffixed n t ↦ λ g. answers (h, (low, g.1)) | bare ↦ λ g. answers (h, (low, (root e h).1)) ])
 
-  tail_fits : (e : Expr) (miss : Unit {0} → Reader (Maybe Operand)) → TreeIn m e → Fits m (MaybeIn (OperandIn m)) (miss tt)
+  tail_fits : (e : Expr) (miss : Unit {0} → Reader (Option Operand)) → TreeIn m e → Fits m (MaybeIn (OperandIn m)) (miss tt)
       → Fits m (MaybeIn (OperandIn m)) (Operand.displacement_tail s e miss)
   unfolding Operand.displacement_tail
   tail_fits e miss h g = steps (λ k x q. base_fits k (displaced e 0) q h) g
@@ -349,7 +347,7 @@ module _ {m : ℕ} (s : Setting) (low : s.start ≤ m) where
   unfolding Operand.parenthesised
   parenthesised_fits k h = expressed (raises (omega arith) (answers tt)) λ e g. after_expression_fits k e h g
 
-  starts_base_fits : (p q : Unit {0} → Reader (Maybe Operand)) → Fits m (MaybeIn (OperandIn m)) (p tt) → Fits m (MaybeIn (OperandIn m)) (q tt)
+  starts_base_fits : (p q : Unit {0} → Reader (Option Operand)) → Fits m (MaybeIn (OperandIn m)) (p tt) → Fits m (MaybeIn (OperandIn m)) (q tt)
       → Fits m (MaybeIn (OperandIn m)) (Operand.starts_a_base p q)
   unfolding Operand.starts_a_base
   starts_base_fits p q f g = sees (λ t x b. sees (λ k y c. sees (λ v z d. f) g) f) g

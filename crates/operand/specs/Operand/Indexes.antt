@@ -1,6 +1,6 @@
 -- parse_index_register.
 -- Assumes nothing.
-use Rattle.std.specs.Prelude.{Bool, true, false, List, ℕ, eqb}
+use Rattle.std.specs.Prelude.{Bool, true, false, List, ℕ, eqb, Option, Some}
 use Rattle.names.specs.Choice.{either}
 use Rattle.names.specs.Kinds
 use Rattle.names.specs.Registers.{suppressed_of}
@@ -11,7 +11,6 @@ use Rattle.records.specs.Spans.{span, span_of}
 use Rattle.expressions.specs.declared.reading.Setting.{Setting}
 use Rattle.expressions.specs.Reader.{is, Reader, answer, here, bump, ◌>>=◌, choose}
 use Rattle.expressions.specs.Expressions.{Suffix, suffixed, bare, take_size_suffix, valued}
-use Rattle.operand.specs.Operands.{Maybe, some}
 use Rattle.operand.specs.declared.forms.Register.{Register}
 use Rattle.operand.specs.declared.forms.IndexRegister.{IndexRegister}
 use Rattle.operand.specs.Operand.Lookahead.{is_suppressed_register, a_register, unmarked, suppressed_index, register_from}
@@ -24,33 +23,33 @@ abbrev pub with_scale : IndexRegister → ℕ → ℕ → IndexRegister
 with_scale index v end = record { register = index.register; size = index.size; scale = v; suppressed = index.suppressed; span = span index.span.start end }
 
 -- the index register, once the value v of its scale k is known
-unfoldable pub scaled : Setting → ℕ → IndexRegister → Token → ℕ → Reader (Maybe IndexRegister)
-scaled s shape index k v = choose (scale_of v) (answer (some (with_scale index v k.end))) (malformed s shape Problems.bad_scale)
+unfoldable pub scaled : Setting → ℕ → IndexRegister → Token → ℕ → Reader (Option IndexRegister)
+scaled s shape index k v = choose (scale_of v) (answer (Some (with_scale index v k.end))) (malformed s shape Problems.bad_scale)
 
 -- behind the number of a scale
-abbrev pub scale_value : Setting → ℕ → IndexRegister → Token → List ℕ → Reader (Maybe IndexRegister)
+abbrev pub scale_value : Setting → ℕ → IndexRegister → Token → List ℕ → Reader (Option IndexRegister)
 scale_value s shape index k x = valued k (number_of k.detail x) >>= scaled s shape index k
 
 -- `[ "*" scale ]`
-unfoldable pub index_scale : Setting → ℕ → IndexRegister → Reader (Maybe IndexRegister)
+unfoldable pub index_scale : Setting → ℕ → IndexRegister → Reader (Option IndexRegister)
 index_scale s shape index =
     bump (is Kinds.star)
     (λ star x.
     bump (is Kinds.number) (λ k x. scale_value s shape index k x) λ u.
     stepped_over s shape Problems.bad_scale) λ u.
-    answer (some index)
+    answer (Some index)
 
-unfoldable pub index_size : Setting → ℕ → Register → Bool → Suffix → Reader (Maybe IndexRegister)
+unfoldable pub index_size : Setting → ℕ → Register → Bool → Suffix → Reader (Option IndexRegister)
 index_size s shape r suppressed bare = index_scale s shape (record { register = r; size = 0; scale = 0; suppressed = suppressed; span = r.span })
 index_size s shape r suppressed (suffixed size z) =
     index_scale s shape (record { register = r; size = size; scale = 0; suppressed = suppressed; span = span r.span.start z.end })
 
 -- `[ size_suffix ] [ "*" scale ]`, behind the register r
-unfoldable pub index_register : Setting → ℕ → Register → Bool → Reader (Maybe IndexRegister)
+unfoldable pub index_register : Setting → ℕ → Register → Bool → Reader (Option IndexRegister)
 index_register s shape r suppressed = take_size_suffix r.span.start >>= index_size s shape r suppressed
 
 -- `index_register = ( register | suppressed_index ) [ size_suffix ] [ "*" scale ]`
-unfoldable pub parse_index_register : Setting → ℕ → Reader (Maybe IndexRegister)
+unfoldable pub parse_index_register : Setting → ℕ → Reader (Option IndexRegister)
 parse_index_register s shape =
     here λ i l.
     bump a_register (λ k x. index_register s shape (register_from k x) false) λ u.

@@ -1,37 +1,36 @@
 -- What stands at a place.
 -- Assumes nothing.
-use Rattle.std.specs.Prelude.{Bool, true, false, not, List, ℕ, eqb, leb}
+use Rattle.std.specs.Prelude.{Option, Some, None, Bool, true, false, not, List, ℕ, eqb, leb}
 use Rattle.names.specs.Choice.{both, either}
 use Rattle.names.specs.Kinds
 use Rattle.names.specs.Registers.{register_of, program_counter, suppressed_of}
 use Rattle.names.specs.Reserved.{is_register}
 use Rattle.names.specs.Cases.{register_number, index_number}
 use Rattle.names.specs.declared.tokens.Token.{Token}
-use Rattle.names.specs.declared.registers.Reg.{Reg}
 use Rattle.names.specs.declared.registers.Suppressed.{Suppressed}
 use Rattle.records.specs.Spans.{span_of}
 use Rattle.expressions.specs.declared.reading.Setting.{Setting}
 use Rattle.expressions.specs.Reader.{Test}
 use Rattle.operand.specs.declared.forms.Register.{Register}
 
-unfoldable pub is_address : Reg → Bool
-is_address (Reg.Is r) = leb 8 r
-is_address Reg.Not = false
+unfoldable pub is_address : Option ℕ → Bool
+is_address (Some r) = leb 8 r
+is_address None = false
 
-unfoldable pub is_suppressed : Suppressed → Bool
-is_suppressed (Suppressed.Register r) = true
-is_suppressed Suppressed.ProgramCounter = true
-is_suppressed Suppressed.Not = false
+unfoldable pub is_suppressed : Option Suppressed → Bool
+is_suppressed (Some (Suppressed.Register r)) = true
+is_suppressed (Some Suppressed.ProgramCounter) = true
+is_suppressed None = false
 
-unfoldable pub is_suppressed_register : Suppressed → Bool
-is_suppressed_register (Suppressed.Register r) = true
-is_suppressed_register Suppressed.ProgramCounter = false
-is_suppressed_register Suppressed.Not = false
+unfoldable pub is_suppressed_register : Option Suppressed → Bool
+is_suppressed_register (Some (Suppressed.Register r)) = true
+is_suppressed_register (Some Suppressed.ProgramCounter) = false
+is_suppressed_register None = false
 
-unfoldable pub is_suppressed_address : Suppressed → Bool
-is_suppressed_address (Suppressed.Register r) = leb 8 r
-is_suppressed_address Suppressed.ProgramCounter = false
-is_suppressed_address Suppressed.Not = false
+unfoldable pub is_suppressed_address : Option Suppressed → Bool
+is_suppressed_address (Some (Suppressed.Register r)) = leb 8 r
+is_suppressed_address (Some Suppressed.ProgramCounter) = false
+is_suppressed_address None = false
 
 -- a name of some sort
 abbrev pub name : (List ℕ → Bool) → Test
@@ -48,7 +47,7 @@ unfoldable pub a_program_counter : Test
 a_program_counter = name program_counter
 
 -- `suppressed_register_at` the place i, which the mark may turn into a symbol
-unfoldable pub unmarked : Setting → ℕ → (Suppressed → Bool) → Test
+unfoldable pub unmarked : Setting → ℕ → (Option Suppressed → Bool) → Test
 unmarked s i f k x = both (not (eqb s.mark i)) (name (λ x. f (suppressed_of x)) k x)
 
 -- `is_an_index_at` the place i
@@ -60,14 +59,14 @@ unfoldable pub a_base_or_an_index : Setting → ℕ → Test
 a_base_or_an_index s i k x = either (a_program_counter k x) (either (a_register k x) (unmarked s i is_suppressed k x))
 
 -- the register that a name is, where it is one
-unfoldable pub index_of : Reg → ℕ
-index_of (Reg.Is r) = register_number (Reg.Is r)
-index_of Reg.Not = 0
+unfoldable pub index_of : Option ℕ → ℕ
+index_of (Some r) = register_number (Some r)
+index_of None = 0
 
-unfoldable pub suppressed_index : Suppressed → ℕ
-suppressed_index (Suppressed.Register r) = index_number (Suppressed.Register r)
-suppressed_index Suppressed.ProgramCounter = 0
-suppressed_index Suppressed.Not = 0
+unfoldable pub suppressed_index : Option Suppressed → ℕ
+suppressed_index (Some (Suppressed.Register r)) = index_number (Some (Suppressed.Register r))
+suppressed_index (Some Suppressed.ProgramCounter) = 0
+suppressed_index None = 0
 
 unfoldable pub register_from : Token → List ℕ → Register
 register_from k x = record { index = index_of (register_of x); span = span_of k }

@@ -8,23 +8,23 @@ use Rattle.names.specs.Places.{text_of}
 use Rattle.names.specs.Choice.{pick}
 use Rattle.names.specs.Tokens.{token_at}
 use Rattle.names.specs.declared.tokens.Token.{Token}
-use Rattle.names.specs.declared.tokens.Peeked.TheVariants as peeked
 use Rattle.records.specs.Counters.{stepped}
 use Rattle.records.specs.declared.counters.Counters.{Counters}
 use Rattle.expressions.proofs.Costs.{true_false}
 use Rattle.expressions.specs.declared.reading.Setting.{Setting}
-use Rattle.operand.specs.Operands.{Maybe, Operand, Displacement}
+use Rattle.operand.specs.Operands.{Operand, Displacement}
 use Rattle.operand.specs.Operand.{an_address_register, a_program_counter, register_from, closed_counter, after_base, after_counter, parse_base_and_index}
 use Rattle.operand.specs.Forms.{sized_of}
 use Rattle.operand.specs.declared.forms.Register.{Register}
 use Rattle.operand.specs.declared.forms.BaseRegister.{BaseRegister}
-use Rattle.operand.specs.declared.forms.SizedDisplacement.{SizedDisplacement}
 use Rattle.expressions.specs.Told.{Told}
 use Rattle.operand_code.specs.Operands.{Plain}
 use Rattle.operand_code.specs.Lookahead.{is_base}
 use Rattle.operand_code.specs.Bases.{address_or, unsuppressed_base, is_unsuppressed, open_shape, index_shape, index_form, closed, indexed_by, behind_base}
 use Rattle.expressions.specs.Paths.{hit, miss}
 use Rattle.operand_code.proofs.bases.Tails.{index_plain, counter_plain}
+use Rattle.std.specs.Prelude.{Some, Option}
+use Rattle.operand.specs.declared.forms.Sized.{Sized}
 
 -- a base that is no address register
 abbrev Other : BaseRegister → Type 0
@@ -49,7 +49,7 @@ other_closed s BaseRegister.SuppressedProgramCounter y k h = refl
 other_closed s BaseRegister.Omitted y k h = refl
 
 -- what an index makes with such a base
-pub plain_with : {d : SizedDisplacement} {form : ℕ} (b : BaseRegister) (y : Displacement) → form ≡ index_form b → is_unsuppressed b ≡ true → sized_of 0 y ≡ d → Plain form d b y (indexed_by b y)
+pub plain_with : {d : Option Sized} {form : ℕ} (b : BaseRegister) (y : Displacement) → form ≡ index_form b → is_unsuppressed b ≡ true → sized_of 0 y ≡ d → Plain form d b y (indexed_by b y)
 unfolding is_unsuppressed index_form indexed_by
 plain_with (BaseRegister.Address r) y f p e = rw f (index_plain r y e)
 plain_with BaseRegister.ProgramCounter y f p e = rw f (counter_plain y e)
@@ -86,8 +86,8 @@ module _ (t : Token) (x : List ℕ) where
       go false false e = refl
 
 -- behind the base at the cursor
-pub opened : {E : Type 0} {f : Maybe Operand → E} {Q : Maybe Operand → Counters → Type 0} {L T D D' : List ℕ} {c c₁ : Counters} {v : E} {r : Counters} {t : Token} (s : Setting) (k : Token) (y : Displacement) (b : BaseRegister)
-    → token_at T c.at ≡ peeked.Is t → b ≡ unsuppressed_base t (text_of L t.start t.end) → is_base b ≡ true → c₁ ≡ stepped c t
+pub opened : {E : Type 0} {f : Option Operand → E} {Q : Option Operand → Counters → Type 0} {L T D D' : List ℕ} {c c₁ : Counters} {v : E} {r : Counters} {t : Token} (s : Setting) (k : Token) (y : Displacement) (b : BaseRegister)
+    → token_at T c.at ≡ Some t → b ≡ unsuppressed_base t (text_of L t.start t.end) → is_base b ≡ true → c₁ ≡ stepped c t
     → Told f Q (behind_base s k b y) L T D D' c₁ v r → Told f Q (parse_base_and_index s k y) L T D D' c v r
 unfolding unsuppressed_base is_base behind_base parse_base_and_index after_base after_counter open_shape index_shape closed indexed_by
 opened {f = f} {Q = Q} {L = L} {T = T} {D = D} {D' = D'} {c = c} {c₁ = c₁} {v = v} {r = r} {t = t} s k y b at e h step g = go (an_address_register t x) refl (a_program_counter t x) refl e

@@ -9,9 +9,6 @@ use lib.Seq.{take_at, length-take-le}
 use Rattle.names.specs.Places.{place}
 use Rattle.records.specs.declared.spans.Span.{Span}
 use Rattle.records.specs.declared.counters.Counters.{Counters}
-use Rattle.expressions_code.specs.declared.terms.Parsed.TheVariants as parsed
-use Rattle.expressions_code.specs.declared.terms.Step.{Step}
-use Rattle.expressions_code.specs.declared.terms.Chain.{Chain}
 use Rattle.expressions.proofs.Costs.{expression_cost, all_clean, size_pos}
 use Rattle.expressions.specs.Expressions.{Term, read, reported, absent, parse_expression, expression_from}
 use Rattle.expressions.specs.Laws.{law_run}
@@ -20,11 +17,13 @@ use Rattle.expressions_code.specs.Reading.{filled, ExpressionFits, FromFits}
 use Rattle.expressions_code.specs.Left.{Stands, before_length, left_nodes}
 use Rattle.expressions.specs.Reader.{run}
 use Rattle.expressions.specs.Records.{nodes, length_nodes}
-use Rattle.expressions_code.specs.Terms.{size_t, nodes_t, Held, Said}
+use Rattle.expressions_code.specs.Terms.{Parsed, size_t, nodes_t, Held, Said}
 use Rattle.expressions.specs.Trees.{Expr, span_e, with_span, size}
 use Rattle.records.specs.Rooms.{Room, NodeRoom}
 use Rattle.expressions.specs.Told.{Told}
 use Rattle.expressions.specs.Paths.{held_as}
+use Rattle.std.specs.Prelude.{Ok, Err}
+use Rattle.expressions_code.specs.declared.terms.TermError.TheVariants as errors
 
 -- ---- the node store
 
@@ -48,7 +47,7 @@ pub record TreeRead (L T N D N' D' : List ℕ) (c : Counters) (limit : ℕ) (s :
   pub total : r.nodes ≡ c.nodes + size tree
   pub room : NodeRoom T N' r 1 0 1
 
-module _ (L : List ℕ) {T N D N' D' : List ℕ} {c : Counters} (limit : ℕ) {r : Step} (h : NodeRoom T N c 0 0 1) (p : ExpressionFits L T N D N' D' c limit r) where
+module _ (L : List ℕ) {T N D N' D' : List ℕ} {c : Counters} (limit : ℕ) {v : Parsed} {r : Counters} (h : NodeRoom T N c 0 0 1) (p : ExpressionFits L T N D N' D' c limit v r) where
   abbrev term : Term
   term = (run (parse_expression limit) (place L T) c.at c.end).value
 
@@ -61,27 +60,27 @@ module _ (L : List ℕ) {T N D N' D' : List ℕ} {c : Counters} (limit : ℕ) {r
       go reported = omega (arith, within_store h)
       go absent = omega (arith, within_store h)
 
-  total : r.counters.nodes ≡ c.nodes + size_t term
-  total = ap (λ z. z.counters.nodes) p.answer
+  total : r.nodes ≡ c.nodes + size_t term
+  total = ap (λ z. z.nodes) p.counters
 
-  bytes : take (10 * r.counters.nodes) N' ≡ take (10 * c.nodes) N ++ nodes_t c.nodes term
+  bytes : take (10 * r.nodes) N' ≡ take (10 * c.nodes) N ++ nodes_t c.nodes term
   bytes = ap (λ z. take (10 * z) N') total ∙ ap (take (10 * (c.nodes + size_t term))) p.nodes ∙ filled_take _ _ _ N bytes_term
 
-  pub term_told : Said (parse_expression limit) L T N D N' D' c r
+  pub term_told : Said (parse_expression limit) L T N D N' D' c v r
   term_told = record {
-    what = ap (λ z. z.parsed) p.answer;
-    at = ap (λ z. z.counters.at) p.answer;
-    end = ap (λ z. z.counters.end) p.answer;
-    seen = ap (λ z. z.counters.diagnostics) p.answer;
+    what = p.answer;
+    at = ap (λ z. z.at) p.counters;
+    end = ap (λ z. z.end) p.counters;
+    seen = ap (λ z. z.diagnostics) p.counters;
     more = p.diagnostics;
     held = record { total = total; bytes = bytes };
   }
 
-  pub tree_read : {s : Span} → r.parsed ≡ parsed.Read s → length N' ≡ length N → TreeRead L T N D N' D' c limit s r.counters
+  pub tree_read : {s : Span} → v ≡ Ok s → length N' ≡ length N → TreeRead L T N D N' D' c limit s r
   unfolding nodes_t size_t
   tree_read q n =
       let m = what_read term _ (sym term_told.what ∙ q) in
-      let k : Held N N' c.nodes (read m.0) r.counters = held_as term_told m.1 in
+      let k : Held N N' c.nodes (read m.0) r = held_as term_told m.1 in
       let law = rw m.1 at (law_run (expression_cost (place L T) 0 (all_clean (place L T)) limit c.at c.end 0 0)) in
       record {
         tree = m.0;
@@ -102,7 +101,7 @@ module _ (L : List ℕ) {T N D N' D' : List ℕ} {c : Counters} (limit : ℕ) {r
       }
 
   -- where there is none, nothing was raised
-  pub absent_room : r.parsed ≡ parsed.Absent → Room T r.counters 0 1
+  pub absent_room : v ≡ Err errors.Absent → Room T r 0 1
   absent_room q =
       let law = rw (what_absent term (sym term_told.what ∙ q)) at (law_run (expression_cost (place L T) 0 (all_clean (place L T)) limit c.at c.end 0 0)) in
       record {
@@ -114,8 +113,8 @@ module _ (L : List ℕ) {T N D N' D' : List ℕ} {c : Counters} (limit : ℕ) {r
 
 -- ---- a tree that goes on from a group
 
-module _ (L : List ℕ) {T N D N' D' : List ℕ} {c : Counters} (group : Span) (limit : ℕ) {r : Chain} (h : NodeRoom T N c 1 0 1) (p : FromFits L T N D N' D' c group limit r) where
-  pub from_room : length N' ≡ length N → NodeRoom T N' r.counters 1 0 1
+module _ (L : List ℕ) {T N D N' D' : List ℕ} {c : Counters} (group : Span) (limit : ℕ) {v : Span} {r : Counters} (h : NodeRoom T N c 1 0 1) (p : FromFits L T N D N' D' c group limit v r) where
+  pub from_room : length N' ≡ length N → NodeRoom T N' r 1 0 1
   from_room n = record {
     room = record { few = h.room.few; within = p.within; stand = p.some; seen_fit = omega (arith, h.room.seen_fit, p.quiet) };
     nodes_fit = omega (arith, p.few, h.nodes_fit);
@@ -129,20 +128,20 @@ module _ (L : List ℕ) {T N D N' D' : List ℕ} {c : Counters} (group : Span) (
     long : 10 * c.nodes ≤ length N
     long = omega (arith, h)
 
-    from_total : r.counters.nodes ≡ b + size on
-    from_total = ap (λ z. z.counters.nodes) (p.told b e st.total).answer
+    from_total : r.nodes ≡ b + size on
+    from_total = ap (λ z. z.nodes) (p.told b e st.total).counters
 
     bytes_from : length (P ++ nodes b on) ≡ 10 * (b + size on)
     bytes_from = simp length-append (omega (arith, length_nodes b on, before_length N P c.nodes b e st long))
 
-    pub from_told : Told span_e (λ v s. Stands N' s.nodes P b v) (expression_from limit (with_span e group)) L T D D' c r.span r.counters
+    pub from_told : Told span_e (λ x s. Stands N' s.nodes P b x) (expression_from limit (with_span e group)) L T D D' c v r
     from_told =
         let q = p.told b e st.total in
         record {
-          what = ap (λ z. z.span) q.answer;
-          at = ap (λ z. z.counters.at) q.answer;
-          end = ap (λ z. z.counters.end) q.answer;
-          seen = ap (λ z. z.counters.diagnostics) q.answer;
+          what = q.answer;
+          at = ap (λ z. z.at) q.counters;
+          end = ap (λ z. z.end) q.counters;
+          seen = ap (λ z. z.diagnostics) q.counters;
           more = q.diagnostics;
           held = record {
             bytes = ap (λ z. take (10 * z) N') from_total ∙ ap (take (10 * (b + size on))) (left_nodes p long h.room.stand st) ∙ filled_take _ _ _ N bytes_from;

@@ -11,14 +11,14 @@ use lib.ListN.{length}
 use Rattle.names.specs.Kinds
 use Rattle.names.specs.Places.{text_of}
 use Rattle.names.specs.Tokens.{token_at}
-use Rattle.names.specs.declared.tokens.Peeked.TheVariants as peeked
 use Rattle.records.specs.DiagnosticKinds
 use Rattle.records.specs.Problems
 use Rattle.records.specs.Shapes
 use Rattle.records.specs.Counters.{stepped}
+use Rattle.names.specs.Cases.{size_number}
 use Rattle.names.specs.Sizes.{run_of, size_of}
 use Rattle.names.specs.Numbers.{number_of}
-use Rattle.names.specs.declared.numbers.Number.{Number}
+use Rattle.names.specs.declared.numbers.NumberError.{NumberError}
 use Rattle.names.specs.declared.sizes.SizeSuffix.{SizeSuffix}
 use Rattle.names.specs.declared.tokens.Token.{Token}
 use Rattle.records.specs.Spans.{span, span_of}
@@ -35,40 +35,37 @@ use Rattle.operand.specs.declared.forms.Register.{Register}
 use Rattle.names.specs.Choice.{either}
 use Rattle.expressions.specs.Told.{Raised, Told, Same}
 use Rattle.operand_code.specs.Lookahead.{sized_index}
-use Rattle.operand.specs.declared.forms.SuffixRead.{SuffixRead}
-use Rattle.operand.specs.declared.forms.SuffixStep.{SuffixStep}
 use Rattle.expressions.specs.Paths.{answered, raised, raised_as, raised_same, chosen, unchosen, hit_same}
+use Rattle.std.specs.Prelude.{None, Ok, Err, Option, Some}
+use Rattle.operand.specs.declared.forms.Suffixed.{Suffixed}
 
 -- ---- a size suffix
 
 -- a size that is not known has been told
-abbrev Unknown : SuffixStep → Counters → Span → Type 0
-Unknown r c s = (r.suffix ≡ SuffixRead.Is (record { size = 0; span = s })) × (r.counters ≡ c)
-
-unknown_told : (t : Token) {L T D D' : List ℕ} {c m : Counters} {x y : Diagnostic} {s : Span} {r : SuffixStep} → s ≡ span_of t → x ≡ y → Raised D D' c x m → Unknown r m s
-    → Told suffix_read (Same c.nodes) (raise y (answer (suffixed 0 (span_of t)))) L T D D' c r.suffix r.counters
+unknown_told : (t : Token) {L T D D' : List ℕ} {c m : Counters} {x y : Diagnostic} {s : Span} → s ≡ span_of t → x ≡ y → Raised D D' c x m
+    → Told suffix_read (Same c.nodes) (raise y (answer (suffixed 0 (span_of t)))) L T D D' c (Some (record { size = 0; span = s })) m
 unfolding suffix_read
-unknown_told t e w h u = raised (raised_as w h) (answered (u.0 ∙ rw e) u.1 (ap (λ z. z.nodes) h.counters))
+unknown_told t e w h = raised (raised_as w h) (answered (rw e) refl (ap (λ z. z.nodes) h.counters))
 
-module _ (L T D D' : List ℕ) (c : Counters) (from : ℕ) (t : Token) {run : List ℕ} {s : Span} {r : SuffixStep} (e : run ≡ run_of (text_of L t.start t.end)) where
-  pub suffix_dotted : 2 ≤ length run → s ≡ span_of t → {x : Diagnostic} {m : Counters} → x ≡ diagnostic DiagnosticKinds.dot_in_name Shapes.no_shape Problems.no_problem s (span from t.end) → Raised D D' c x m → Unknown r m s
-      → Told suffix_read (Same c.nodes) (suffix_run from t (run_of (text_of L t.start t.end))) L T D D' c r.suffix r.counters
+module _ (L T D D' : List ℕ) (c : Counters) (from : ℕ) (t : Token) {run : List ℕ} {s : Span} (e : run ≡ run_of (text_of L t.start t.end)) where
+  pub suffix_dotted : 2 ≤ length run → s ≡ span_of t → {x : Diagnostic} {m : Counters} → x ≡ diagnostic DiagnosticKinds.dot_in_name Shapes.no_shape Problems.no_problem s (span from t.end) → Raised D D' c x m
+      → Told suffix_read (Same c.nodes) (suffix_run from t (run_of (text_of L t.start t.end))) L T D D' c (Some (record { size = 0; span = s })) m
   unfolding suffix_run
-  suffix_dotted n h w g u = chosen (leb 2 (length (run_of (text_of L t.start t.end)))) _ (rw (sym e) (le-leb 2 (length run) n)) (unknown_told t h (w ∙ rw h) g u)
+  suffix_dotted n h w g = chosen (leb 2 (length (run_of (text_of L t.start t.end)))) _ (rw (sym e) (le-leb 2 (length run) n)) (unknown_told t h (w ∙ rw h) g)
 
-  pub suffix_known : length run < 2 → s ≡ span_of t → {n : ℕ} → size_of (run_of (text_of L t.start t.end)) ≡ SizeSuffix.Is n → r.suffix ≡ SuffixRead.Is (record { size = n; span = s }) → r.counters ≡ c
-      → Told suffix_read (Same c.nodes) (suffix_run from t (run_of (text_of L t.start t.end))) L T D D c r.suffix r.counters
+  pub suffix_known : length run < 2 → s ≡ span_of t → {n : SizeSuffix} {m : ℕ} → size_of (run_of (text_of L t.start t.end)) ≡ Some n → size_number (Some n) ≡ m
+      → Told suffix_read (Same c.nodes) (suffix_run from t (run_of (text_of L t.start t.end))) L T D D c (Some (record { size = m; span = s })) c
   unfolding suffix_run known suffix_read
-  suffix_known n h z v w =
+  suffix_known n h z f =
       unchosen (leb 2 (length (run_of (text_of L t.start t.end)))) _ (rw (sym e) (lt-leb 2 (length run) n))
-      (rw z (answered (v ∙ rw h) w refl))
+      (rw (z, f) (answered (rw h) refl refl))
 
-  pub suffix_unknown : length run < 2 → s ≡ span_of t → size_of (run_of (text_of L t.start t.end)) ≡ SizeSuffix.Not → {x : Diagnostic} {m : Counters} → {w : Span} → w ≡ span (run_start s) s.end → x ≡ diagnostic DiagnosticKinds.unknown_size_suffix Shapes.no_shape Problems.no_problem s w → Raised D D' c x m → Unknown r m s
-      → Told suffix_read (Same c.nodes) (suffix_run from t (run_of (text_of L t.start t.end))) L T D D' c r.suffix r.counters
+  pub suffix_unknown : length run < 2 → s ≡ span_of t → size_of (run_of (text_of L t.start t.end)) ≡ None → {x : Diagnostic} {m : Counters} → {w : Span} → w ≡ span (run_start s) s.end → x ≡ diagnostic DiagnosticKinds.unknown_size_suffix Shapes.no_shape Problems.no_problem s w → Raised D D' c x m
+      → Told suffix_read (Same c.nodes) (suffix_run from t (run_of (text_of L t.start t.end))) L T D D' c (Some (record { size = 0; span = s })) m
   unfolding suffix_run known
-  suffix_unknown n h z q w g u =
+  suffix_unknown n h z q w g =
       unchosen (leb 2 (length (run_of (text_of L t.start t.end)))) _ (rw (sym e) (lt-leb 2 (length run) n))
-      (rw z (unknown_told t h (w ∙ rw (q, h)) g u))
+      (rw z (unknown_told t h (w ∙ rw (q, h)) g))
 
 -- ---- a scale
 
@@ -86,21 +83,21 @@ scale_small v h = first (eqb v 1) refl (eqb v 2) refl (eqb v 4) refl (eqb v 8) r
 -- a number's value, 0 where it has none
 
 module _ (t : Token) (x L T D : List ℕ) (c : Counters) where
-  pub value_known : {v : ℕ} → number_of t.detail x ≡ Number.Value v → Told (λ z. z) (Same c.nodes) (valued t (number_of t.detail x)) L T D D c v c
+  pub value_known : {v : ℕ} → number_of t.detail x ≡ Ok v → Told (λ z. z) (Same c.nodes) (valued t (number_of t.detail x)) L T D D c v c
   unfolding valued
   value_known e = rw e (answered refl refl refl)
 
-  pub value_invalid : number_of t.detail x ≡ Number.Invalid → Told (λ z. z) (Same c.nodes) (valued t (number_of t.detail x)) L T D D c 0 c
+  pub value_invalid : number_of t.detail x ≡ Err NumberError.Invalid → Told (λ z. z) (Same c.nodes) (valued t (number_of t.detail x)) L T D D c 0 c
   unfolding valued
   value_invalid e = rw e (answered refl refl refl)
 
-  pub value_large : {D' : List ℕ} {y : Diagnostic} {m : Counters} → number_of t.detail x ≡ Number.TooLarge → y ≡ number_too_large (span_of t) → Raised D D' c y m
+  pub value_large : {D' : List ℕ} {y : Diagnostic} {m : Counters} → number_of t.detail x ≡ Err NumberError.TooLarge → y ≡ number_too_large (span_of t) → Raised D D' c y m
       → Told (λ z. z) (Same c.nodes) (valued t (number_of t.detail x)) L T D D' c 0 m
   unfolding valued
   value_large e w h = rw e (raised (raised_as w h) (answered refl refl (raised_same h)))
 
 -- behind the token of a suffix
-pub suffix_taken : (from : ℕ) {L T D D' : List ℕ} {c c₁ : Counters} {v : SuffixRead} {r : Counters} {k : Token} → token_at T c.at ≡ peeked.Is k → k.kind ≡ Kinds.size_suffix → c₁ ≡ stepped c k
+pub suffix_taken : (from : ℕ) {L T D D' : List ℕ} {c c₁ : Counters} {v : Option Suffixed} {r : Counters} {k : Token} → token_at T c.at ≡ Some k → k.kind ≡ Kinds.size_suffix → c₁ ≡ stepped c k
     → Told suffix_read (Same c₁.nodes) (suffix_run from k (run_of (text_of L k.start k.end))) L T D D' c₁ v r → Told suffix_read (Same c.nodes) (take_size_suffix from) L T D D' c v r
 unfolding take_size_suffix
 suffix_taken from h e step g = hit_same h (eq-eqb _ Kinds.size_suffix e) step g

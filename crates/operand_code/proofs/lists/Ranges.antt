@@ -15,10 +15,7 @@ use Rattle.names.specs.Kinds
 use Rattle.names.specs.Registers.{register_of}
 use Rattle.names.specs.Tokens.{count, token_at}
 use Rattle.names.specs.Places.{text_of, place, there, nowhere, live}
-use Rattle.names.specs.declared.registers.Reg.{Reg}
 use Rattle.names.specs.declared.tokens.Token.{Token}
-use Rattle.names.specs.declared.tokens.Peeked.{Peeked}
-use Rattle.names.specs.declared.tokens.Peeked.TheVariants as peeked
 use Rattle.records.specs.Problems
 use Rattle.records.specs.Spans.{span_of}
 use Rattle.records.specs.declared.counters.Counters.{Counters}
@@ -28,21 +25,18 @@ use Rattle.records.specs.Nodes.{node_record, words}
 use Rattle.records.specs.Stores.{PutTold}
 use Rattle.records.specs.Counters.{stepped}
 use Rattle.expressions_code.specs.Terms.{NodeTold}
-use Rattle.operand.specs.Operands.{single, Maybe, some, none}
+use Rattle.operand.specs.Operands.{single}
 use Rattle.operand.specs.Operand.{a_register, index_of, register_from, register_expected, ranged, list_item}
 use Rattle.operand.specs.Mask.{bits_from}
 use Rattle.records.specs.Rooms.{Room}
 use Rattle.expressions.specs.Told.{Raised, Told}
 use Rattle.operand_code.specs.Lookahead.{reg_at}
-use Rattle.operand_code.specs.Lists.{expected_at, RegisterTold, found, missing, item_of, item_read, RangedTold, rising, falling, single_step, ItemHeld, ItemTold, item_bytes}
+use Rattle.operand_code.specs.Lists.{expected_at, RegisterTold, found, missing, item_of, RangedTold, rising, falling, ItemHeld, ItemTold, item_bytes}
 use Rattle.operand.specs.declared.forms.Register.{Register}
 use Rattle.operand_code.specs.declared.lists.Item.{Item}
-use Rattle.operand_code.specs.declared.lists.ItemRead.{ItemRead}
-use Rattle.operand_code.specs.declared.lists.ItemStep.{ItemStep}
-use Rattle.operand_code.specs.declared.lists.RegisterRead.{RegisterRead}
-use Rattle.operand_code.specs.declared.lists.RegisterStep.{RegisterStep}
 use Rattle.operand_code.proofs.lookahead.Names.{reg_small}
 use Rattle.expressions.specs.Paths.{answered, hereby, raised, hit, missed, miss, done, seen, beyond, chosen, unchosen}
+use Rattle.std.specs.Prelude.{Option, Some, None, option_map}
 
 -- ---- a register at a place
 
@@ -52,28 +46,28 @@ pub record IsRegister (t : Token) (x : List ℕ) (n : ℕ) : Type 0 where
   pub from : register_from t x ≡ record { index = n; span = span_of t }
   pub small : n < 16
 
-pub is_register_lem : (t : Token) (x : List ℕ) (n : ℕ) → reg_at t x ≡ Reg.Is n → IsRegister t x n
+pub is_register_lem : (t : Token) (x : List ℕ) (n : ℕ) → reg_at t x ≡ Some n → IsRegister t x n
 unfolding reg_at a_register register_from index_of
 is_register_lem t x n h = go (eqb t.kind Kinds.identifier) refl h
   where
-    go : (b : Bool) → eqb t.kind Kinds.identifier ≡ b → pick b (register_of x) Reg.Not ≡ Reg.Is n → IsRegister t x n
+    go : (b : Bool) → eqb t.kind Kinds.identifier ≡ b → pick b (register_of x) None ≡ Some n → IsRegister t x n
     go true q e = record { passes = rw (q, e); from = rw e; small = reg_small t x n h }
     go false q e = let z : ◌≡◌ {A = ℕ} 0 1 = cc in absurd (omega arith)
 
-pub not_register : (t : Token) (x : List ℕ) → reg_at t x ≡ Reg.Not → a_register t x ≡ false
+pub not_register : (t : Token) (x : List ℕ) → reg_at t x ≡ None → a_register t x ≡ false
 unfolding reg_at a_register
 not_register t x h = go (eqb t.kind Kinds.identifier) refl h
   where
-    go : (b : Bool) → eqb t.kind Kinds.identifier ≡ b → pick b (register_of x) Reg.Not ≡ Reg.Not → a_register t x ≡ false
+    go : (b : Bool) → eqb t.kind Kinds.identifier ≡ b → pick b (register_of x) None ≡ None → a_register t x ≡ false
     go true q e = rw (q, e)
     go false q e = rw q
 
 -- no register stands at the cursor
-pub none_there : (L T : List ℕ) (i : ℕ) (t : Token) → token_at T i ≡ peeked.Is t → reg_at t (text_of L t.start t.end) ≡ Reg.Not → holds a_register (place L T i) ≡ false
+pub none_there : (L T : List ℕ) (i : ℕ) (t : Token) → token_at T i ≡ Some t → reg_at t (text_of L t.start t.end) ≡ None → holds a_register (place L T i) ≡ false
 unfolding holds
 none_there L T i t h e = rw (there L T i t h) (not_register t _ e)
 
-pub none_at_end : (L T : List ℕ) (i : ℕ) → token_at T i ≡ peeked.End → holds a_register (place L T i) ≡ false
+pub none_at_end : (L T : List ℕ) (i : ℕ) → token_at T i ≡ None → holds a_register (place L T i) ≡ false
 unfolding holds
 none_at_end L T i h = rw (nowhere L T i h)
 
@@ -83,7 +77,7 @@ none_at_end L T i h = rw (nowhere L T i h)
 pub room_on : {T : List ℕ} {c c₁ : Counters} → Room T c 0 1 → c₁.at ≤ count T → c₁.diagnostics + c.at ≤ c.diagnostics + c₁.at → Room T c₁ 0 1
 room_on h w q = omega (arith, h, w, q)
 
-pub room_behind : {T : List ℕ} {c c₁ : Counters} {t : Token} → Room T c 0 1 → token_at T c.at ≡ peeked.Is t → c₁ ≡ stepped c t → Room T c₁ 0 1
+pub room_behind : {T : List ℕ} {c c₁ : Counters} {t : Token} → Room T c 0 1 → token_at T c.at ≡ Some t → c₁ ≡ stepped c t → Room T c₁ 0 1
 room_behind {T} {c = c} {t = t} h g e = let n = live T c.at t g in rw e (omega (arith, h, n))
 
 pub record FoundAt (T : List ℕ) (c : Counters) (q : Register) (r : Counters) : Type 0 where
@@ -93,7 +87,7 @@ pub record FoundAt (T : List ℕ) (c : Counters) (q : Register) (r : Counters) :
   pub quiet : r.diagnostics ≡ c.diagnostics
   pub small : q.index < 16
 
-pub found_at : {L T D D' : List ℕ} {c : Counters} {sign : ℕ} {r : RegisterStep} {q : Register} → RegisterTold L T D D' c sign r → r.register ≡ RegisterRead.Is q → FoundAt T c q r.counters
+pub found_at : {L T D D' : List ℕ} {c : Counters} {sign : ℕ} {v : Option Register} {r : Counters} {q : Register} → RegisterTold L T D D' c sign v r → v ≡ Some q → FoundAt T c q r
 found_at {L} {T} {c = c} {r = r} {q = q} (found t n h g e f d) w =
     let z : ◌≡◌ {A = Register} q (record { index = n; span = span_of t }) = cc in
     let m = (is_register_lem t _ n g).small in
@@ -108,14 +102,14 @@ found_at {L} {T} {c = c} {r = r} {q = q} (found t n h g e f d) w =
 found_at (missing h e f) w = let z : ◌≡◌ {A = ℕ} 0 1 = cc in absurd (omega arith)
 
 -- what the reader says where none stands
-pub expected : {A B : Type 0} {f : Maybe A → B} {Q : Maybe A → Counters → Type 0} {L T D D' : List ℕ} {c r : Counters} {v : B} (sign : ℕ)
-    → Raised D D' c (register_expected_in_register_list sign (expected_at (token_at T c.at) c.end)) r → v ≡ f none → Q none r → Told f Q (register_expected sign) L T D D' c v r
+pub expected : {A B : Type 0} {f : Option A → B} {Q : Option A → Counters → Type 0} {L T D D' : List ℕ} {c r : Counters} {v : B} (sign : ℕ)
+    → Raised D D' c (register_expected_in_register_list sign (expected_at (token_at T c.at) c.end)) r → v ≡ f None → Q None r → Told f Q (register_expected sign) L T D D' c v r
 unfolding register_expected expected_at
 expected {f = f} {Q = Q} {L = L} {T = T} {D = D} {D' = D'} {c = c} {r = r} {v = v} sign h e q = go (token_at T c.at) refl h
   where
-    go : (p : Peeked) → token_at T c.at ≡ p → Raised D D' c (register_expected_in_register_list sign (expected_at p c.end)) r → Told f Q (register_expected sign) L T D D' c v r
-    go (peeked.Is t) g h = seen (omega arith) g refl (raised h (answered e refl q))
-    go peeked.End g h = beyond (omega arith) g (hereby (raised h (answered e refl q)))
+    go : (p : Option Token) → token_at T c.at ≡ p → Raised D D' c (register_expected_in_register_list sign (expected_at p c.end)) r → Told f Q (register_expected sign) L T D D' c v r
+    go (Some t) g h = seen (omega arith) g refl (raised h (answered e refl q))
+    go None g h = beyond (omega arith) g (hereby (raised h (answered e refl q)))
 
 -- ---- the bits
 
@@ -180,31 +174,31 @@ node_told {N} {N'} {c} x {r} h i j k p = record {
 
 -- ---- an item
 
-alone : (T : List ℕ) (c : Counters) (r : Register) → c.at ≤ count T → r.index < 16 → ItemHeld T c (some (single r)) c
+alone : (T : List ℕ) (c : Counters) (r : Register) → c.at ≤ count T → r.index < 16 → ItemHeld T c (Some (single r)) c
 unfolding ItemHeld item_of
 alone T c r w n = record { same = refl; on = omega arith; within = w; quiet = omega arith; from_small = n; to_small = n }
 
-module _ {L T D : List ℕ} {c : Counters} {r : Register} {s : ItemStep} (w : c.at ≤ count T) (n : r.index < 16) (e : s ≡ single_step c r) where
-  pub single_end : token_at T c.at ≡ peeked.End → ItemTold L T D D c r s
-  unfolding list_item item_read item_of
-  single_end h = done h (answered (ap (λ z. z.item) e) (ap (λ z. z.counters) e) (alone T c r w n))
+module _ {L T D : List ℕ} {c : Counters} (r : Register) {x : Item} (w : c.at ≤ count T) (n : r.index < 16) (e : x ≡ record { kind = 7; from = r; to = r; span = r.span }) where
+  pub single_end : token_at T c.at ≡ None → ItemTold L T D D c r (Some x) c
+  unfolding list_item item_of
+  single_end h = done h (answered (ap Some e) refl (alone T c r w n))
 
-  pub single_other : {t : Token} → token_at T c.at ≡ peeked.Is t → (t.kind ≡ Kinds.minus → ⊥) → ItemTold L T D D c r s
-  unfolding list_item item_read item_of
-  single_other h q = miss h (ne_eqb _ Kinds.minus q) (answered (ap (λ z. z.item) e) (ap (λ z. z.counters) e) (alone T c r w n))
+  pub single_other : {t : Token} → token_at T c.at ≡ Some t → (t.kind ≡ Kinds.minus → ⊥) → ItemTold L T D D c r (Some x) c
+  unfolding list_item item_of
+  single_other h q = miss h (ne_eqb _ Kinds.minus q) (answered (ap Some e) refl (alone T c r w n))
 
 -- a range, two tokens behind c
-ranged_told : (c : Counters) {L T D D' : List ℕ} {c₁ : Counters} {r q : Register} {s : ItemStep} → c₁.at ≤ count T → c₁.at ≡ c.at + 2 → c₁.nodes ≡ c.nodes → c₁.diagnostics ≡ c.diagnostics
-    → r.index < 16 → q.index < 16 → RangedTold D D' c₁ r q s → Told item_read (ItemHeld T c) (ranged r q) L T D D' c₁ s.item s.counters
-unfolding ranged item_read item_of ItemHeld
-ranged_told c {L} {T} {D} {D'} {c₁} {r} {q} {s} w a b d m n (rising h e f g) =
-    subst (λ E. Told item_read (ItemHeld T c) (ranged r q) L T D E c₁ s.item s.counters) (sym g)
+ranged_told : (c : Counters) {L T D D' : List ℕ} {c₁ : Counters} {r q : Register} {x : Item} {s : Counters} → c₁.at ≤ count T → c₁.at ≡ c.at + 2 → c₁.nodes ≡ c.nodes → c₁.diagnostics ≡ c.diagnostics
+    → r.index < 16 → q.index < 16 → RangedTold D D' c₁ r q x s → Told (option_map item_of) (ItemHeld T c) (ranged r q) L T D D' c₁ (Some x) s
+unfolding ranged item_of ItemHeld
+ranged_told c {L} {T} {D} {D'} {c₁} {r} {q} {x} {s} w a b d m n (rising h e f g) =
+    subst (λ E. Told (option_map item_of) (ItemHeld T c) (ranged r q) L T D E c₁ (Some x) s) (sym g)
     (unchosen (ltb q.index r.index) _ (le-ltb q.index r.index h)
-    (answered e f (record { same = b; on = omega arith; within = w; quiet = omega arith; from_small = m; to_small = n })))
-ranged_told c {c₁ = c₁} {r = r} {q = q} {s = s} w a b d m n (falling h e f) =
+    (answered (ap Some e) f (record { same = b; on = omega arith; within = w; quiet = omega arith; from_small = m; to_small = n })))
+ranged_told c {c₁ = c₁} {r = r} {q = q} w a b d m n (falling h e f) =
     let g = f.counters in
     chosen (ltb q.index r.index) _ (lt-ltb q.index r.index h)
-    (raised f (answered e refl (record {
+    (raised f (answered (ap Some e) refl (record {
       same = ap (λ z. z.nodes) g ∙ b;
       on = omega (arith, ap (λ z. z.at) g);
       within = omega (arith, ap (λ z. z.at) g);
@@ -214,26 +208,26 @@ ranged_told c {c₁ = c₁} {r = r} {q = q} {s = s} w a b d m n (falling h e f) 
     })))
 
 -- behind a minus
-module _ {L T D D₁ : List ℕ} {c c₁ : Counters} (r : Register) {t : Token} (h : token_at T c.at ≡ peeked.Is t) (k : t.kind ≡ Kinds.minus) (e : c₁ ≡ stepped c t) where
-  pub range_none : {u : RegisterStep} → RegisterTold L T D D₁ c₁ 45 u → u.register ≡ RegisterRead.Not → ItemTold L T D D₁ c r (record { item = ItemRead.Not; counters = u.counters })
-  unfolding list_item item_read ItemHeld
+module _ {L T D D₁ : List ℕ} {c c₁ : Counters} (r : Register) {t : Token} (h : token_at T c.at ≡ Some t) (k : t.kind ≡ Kinds.minus) (e : c₁ ≡ stepped c t) where
+  pub range_none : {v : Option Register} {u : Counters} → RegisterTold L T D D₁ c₁ 45 v u → v ≡ None → ItemTold L T D D₁ c r None u
+  unfolding list_item ItemHeld
   range_none (found t₂ n h₂ g a b d) w = let z : ◌≡◌ {A = ℕ} 0 1 = cc in absurd (omega arith)
   range_none (missing g a f) w = hit h (eq-eqb _ Kinds.minus k) e (missed g (expected Problems.after_minus f refl tt))
 
-  pub range_some : {D₂ : List ℕ} {u : RegisterStep} {q : Register} {s : ItemStep} → r.index < 16 → RegisterTold L T D D₁ c₁ 45 u → u.register ≡ RegisterRead.Is q
-      → RangedTold D₁ D₂ u.counters r q s → ItemTold L T D D₂ c r s
+  pub range_some : {D₂ : List ℕ} {v : Option Register} {u : Counters} {q : Register} {x : Item} {s : Counters} → r.index < 16 → RegisterTold L T D D₁ c₁ 45 v u → v ≡ Some q
+      → RangedTold D₁ D₂ u r q x s → ItemTold L T D D₂ c r (Some x) s
   unfolding list_item
-  range_some {D₂} {u} {q} {s} m (found t₂ n h₂ g a b d) w x =
+  range_some {D₂} {v} {u} {q} {x = i} {s = s} m (found t₂ n h₂ g a b d) w x =
       let y = is_register_lem t₂ _ n g in
       let z : ◌≡◌ {A = Register} q (register_from t₂ (text_of L t₂.start t₂.end)) = cc y.from in
-      let j : RegisterTold L T D D₁ c₁ 45 u = found t₂ n h₂ g a b d in
-      let v = found_at j w in
+      let j : RegisterTold L T D D₁ c₁ 45 v u = found t₂ n h₂ g a b d in
+      let f = found_at j w in
       let l : c₁.at ≡ c.at + 1 = ap (λ z. z.at) e in
       let o : c₁.nodes ≡ c.nodes = ap (λ z. z.nodes) e in
       let p : c₁.diagnostics ≡ c.diagnostics = ap (λ z. z.diagnostics) e in
       hit h (eq-eqb _ Kinds.minus k) e
       (hit h₂ y.passes b
-      (subst (λ E. Told item_read (ItemHeld T c) (ranged r (register_from t₂ (text_of L t₂.start t₂.end))) L T E D₂ u.counters s.item s.counters) d
-      (subst (λ j. Told item_read (ItemHeld T c) (ranged r j) L T D₁ D₂ u.counters s.item s.counters) z
-      (ranged_told c v.within (omega arith) (omega arith) (omega arith) m v.small x))))
+      (subst (λ E. Told (option_map item_of) (ItemHeld T c) (ranged r (register_from t₂ (text_of L t₂.start t₂.end))) L T E D₂ u (Some i) s) d
+      (subst (λ j. Told (option_map item_of) (ItemHeld T c) (ranged r j) L T D₁ D₂ u (Some i) s) z
+      (ranged_told c f.within (omega arith) (omega arith) (omega arith) m f.small x))))
   range_some m (missing g a f) w x = let z : ◌≡◌ {A = ℕ} 0 1 = cc in absurd (omega arith)

@@ -14,8 +14,6 @@ use Rattle.names.specs.Places.{Place, nothing, stands, text_of, place}
 use Rattle.names.specs.Registers.{suppressed_of}
 use Rattle.names.specs.Tokens.{token_at}
 use Rattle.names.specs.declared.tokens.Token.{Token}
-use Rattle.names.specs.declared.tokens.Peeked.TheVariants as peeked
-use Rattle.names.specs.declared.registers.Reg.{Reg}
 use Rattle.names.specs.declared.registers.Suppressed.{Suppressed}
 use Rattle.expressions.proofs.Costs.{true_false}
 use Rattle.expressions.specs.Laws.{holds}
@@ -23,25 +21,23 @@ use Rattle.expressions.specs.Reader.{Test, Reader, bump, peek, any}
 use Rattle.records.specs.Counters.{stepped}
 use Rattle.expressions.specs.declared.reading.Setting.{Setting}
 use Rattle.records.specs.declared.counters.Counters.{Counters}
-use Rattle.operand.specs.Operands.{Maybe}
 use Rattle.operand.specs.Operand.{is_address, is_suppressed, is_suppressed_register, is_suppressed_address, a_register, an_address_register, a_program_counter, unmarked, suppressed_index, register_from, after_base_register, size_or_scale, no_base, parse_base_and_index_registers, closes, starts_a_full_index, starts_a_base}
 use Rattle.expressions.specs.Told.{Told}
 use Rattle.operand_code.specs.Lookahead.{reg_at, suppressed_at, full_index_starts, base_starts, address_base, suppressed_base, is_counter, base_at, is_base}
 use Rattle.operand.specs.declared.forms.BaseRegister.{BaseRegister}
 use Rattle.operand.specs.declared.forms.Registers.{Registers}
 use Rattle.expressions.specs.Paths.{hereby, hit, miss, done, passed, unseen, whether}
-use Rattle.operand_code.proofs.lookahead.Names.{holds_at, holds_end, an_address, reg_is, reg_from, address_is, address_not, unmarked_is, suppressed_is}
+use Rattle.operand_code.proofs.lookahead.Names.{holds_at, holds_end, an_address, reg_is, reg_from, address_is, address_not, unmarked_is, suppressed_is, suppressed_asked}
+use Rattle.std.specs.Prelude.{Some, None, Option, is_some, ◌⊎◌}
+use Rattle.std.proofs.Math.Logic.{inl, inr}
 
 -- ---- what follows an index
 
 module _ (p q : Bool) (t : Token) (x : List ℕ) where
-  pub closes_size : t.kind ≡ Kinds.size_suffix → closes p q t x ≡ true
+  pub closes_sized : (t.kind ≡ Kinds.size_suffix) ⊎ (t.kind ≡ Kinds.star) → closes p q t x ≡ true
   unfolding closes size_or_scale
-  closes_size h = simp (h, both_false)
-
-  pub closes_star : t.kind ≡ Kinds.star → closes p q t x ≡ true
-  unfolding closes size_or_scale
-  closes_star h = simp (h, both_false)
+  closes_sized (inl h) = simp (h, both_false)
+  closes_sized (inr h) = simp (h, both_false)
 
   pub closes_paren : t.kind ≡ Kinds.right_paren → closes p q t x ≡ p
   unfolding closes size_or_scale
@@ -51,9 +47,10 @@ module _ (p q : Bool) (t : Token) (x : List ℕ) where
   unfolding closes size_or_scale
   closes_comma h = simp (h, both_false, both_true, either_false)
 
-  pub closes_not : (t.kind ≡ Kinds.size_suffix → ⊥) → (t.kind ≡ Kinds.star → ⊥) → (t.kind ≡ Kinds.right_paren → ⊥) → (t.kind ≡ Kinds.comma → ⊥) → closes p q t x ≡ false
+  pub closes_not : ((t.kind ≡ Kinds.size_suffix) ⊎ (t.kind ≡ Kinds.star) → ⊥) → (t.kind ≡ Kinds.right_paren → ⊥) → (t.kind ≡ Kinds.comma → ⊥) → closes p q t x ≡ false
   unfolding closes size_or_scale
-  closes_not a b c d = simp (ne_eqb _ Kinds.size_suffix a, ne_eqb _ Kinds.star b, ne_eqb _ Kinds.right_paren c, ne_eqb _ Kinds.comma d, both_false)
+  closes_not a b c =
+      simp (ne_eqb _ Kinds.size_suffix (λ e. a (inl e)), ne_eqb _ Kinds.star (λ e. a (inr e)), ne_eqb _ Kinds.right_paren b, ne_eqb _ Kinds.comma c, both_false)
 
 -- no parenthesis and no comma
 pub closes_neither : (p : Place) → holds (closes false false) p ≡ holds size_or_scale p
@@ -64,7 +61,7 @@ closes_neither (stands k x) = refl
 -- ---- where a full index begins
 
 -- behind the register r: a data register may close, an address register has a size or a scale
-pub register_starts : (t : Token) (x : List ℕ) (r : ℕ) (p : Place) → reg_at t x ≡ Reg.Is r → holds (closes (ltb r 8) false) p ≡ pick (an_address_register t x) (holds (closes false false) p) (both (a_register t x) (holds (closes true false) p))
+pub register_starts : (t : Token) (x : List ℕ) (r : ℕ) (p : Place) → reg_at t x ≡ Some r → holds (closes (ltb r 8) false) p ≡ pick (an_address_register t x) (holds (closes false false) p) (both (a_register t x) (holds (closes true false) p))
 register_starts t x r p h = go (ltb r 8) refl
   where
     go : (b : Bool) → ltb r 8 ≡ b → holds (closes b false) p ≡ pick (an_address_register t x) (holds (closes false false) p) (both (a_register t x) (holds (closes true false) p))
@@ -72,13 +69,13 @@ register_starts t x r p h = go (ltb r 8) refl
     go false q = rw (address_is t x r h (ltb-false r 8 q))
 
 module _ (s : Setting) (L T : List ℕ) (i : ℕ) where
-  pub full_at : (k : Token) → token_at T i ≡ peeked.Is k
-      → full_index_starts s (place L T) i ≡ pick (is_suppressed (suppressed_at s i k (text_of L k.start k.end))) (holds (closes true true) (place L T (i + 1))) (pick (an_address_register k (text_of L k.start k.end)) (holds (closes false false) (place L T (i + 1))) (both (a_register k (text_of L k.start k.end)) (holds (closes true false) (place L T (i + 1)))))
+  pub full_at : (k : Token) → token_at T i ≡ Some k
+      → full_index_starts s (place L T) i ≡ pick (is_some (suppressed_at s i k (text_of L k.start k.end))) (holds (closes true true) (place L T (i + 1))) (pick (an_address_register k (text_of L k.start k.end)) (holds (closes false false) (place L T (i + 1))) (both (a_register k (text_of L k.start k.end)) (holds (closes true false) (place L T (i + 1)))))
   unfolding full_index_starts is_suppressed
   full_at k h =
-      rw (holds_at (unmarked s i is_suppressed) L T i k h ∙ unmarked_is s i is_suppressed k _ refl, holds_at an_address_register L T i k h, holds_at a_register L T i k h)
+      rw (holds_at (unmarked s i is_suppressed) L T i k h ∙ unmarked_is s i is_suppressed k _ refl ∙ suppressed_asked _, holds_at an_address_register L T i k h, holds_at a_register L T i k h)
 
-  pub full_end : token_at T i ≡ peeked.End → full_index_starts s (place L T) i ≡ false
+  pub full_end : token_at T i ≡ None → full_index_starts s (place L T) i ≡ false
   unfolding full_index_starts
   full_end h = rw (holds_end (unmarked s i is_suppressed) L T i h, holds_end an_address_register L T i h, holds_end a_register L T i h)
 
@@ -95,18 +92,18 @@ abbrev pub ends : Place → Bool
 ends p = either (not (holds any p)) (holds closed p)
 
 module _ (L T : List ℕ) (i : ℕ) where
-  pub ends_at : (k : Token) → token_at T i ≡ peeked.Is k → ends (place L T i) ≡ either (eqb k.kind Kinds.right_paren) (eqb k.kind Kinds.comma)
+  pub ends_at : (k : Token) → token_at T i ≡ Some k → ends (place L T i) ≡ either (eqb k.kind Kinds.right_paren) (eqb k.kind Kinds.comma)
   ends_at k h = rw (holds_at any L T i k h, holds_at closed L T i k h)
 
-  pub ends_end : token_at T i ≡ peeked.End → ends (place L T i) ≡ true
+  pub ends_end : token_at T i ≡ None → ends (place L T i) ≡ true
   ends_end h = rw (holds_end any L T i h)
 
-  pub base_starts_at : (k : Token) → token_at T i ≡ peeked.Is k
+  pub base_starts_at : (k : Token) → token_at T i ≡ Some k
       → base_starts (place L T) i ≡ both (either (a_register k (text_of L k.start k.end)) (a_program_counter k (text_of L k.start k.end))) (ends (place L T (i + 1)))
   unfolding base_starts
   base_starts_at k h = rw (holds_at based L T i k h)
 
-  pub base_starts_end : token_at T i ≡ peeked.End → base_starts (place L T) i ≡ false
+  pub base_starts_end : token_at T i ≡ None → base_starts (place L T) i ≡ false
   unfolding base_starts
   base_starts_end h = rw (holds_end based L T i h)
 
@@ -116,31 +113,31 @@ address_base_lem : (t : Token) (x : List ℕ) (b : BaseRegister) → address_bas
 unfolding address_base is_address
 address_base_lem t x b = go (reg_at t x) refl
   where
-    go : (q : Reg) → reg_at t x ≡ q → address_base q t b ≡ pick (an_address_register t x) (BaseRegister.Address (register_from t x)) b
-    go (Reg.Is r) e = rw (an_address t x, e, reg_from t x r e)
-    go Reg.Not e = rw (an_address t x, e)
+    go : (q : Option ℕ) → reg_at t x ≡ q → address_base q t b ≡ pick (an_address_register t x) (BaseRegister.Address (register_from t x)) b
+    go (Some r) e = rw (an_address t x, e, reg_from t x r e)
+    go None e = rw (an_address t x, e)
 
 module _ (s : Setting) (i : ℕ) (t : Token) (x : List ℕ) where
   suppressed_base_lem : suppressed_base (suppressed_at s i t x) ≡ pick (unmarked s i is_suppressed_address t x) (BaseRegister.SuppressedAddress (suppressed_index (suppressed_of x) - 8)) BaseRegister.Omitted
   unfolding suppressed_base is_suppressed_address suppressed_index
   suppressed_base_lem = go (suppressed_at s i t x) refl
     where
-      go : (q : Suppressed) → suppressed_at s i t x ≡ q → suppressed_base q ≡ pick (unmarked s i is_suppressed_address t x) (BaseRegister.SuppressedAddress (suppressed_index (suppressed_of x) - 8)) BaseRegister.Omitted
-      go (Suppressed.Register r) e = rw (unmarked_is s i is_suppressed_address t x refl, e, suppressed_is s i t x r e)
-      go Suppressed.ProgramCounter e = rw (unmarked_is s i is_suppressed_address t x refl, e)
-      go Suppressed.Not e = rw (unmarked_is s i is_suppressed_address t x refl, e)
+      go : (q : Option Suppressed) → suppressed_at s i t x ≡ q → suppressed_base q ≡ pick (unmarked s i is_suppressed_address t x) (BaseRegister.SuppressedAddress (suppressed_index (suppressed_of x) - 8)) BaseRegister.Omitted
+      go (Some (Suppressed.Register r)) e = rw (unmarked_is s i is_suppressed_address t x refl, e, suppressed_is s i t x r e)
+      go (Some Suppressed.ProgramCounter) e = rw (unmarked_is s i is_suppressed_address t x refl, e)
+      go None e = rw (unmarked_is s i is_suppressed_address t x refl, e)
 
-  abbrev counter : Suppressed → Bool
+  abbrev counter : Option Suppressed → Bool
   counter z = both (is_suppressed z) (not (is_suppressed_register z))
 
   counter_is : is_counter (suppressed_at s i t x) ≡ unmarked s i counter t x
   unfolding is_counter is_suppressed is_suppressed_register
   counter_is = go (suppressed_at s i t x) ∙ sym (unmarked_is s i counter t x refl)
     where
-      go : (q : Suppressed) → is_counter q ≡ counter q
-      go (Suppressed.Register r) = refl
-      go Suppressed.ProgramCounter = refl
-      go Suppressed.Not = refl
+      go : (q : Option Suppressed) → is_counter q ≡ counter q
+      go (Some (Suppressed.Register r)) = refl
+      go (Some Suppressed.ProgramCounter) = refl
+      go None = refl
 
   -- the base, by the tests of the definition
   base_tests : (at : ℕ → Place) → base_at s at i t x
@@ -166,7 +163,7 @@ module _ {A E : Type 0} {f : A → E} {Q : A → Counters → Type 0} {L T D D' 
       go false q = unseen (subst (λ z. holds t (place L T z) ≡ false) e q) (h q)
 
   -- the token k at the cursor is tested
-  tried : {t : Test} {y : Token → List ℕ → Reader A} {n : Unit {0} → Reader A} {k : Token} {c₁ : Counters} → token_at T c.at ≡ peeked.Is k → c₁ ≡ stepped c k
+  tried : {t : Test} {y : Token → List ℕ → Reader A} {n : Unit {0} → Reader A} {k : Token} {c₁ : Counters} → token_at T c.at ≡ Some k → c₁ ≡ stepped c k
       → (t k (text_of L k.start k.end) ≡ true → Told f Q (y k (text_of L k.start k.end)) L T D D' c₁ v r)
       → (t k (text_of L k.start k.end) ≡ false → Told f Q (n tt) L T D D' c v r)
       → Told f Q (bump t y n) L T D D' c v r
@@ -214,8 +211,8 @@ module _ {A E : Type 0} {f : A → E} {Q : A → Counters → Type 0} {L T D D' 
     pub base_not : base_starts (place L T) c.at ≡ false → Told f Q (n tt) L T D D' c v r → Told f Q (starts_a_base y n) L T D D' c v r
     base_not e g = based_or_not (λ q. absurd (true_false (sym q ∙ e))) (λ q. g)
 
-module _ {E : Type 0} {f : Maybe Registers → E} {Q : Maybe Registers → Counters → Type 0} {L T D D' : List ℕ} {c : Counters} {v : E} {r : Counters} (s : Setting) (shape : ℕ) where
-  module _ {k : Token} (h : token_at T c.at ≡ peeked.Is k) where
+module _ {E : Type 0} {f : Option Registers → E} {Q : Option Registers → Counters → Type 0} {L T D D' : List ℕ} {c : Counters} {v : E} {r : Counters} (s : Setting) (shape : ℕ) where
+  module _ {k : Token} (h : token_at T c.at ≡ Some k) where
     base_or_none : {c₁ : Counters} → c₁ ≡ stepped c k
         → ((b : BaseRegister) → base_at s (place L T) c.at k (text_of L k.start k.end) ≡ b → is_base b ≡ true → Told f Q (after_base_register s shape b) L T D D' c₁ v r)
         → (base_at s (place L T) c.at k (text_of L k.start k.end) ≡ BaseRegister.Omitted → Told f Q (no_base s shape) L T D D' c v r)
@@ -244,6 +241,6 @@ module _ {E : Type 0} {f : Maybe Registers → E} {Q : Maybe Registers → Count
     unfolding is_base
     base_none e g = base_or_none {c₁ = stepped c k} refl (λ b q p. absurd (true_false (sym p ∙ ap is_base (sym q ∙ e)))) (λ q. g)
 
-  pub base_end : token_at T c.at ≡ peeked.End → Told f Q (no_base s shape) L T D D' c v r → Told f Q (parse_base_and_index_registers s shape) L T D D' c v r
+  pub base_end : token_at T c.at ≡ None → Told f Q (no_base s shape) L T D D' c v r → Told f Q (parse_base_and_index_registers s shape) L T D D' c v r
   unfolding parse_base_and_index_registers
   base_end h g = hereby (done h (done h (whether (λ k x. g) (done h (done h g)))))

@@ -13,30 +13,30 @@ use Rattle.expressions.specs.Reader.{answer, raise}
 use Rattle.expressions.specs.Told.{Raised, RaisedOver, over, ended, Told}
 use Rattle.expressions.specs.Paths.{answered, hereby, raised, hit, done}
 use Rattle.expressions.specs.declared.reading.Setting.{Setting}
-use Rattle.operand.specs.Operands.{Maybe, none}
 use Rattle.operand.specs.Operand.{malformed, unclosed, not_an_address_register, stepped_over}
+use Rattle.std.specs.Prelude.{Option, None}
 
-pub failed : {A E : Type 0} {f : Maybe A → E} {Q : Maybe A → Counters → Type 0} {L T D D' : List ℕ} {x : Diagnostic} {c m : Counters} {v : E} {r : Counters}
-    → Raised D D' c x m → v ≡ f none → r ≡ m → Q none m → Told f Q (raise x (answer none)) L T D D' c v r
+pub failed : {A E : Type 0} {f : Option A → E} {Q : Option A → Counters → Type 0} {L T D D' : List ℕ} {x : Diagnostic} {c m : Counters} {v : E} {r : Counters}
+    → Raised D D' c x m → v ≡ f None → r ≡ m → Q None m → Told f Q (raise x (answer None)) L T D D' c v r
 failed h w e q = raised h (answered w e q)
 
-pub failed_malformed : {A E : Type 0} {f : Maybe A → E} {Q : Maybe A → Counters → Type 0} (s : Setting) (shape problem : ℕ) {L T D D' : List ℕ} {c m : Counters} {v : E} {r : Counters}
-    → Raised D D' c (malformed_operand shape problem (span s.start c.end) no_span) m → v ≡ f none → r ≡ m → Q none m → Told f Q (malformed s shape problem) L T D D' c v r
+pub failed_malformed : {A E : Type 0} {f : Option A → E} {Q : Option A → Counters → Type 0} (s : Setting) (shape problem : ℕ) {L T D D' : List ℕ} {c m : Counters} {v : E} {r : Counters}
+    → Raised D D' c (malformed_operand shape problem (span s.start c.end) no_span) m → v ≡ f None → r ≡ m → Q None m → Told f Q (malformed s shape problem) L T D D' c v r
 unfolding malformed
 failed_malformed s shape problem h w e q = hereby (failed h w e q)
 
-pub failed_unclosed : {A E : Type 0} {f : Maybe A → E} {Q : Maybe A → Counters → Type 0} (s : Setting) (k : Token) (shape problem : ℕ) {L T D D' : List ℕ} {c m : Counters} {v : E} {r : Counters}
-    → Raised D D' c (malformed_open shape problem (span s.start c.end) (span_of k)) m → v ≡ f none → r ≡ m → Q none m → Told f Q (unclosed s k shape problem) L T D D' c v r
+pub failed_unclosed : {A E : Type 0} {f : Option A → E} {Q : Option A → Counters → Type 0} (s : Setting) (k : Token) (shape problem : ℕ) {L T D D' : List ℕ} {c m : Counters} {v : E} {r : Counters}
+    → Raised D D' c (malformed_open shape problem (span s.start c.end) (span_of k)) m → v ≡ f None → r ≡ m → Q None m → Told f Q (unclosed s k shape problem) L T D D' c v r
 unfolding unclosed
 failed_unclosed s k shape problem h w e q = hereby (failed h w e q)
 
-pub failed_register : {A E : Type 0} {f : Maybe A → E} {Q : Maybe A → Counters → Type 0} (s : Setting) (shape : ℕ) (k : Token) {L T D D' : List ℕ} {c m : Counters} {v : E} {r : Counters}
-    → Raised D D' c (malformed_operand shape Problems.not_an_address_register (span s.start c.end) (span_of k)) m → v ≡ f none → r ≡ m → Q none m → Told f Q (not_an_address_register s shape k) L T D D' c v r
+pub failed_register : {A E : Type 0} {f : Option A → E} {Q : Option A → Counters → Type 0} (s : Setting) (shape : ℕ) (k : Token) {L T D D' : List ℕ} {c m : Counters} {v : E} {r : Counters}
+    → Raised D D' c (malformed_operand shape Problems.not_an_address_register (span s.start c.end) (span_of k)) m → v ≡ f None → r ≡ m → Q None m → Told f Q (not_an_address_register s shape k) L T D D' c v r
 unfolding not_an_address_register
 failed_register s shape k h w e q = hereby (failed h w e q)
 
-pub failed_over : {A E : Type 0} {f : Maybe A → E} {Q : Maybe A → Counters → Type 0} (s : Setting) (shape problem : ℕ) {L T D D' : List ℕ} {c m : Counters} {v : E} {r : Counters}
-    → RaisedOver T D D' c (λ l. malformed_operand shape problem (span s.start l) no_span) m → v ≡ f none → r ≡ m → Q none m → Told f Q (stepped_over s shape problem) L T D D' c v r
+pub failed_over : {A E : Type 0} {f : Option A → E} {Q : Option A → Counters → Type 0} (s : Setting) (shape problem : ℕ) {L T D D' : List ℕ} {c m : Counters} {v : E} {r : Counters}
+    → RaisedOver T D D' c (λ l. malformed_operand shape problem (span s.start l) no_span) m → v ≡ f None → r ≡ m → Q None m → Told f Q (stepped_over s shape problem) L T D D' c v r
 unfolding stepped_over
 failed_over s shape problem (over t e h) w u q = hit e refl refl (failed_malformed s shape problem h w u q)
 failed_over s shape problem (ended e h) w u q = done e (failed_malformed s shape problem h w u q)

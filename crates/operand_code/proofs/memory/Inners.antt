@@ -9,7 +9,6 @@ use lib.ListN.{length, take}
 use Rattle.names.specs.Tokens.{token_at}
 use Rattle.names.specs.Places.{text_of, place, live}
 use Rattle.names.specs.declared.tokens.Token.{Token}
-use Rattle.names.specs.declared.tokens.Peeked.TheVariants as peeked
 use Rattle.records.specs.Problems
 use Rattle.records.specs.Shapes
 use Rattle.records.specs.declared.counters.Counters.{Counters}
@@ -23,34 +22,27 @@ use Rattle.expressions.specs.Laws as laws
 use Rattle.expressions.specs.Laws.{Law, law_run, holds}
 use Rattle.records.specs.Counters.{stepped}
 use Rattle.expressions.specs.Trees.{Expr, span_e}
-use Rattle.operand.specs.Operands.{Displacement, displaced, undisplaced, Maybe, some, none}
+use Rattle.operand.specs.Operands.{Displacement, displaced, undisplaced}
 use Rattle.operand.specs.Operands as O
 use Rattle.operand.specs.Operand.{◌>>=?◌, an_index, stepped_over, parse_index_register, outer_indexed, outer_index, sized, parse_sized_displacement, Inner, Outer, inner, outer, parse_inner, parse_outer, close_indirect}
 use Rattle.operand.specs.Records.{size_d, nodes_d, size_o, nodes_o}
-use Rattle.operand.specs.Forms.{sized_of, displacement_read, record_of, operand_read}
+use Rattle.operand.specs.Forms.{sized_of, record_of}
 use Rattle.records.specs.Rooms.{Room, NodeRoom}
 use Rattle.expressions.specs.Told.{Told, Same}
 use Rattle.operand_code.specs.Operands.{HeldBy, Stored}
 use Rattle.operand.proofs.Costs.{Left}
 use Rattle.operand.proofs.Costs as cost
-use Rattle.operand_code.specs.Memory.{indirect_record, StoredD, StoredPart, SizedTold, DisplacementTold, inner_of, inner_read, inner_d, InnerTold, outer_of, outer_read, outer_d, OuterTold, StoredBoth, ClosedTold}
+use Rattle.operand_code.specs.Memory.{indirect_record, StoredD, StoredPart, SizedTold, DisplacementTold, inner_of, inner_d, InnerTold, outer_of, outer_d, OuterTold, StoredBoth, ClosedTold}
 use Rattle.operand.specs.declared.forms.Registers.{Registers}
-use Rattle.operand.specs.declared.forms.Index.{Index}
 use Rattle.operand.specs.declared.forms.IndexRegister.{IndexRegister}
-use Rattle.operand.specs.declared.forms.DisplacementRead.{DisplacementRead}
-use Rattle.operand.specs.declared.forms.DisplacementStep.{DisplacementStep}
-use Rattle.operand.specs.declared.forms.SizedDisplacement.{SizedDisplacement}
-use Rattle.operand.specs.declared.forms.OperandRead.{OperandRead}
-use Rattle.operand.specs.declared.forms.OperandStep.{OperandStep}
 use Rattle.operand_code.specs.declared.memory_inner.InnerPart.{InnerPart}
-use Rattle.operand_code.specs.declared.memory_inner.InnerRead.{InnerRead}
-use Rattle.operand_code.specs.declared.memory_inner.InnerStep.{InnerStep}
 use Rattle.operand_code.specs.declared.memory_outer.OuterPart.{OuterPart}
-use Rattle.operand_code.specs.declared.memory_outer.OuterRead.{OuterRead}
-use Rattle.operand_code.specs.declared.memory_outer.OuterStep.{OuterStep}
 use Rattle.expressions.specs.Paths.{held_as, answered, hereby, hit, passed, unseen}
 use Rattle.operand_code.proofs.Rooms.{left_room}
 use Rattle.operand_code.proofs.expressed.Trees.{TreeRead}
+use Rattle.std.specs.Prelude.{Option, Some, None, option_map}
+use Rattle.operand.specs.declared.forms.OperandRecord.{OperandRecord}
+use Rattle.operand.specs.declared.forms.Sized.{Sized}
 
 -- ---- nodes
 
@@ -72,13 +64,13 @@ stored_first {N} {N'} {y = y} {c = c} e st =
 -- ---- room
 
 -- behind a token
-pub node_step : {T N : List ℕ} {c c₁ : Counters} {k : Token} {n : ℕ} → NodeRoom T N c n 0 1 → token_at T c.at ≡ peeked.Is k → c₁ ≡ stepped c k → NodeRoom T N c₁ n 0 1
+pub node_step : {T N : List ℕ} {c c₁ : Counters} {k : Token} {n : ℕ} → NodeRoom T N c n 0 1 → token_at T c.at ≡ Some k → c₁ ≡ stepped c k → NodeRoom T N c₁ n 0 1
 node_step {T} {c = c} {k = k} h t e = let l = live T c.at k t in rw e (omega (arith, h, l))
 
 -- behind a reader that has answered a displacement, or what holds one
-part_room : {A B : Type 0} {f : Maybe A → B} {p : Reader (Maybe A)} {L T N D N₁ D₁ : List ℕ} {c : Counters} {v : B} {c₁ : Counters} (g : A → Displacement) (least far : ℕ) {x : A}
+part_room : {A B : Type 0} {f : Option A → B} {p : Reader (Option A)} {L T N D N₁ D₁ : List ℕ} {c : Counters} {v : B} {c₁ : Counters} (g : A → Displacement) (least far : ℕ) {x : A}
     → Law p (place L T) (Left (place L T) 0 (all_clean (place L T)) (λ z. size_d (g z)) least 0 far c.at 0 0) c.at c.end 0 0
-    → (run p (place L T) c.at c.end).value ≡ some x → NodeRoom T N c 0 0 1 → Told f (StoredPart g N N₁ c.nodes) p L T D D₁ c v c₁ → length N₁ ≡ length N → NodeRoom T N₁ c₁ 0 0 1
+    → (run p (place L T) c.at c.end).value ≡ Some x → NodeRoom T N c 0 0 1 → Told f (StoredPart g N N₁ c.nodes) p L T D D₁ c v c₁ → length N₁ ≡ length N → NodeRoom T N₁ c₁ 0 0 1
 part_room g least far law w h t n =
     let q = rw w at (law_run law) in
     record {
@@ -87,16 +79,16 @@ part_room g least far law w h t n =
       nodes_long = omega (arith, q.1, (held_as t w).total, t.at, h.nodes_long);
     }
 
-pub displacement_room : (s : Setting) {L T N D N₁ D₁ : List ℕ} {c : Counters} {r : DisplacementStep} {y : Displacement} → NodeRoom T N c 0 0 1 → DisplacementTold (parse_sized_displacement s) L T N D N₁ D₁ c r
-    → (run (parse_sized_displacement s) (place L T) c.at c.end).value ≡ some y → length N₁ ≡ length N → NodeRoom T N₁ r.counters 0 0 1
+pub displacement_room : (s : Setting) {L T N D N₁ D₁ : List ℕ} {c : Counters} {v : Option (Option Sized)} {r : Counters} {y : Displacement} → NodeRoom T N c 0 0 1 → DisplacementTold (parse_sized_displacement s) L T N D N₁ D₁ c v r
+    → (run (parse_sized_displacement s) (place L T) c.at c.end).value ≡ Some y → length N₁ ≡ length N → NodeRoom T N₁ r 0 0 1
 displacement_room s {L} {T} {c = c} h t w n = part_room (λ y. y) 0 0 (cost.displacement_cost (place L T) 0 (all_clean (place L T)) s c.at c.end 0 0) w h t.told n
 
-pub inner_room : (s : Setting) {L T N D N₁ D₁ : List ℕ} {c : Counters} {r : InnerStep} {x : Inner} → NodeRoom T N c 0 0 1 → InnerTold (parse_inner s) L T N D N₁ D₁ c r
-    → (run (parse_inner s) (place L T) c.at c.end).value ≡ some x → length N₁ ≡ length N → NodeRoom T N₁ r.counters 0 0 1
+pub inner_room : (s : Setting) {L T N D N₁ D₁ : List ℕ} {c : Counters} {v : Option InnerPart} {r : Counters} {x : Inner} → NodeRoom T N c 0 0 1 → InnerTold (parse_inner s) L T N D N₁ D₁ c v r
+    → (run (parse_inner s) (place L T) c.at c.end).value ≡ Some x → length N₁ ≡ length N → NodeRoom T N₁ r 0 0 1
 inner_room s {L} {T} {c = c} h t w n = part_room inner_d 0 1 (cost.inner_cost (place L T) 0 (all_clean (place L T)) s c.at c.end 0 0) w h t.told n
 
-pub outer_room : (s : Setting) (i : Index) {L T N D N₁ D₁ : List ℕ} {c : Counters} {r : OuterStep} {x : Outer} → NodeRoom T N c 0 0 1 → OuterTold (parse_outer s i) L T N D N₁ D₁ c r
-    → (run (parse_outer s i) (place L T) c.at c.end).value ≡ some x → length N₁ ≡ length N → NodeRoom T N₁ r.counters 0 0 1
+pub outer_room : (s : Setting) (i : Option IndexRegister) {L T N D N₁ D₁ : List ℕ} {c : Counters} {v : Option OuterPart} {r : Counters} {x : Outer} → NodeRoom T N c 0 0 1 → OuterTold (parse_outer s i) L T N D N₁ D₁ c v r
+    → (run (parse_outer s i) (place L T) c.at c.end).value ≡ Some x → length N₁ ≡ length N → NodeRoom T N₁ r 0 0 1
 outer_room s i {L} {T} {c = c} h t w n = part_room outer_d 0 0 (cost.outer_cost (place L T) 0 (all_clean (place L T)) s i c.at c.end 0 0) w h t.told n
 
 -- behind a reader that has written no node
@@ -110,135 +102,87 @@ same_room {p = p} {L = L} {T = T} {c = c} h t q = record {
 -- ---- a displacement
 
 -- the tree e of the last records, with a size
-pub sized_told : (e : Expr) (k : ℕ) {L T D N N' : List ℕ} {n : ℕ} {c c₁ : Counters} {v : DisplacementRead} {r : Counters} → StoredD N N' n (displaced e 0) c → c₁.nodes ≡ c.nodes
-    → v ≡ DisplacementRead.Is (SizedDisplacement.Is (record { node = c₁.nodes - 1; size = k })) → r ≡ c₁
-    → Told (displacement_read n) (StoredPart (λ y. y) N N' n) (answer (some (displaced e k))) L T D D c₁ v r
-unfolding displacement_read sized_of size_d nodes_d
+pub sized_told : (e : Expr) (k : ℕ) {L T D N N' : List ℕ} {n : ℕ} {c c₁ : Counters} {v : Option (Option Sized)} {r : Counters} → StoredD N N' n (displaced e 0) c → c₁.nodes ≡ c.nodes
+    → v ≡ Some (Some (record { node = c₁.nodes - 1; size = k })) → r ≡ c₁
+    → Told (option_map (sized_of n)) (StoredPart (λ y. y) N N' n) (answer (Some (displaced e k))) L T D D c₁ v r
+unfolding sized_of size_d nodes_d
 sized_told e k {N' = N'} st h w u =
-    answered (w ∙ ap (λ m. DisplacementRead.Is (SizedDisplacement.Is (record { node = m - 1; size = k }))) (h ∙ st.total)) u
+    answered (w ∙ ap (λ m. Some (Some (record { node = m - 1; size = k }))) (h ∙ st.total)) u
     (record { bytes = ap (λ m. take (10 * m) N') h ∙ st.bytes; total = h ∙ st.total })
 
 -- behind a tree that was read
-pub displacement_read_lem : {L T N D N₁ D₁ D₂ : List ℕ} {c : Counters} {limit : ℕ} {s : Span} {c₁ : Counters} {r : DisplacementStep} (k : TreeRead L T N D N₁ D₁ c limit s c₁) → SizedTold s.start L T D₁ D₂ c₁ r
-    → Told (displacement_read c.nodes) (StoredPart (λ y. y) N N₁ c.nodes) (take_size_suffix (span_e k.tree).start >>= sized k.tree) L T D₁ D₂ c₁ r.displacement r.counters
+pub displacement_read_lem : {L T N D N₁ D₁ D₂ : List ℕ} {c : Counters} {limit : ℕ} {s : Span} {c₁ : Counters} {v : Option (Option Sized)} {r : Counters} (k : TreeRead L T N D N₁ D₁ c limit s c₁) → SizedTold s.start L T D₁ D₂ c₁ v r
+    → Told (option_map (sized_of c.nodes)) (StoredPart (λ y. y) N N₁ c.nodes) (take_size_suffix (span_e k.tree).start >>= sized k.tree) L T D₁ D₂ c₁ v r
 unfolding size_d nodes_d
-displacement_read_lem {L} {T} {N} {D} {N₁} {D₁} {D₂} {c} {c₁ = c₁} {r = r} k h =
-    let g : SizedTold (span_e k.tree).start L T D₁ D₂ c₁ r = subst (λ z. SizedTold z.start L T D₁ D₂ c₁ r) k.span h in
+displacement_read_lem {L} {T} {N} {D} {N₁} {D₁} {D₂} {c} {c₁ = c₁} {v = v} {r = r} k h =
+    let g : SizedTold (span_e k.tree).start L T D₁ D₂ c₁ v r = subst (λ z. SizedTold z.start L T D₁ D₂ c₁ v r) k.span h in
     g.told N N₁ c.nodes k.tree (record { bytes = k.bytes; total = k.total })
-
--- the definition's, by the code's
-pub record DisplacedAs (n : ℕ) (m : Maybe Displacement) (d : SizedDisplacement) : Type 0 where
-  pub displacement : Displacement
-  pub is : m ≡ some displacement
-  pub form : sized_of n displacement ≡ d
-
-pub displacement_is : (n : ℕ) (m : Maybe Displacement) {d : SizedDisplacement} → displacement_read n m ≡ DisplacementRead.Is d → DisplacedAs n m d
-unfolding displacement_read
-displacement_is n (some y) h = record { displacement = y; is = refl; form = cc }
-displacement_is n none h = let z : ◌≡◌ {A = ℕ} 0 1 = cc in absurd (omega arith)
-
-pub displacement_not : (n : ℕ) (m : Maybe Displacement) → displacement_read n m ≡ DisplacementRead.Not → m ≡ none
-unfolding displacement_read
-displacement_not n (some y) h = let z : ◌≡◌ {A = ℕ} 0 1 = cc in absurd (omega arith)
-displacement_not n none h = refl
 
 -- ---- between the brackets
 
-pub inner_answered : (x : Registers) (y : Displacement) {d : SizedDisplacement} {N N' : List ℕ} {n : ℕ} {L T D : List ℕ} {c : Counters} {v : InnerRead} {r : Counters}
-    → sized_of n y ≡ d → v ≡ InnerRead.Is (record { displacement = d; registers = x }) → r ≡ c → StoredD N N' n y c
-    → Told (inner_read n) (StoredPart inner_d N N' n) (answer (some (inner y x))) L T D D c v r
-unfolding inner_read inner_of
-inner_answered x y e w u st = answered (w ∙ ap (λ z. InnerRead.Is (record { displacement = z; registers = x })) (sym e)) u st
-
--- the definition's, by the code's
-pub record InnerAs (n : ℕ) (m : Maybe Inner) (i : InnerPart) : Type 0 where
-  pub part : Inner
-  pub is : m ≡ some part
-  pub form : inner_of n part ≡ i
-
-pub inner_is : (n : ℕ) (m : Maybe Inner) {i : InnerPart} → inner_read n m ≡ InnerRead.Is i → InnerAs n m i
-unfolding inner_read
-inner_is n (some x) h = record { part = x; is = refl; form = cc }
-inner_is n none h = let z : ◌≡◌ {A = ℕ} 0 1 = cc in absurd (omega arith)
-
-pub inner_not : (n : ℕ) (m : Maybe Inner) → inner_read n m ≡ InnerRead.Not → m ≡ none
-unfolding inner_read
-inner_not n (some x) h = let z : ◌≡◌ {A = ℕ} 0 1 = cc in absurd (omega arith)
-inner_not n none h = refl
+pub inner_answered : (x : Registers) (y : Displacement) {d : Option Sized} {N N' : List ℕ} {n : ℕ} {L T D : List ℕ} {c : Counters} {v : Option InnerPart} {r : Counters}
+    → sized_of n y ≡ d → v ≡ Some (record { displacement = d; registers = x }) → r ≡ c → StoredD N N' n y c
+    → Told (option_map (inner_of n)) (StoredPart inner_d N N' n) (answer (Some (inner y x))) L T D D c v r
+unfolding inner_of
+inner_answered x y e w u st = answered (w ∙ ap (λ z. Some (record { displacement = z; registers = x })) (sym e)) u st
 
 -- ---- behind the brackets
 
-pub outer_answered : (x : Index) (i : ℕ) (y : Displacement) {d : SizedDisplacement} {N N' : List ℕ} {n : ℕ} {L T D : List ℕ} {c : Counters} {v : OuterRead} {r : Counters}
-    → sized_of n y ≡ d → v ≡ OuterRead.Is (record { index = x; indirection = i; displacement = d }) → r ≡ c → StoredD N N' n y c
-    → Told (outer_read n) (StoredPart outer_d N N' n) (answer (some (outer x i y))) L T D D c v r
-unfolding outer_read outer_of
-outer_answered x i y e w u st = answered (w ∙ ap (λ z. OuterRead.Is (record { index = x; indirection = i; displacement = z })) (sym e)) u st
+pub outer_answered : (x : Option IndexRegister) (i : ℕ) (y : Displacement) {d : Option Sized} {N N' : List ℕ} {n : ℕ} {L T D : List ℕ} {c : Counters} {v : Option OuterPart} {r : Counters}
+    → sized_of n y ≡ d → v ≡ Some (record { index = x; indirection = i; displacement = d }) → r ≡ c → StoredD N N' n y c
+    → Told (option_map (outer_of n)) (StoredPart outer_d N N' n) (answer (Some (outer x i y))) L T D D c v r
+unfolding outer_of
+outer_answered x i y e w u st = answered (w ∙ ap (λ z. Some (record { index = x; indirection = i; displacement = z })) (sym e)) u st
 
 -- behind a token that is stepped over
-pub outer_hit : {L T N D N' D' : List ℕ} {c c₁ : Counters} {r : OuterStep} {t : Test} {y : Token → List ℕ → Reader (Maybe Outer)} {n : Unit {0} → Reader (Maybe Outer)} {k : Token}
-    → token_at T c.at ≡ peeked.Is k → t k (text_of L k.start k.end) ≡ true → c₁ ≡ stepped c k
-    → OuterTold (y k (text_of L k.start k.end)) L T N D N' D' c₁ r → OuterTold (bump t y n) L T N D N' D' c r
-outer_hit {L} {T} {N} {D} {N'} {D'} {r = r} {y = y} {k = k} h q e g =
-    let w = subst (λ z. OuterTold (y k (text_of L k.start k.end)) L T N D N' D' z r) e g in
+pub outer_hit : {L T N D N' D' : List ℕ} {c c₁ : Counters} {v : Option OuterPart} {r : Counters} {t : Test} {y : Token → List ℕ → Reader (Option Outer)} {n : Unit {0} → Reader (Option Outer)} {k : Token}
+    → token_at T c.at ≡ Some k → t k (text_of L k.start k.end) ≡ true → c₁ ≡ stepped c k
+    → OuterTold (y k (text_of L k.start k.end)) L T N D N' D' c₁ v r → OuterTold (bump t y n) L T N D N' D' c v r
+outer_hit {L} {T} {N} {D} {N'} {D'} {v = v} {r = r} {y = y} {k = k} h q e g =
+    let w = subst (λ z. OuterTold (y k (text_of L k.start k.end)) L T N D N' D' z v r) e g in
     record { told = hit h q refl w.told }
 
 -- from counters that count n nodes
-pub outer_from : {p : Reader (Maybe Outer)} {L T N D N' D' : List ℕ} {c : Counters} {r : OuterStep} {n : ℕ} → c.nodes ≡ n → OuterTold p L T N D N' D' c r → Told (outer_read n) (StoredPart outer_d N N' n) p L T D D' c r.outer r.counters
-outer_from {p} {L} {T} {N} {D} {N'} {D'} {c} {r} e h = subst (λ n. Told (outer_read n) (StoredPart outer_d N N' n) p L T D D' c r.outer r.counters) e h.told
+pub outer_from : {p : Reader (Option Outer)} {L T N D N' D' : List ℕ} {c : Counters} {v : Option OuterPart} {r : Counters} {n : ℕ} → c.nodes ≡ n → OuterTold p L T N D N' D' c v r → Told (option_map (outer_of n)) (StoredPart outer_d N N' n) p L T D D' c v r
+outer_from {p} {L} {T} {N} {D} {N'} {D'} {c} {v} {r} e h = subst (λ n. Told (option_map (outer_of n)) (StoredPart outer_d N N' n) p L T D D' c v r) e h.told
 
 -- an index, where there is one between the brackets and where there is none
-module _ {E : Type 0} {f : Maybe Outer → E} {Q : Maybe Outer → Counters → Type 0} (s : Setting) {L T D D' : List ℕ} {c : Counters} {v : E} {r : Counters} {i : Index} where
-  pub outer_twice : {x : IndexRegister} → i ≡ Index.Indexed x → Told f Q (stepped_over s Shapes.memory_indirect Problems.index_twice) L T D D' c v r → Told f Q (outer_index s i) L T D D' c v r
+module _ {E : Type 0} {f : Option Outer → E} {Q : Option Outer → Counters → Type 0} (s : Setting) {L T D D' : List ℕ} {c : Counters} {v : E} {r : Counters} {i : Option IndexRegister} where
+  pub outer_twice : {x : IndexRegister} → i ≡ Some x → Told f Q (stepped_over s Shapes.memory_indirect Problems.index_twice) L T D D' c v r → Told f Q (outer_index s i) L T D D' c v r
   unfolding outer_index
   outer_twice e h = subst (λ z. Told f Q (outer_index s z) L T D D' c v r) (sym e) h
 
-  pub outer_once : i ≡ Index.Unindexed → Told f Q (parse_index_register s Shapes.memory_indirect >>=? outer_indexed s) L T D D' c v r → Told f Q (outer_index s i) L T D D' c v r
+  pub outer_once : i ≡ None → Told f Q (parse_index_register s Shapes.memory_indirect >>=? outer_indexed s) L T D D' c v r → Told f Q (outer_index s i) L T D D' c v r
   unfolding outer_index
   outer_once e h = subst (λ z. Told f Q (outer_index s z) L T D D' c v r) (sym e) h
 
 -- an index stands at the cursor, or none
-abbrev maybe_index : Setting → Reader (Maybe Outer) → Reader (Maybe Outer) → Reader (Maybe Outer)
+abbrev maybe_index : Setting → Reader (Option Outer) → Reader (Option Outer) → Reader (Option Outer)
 maybe_index s p q = here λ i l. peek 0 (an_index s i) (λ t z. p) λ u. q
 
-module _ (s : Setting) (p q : Reader (Maybe Outer)) {L T N D N' D' : List ℕ} {c : Counters} {r : OuterStep} where
-  pub outer_index_here : holds (an_index s c.at) (place L T c.at) ≡ true → OuterTold p L T N D N' D' c r → OuterTold (maybe_index s p q) L T N D N' D' c r
+module _ (s : Setting) (p q : Reader (Option Outer)) {L T N D N' D' : List ℕ} {c : Counters} {v : Option OuterPart} {r : Counters} where
+  pub outer_index_here : holds (an_index s c.at) (place L T c.at) ≡ true → OuterTold p L T N D N' D' c v r → OuterTold (maybe_index s p q) L T N D N' D' c v r
   outer_index_here e h = record { told = hereby (passed (subst (λ j. holds (an_index s c.at) (place L T j) ≡ true) (omega arith) e) (λ k x. h.told)) }
 
-  pub outer_no_index : holds (an_index s c.at) (place L T c.at) ≡ false → OuterTold q L T N D N' D' c r → OuterTold (maybe_index s p q) L T N D N' D' c r
+  pub outer_no_index : holds (an_index s c.at) (place L T c.at) ≡ false → OuterTold q L T N D N' D' c v r → OuterTold (maybe_index s p q) L T N D N' D' c v r
   outer_no_index e h = record { told = hereby (unseen (subst (λ j. holds (an_index s c.at) (place L T j) ≡ false) (omega arith) e) h.told) }
 
--- the definition's, by the code's
-pub record OuterAs (n : ℕ) (m : Maybe Outer) (u : OuterPart) : Type 0 where
-  pub part : Outer
-  pub is : m ≡ some part
-  pub form : outer_of n part ≡ u
-
-pub outer_is : (n : ℕ) (m : Maybe Outer) {u : OuterPart} → outer_read n m ≡ OuterRead.Is u → OuterAs n m u
-unfolding outer_read
-outer_is n (some x) h = record { part = x; is = refl; form = cc }
-outer_is n none h = let z : ◌≡◌ {A = ℕ} 0 1 = cc in absurd (omega arith)
-
-pub outer_not : (n : ℕ) (m : Maybe Outer) → outer_read n m ≡ OuterRead.Not → m ≡ none
-unfolding outer_read
-outer_not n (some x) h = let z : ◌≡◌ {A = ℕ} 0 1 = cc in absurd (omega arith)
-outer_not n none h = refl
-
 -- behind the inner part x
-pub outer_of_lem : (s : Setting) (x : Inner) {n : InnerPart} {L T N D N' D' : List ℕ} {c : Counters} {r : OuterStep} → inner_of 0 x ≡ n
-    → OuterTold (parse_outer s n.registers.index) L T N D N' D' c r → OuterTold (parse_outer s x.registers.index) L T N D N' D' c r
+pub outer_of_lem : (s : Setting) (x : Inner) {n : InnerPart} {L T N D N' D' : List ℕ} {c : Counters} {v : Option OuterPart} {r : Counters} → inner_of 0 x ≡ n
+    → OuterTold (parse_outer s n.registers.index) L T N D N' D' c v r → OuterTold (parse_outer s x.registers.index) L T N D N' D' c v r
 unfolding inner_of
-outer_of_lem s x {n} {L} {T} {N} {D} {N'} {D'} {c} {r} e h = subst (λ (z : InnerPart). OuterTold (parse_outer s z.registers.index) L T N D N' D' c r) (sym e) h
+outer_of_lem s x {n} {L} {T} {N} {D} {N'} {D'} {c} {v} {r} e h = subst (λ (z : InnerPart). OuterTold (parse_outer s z.registers.index) L T N D N' D' c v r) (sym e) h
 
 -- ---- the operand
 
 -- the parenthesis closes at e
-pub operand_closed : (start e : ℕ) {L T N D : List ℕ} {c c₁ : Counters} {n : InnerPart} {u : OuterPart} {v : OperandRead} {r : Counters} (x : Inner) (y : Outer) → inner_of 0 x ≡ n
+pub operand_closed : (start e : ℕ) {L T N D : List ℕ} {c c₁ : Counters} {n : InnerPart} {u : OuterPart} {v : Option OperandRecord} {r : Counters} (x : Inner) (y : Outer) → inner_of 0 x ≡ n
     → outer_of (size_d x.displacement) y ≡ u → StoredBoth N x.displacement y.displacement c → c₁.nodes ≡ c.nodes
-    → v ≡ OperandRead.Is (indirect_record start e n u)
-    → r ≡ c₁ → Told operand_read (Stored N) (answer (some (O.full_index x.displacement x.registers.base y.index y.indirection y.displacement (span start e)))) L T D D c₁ v r
-unfolding operand_read record_of HeldBy nodes_o size_o inner_of outer_of
+    → v ≡ Some (indirect_record start e n u)
+    → r ≡ c₁ → Told (option_map record_of) (Stored N) (answer (Some (O.full_index x.displacement x.registers.base y.index y.indirection y.displacement (span start e)))) L T D D c₁ v r
+unfolding record_of HeldBy nodes_o size_o inner_of outer_of
 operand_closed start e {N = N} {n = n} {u = u} x y a b st h w q =
-    answered (w ∙ ap₂ (λ (i : InnerPart) (j : OuterPart). OperandRead.Is (indirect_record start e i j)) (sym a) (sym b)) q
+    answered (w ∙ ap₂ (λ (i : InnerPart) (j : OuterPart). Some (indirect_record start e i j)) (sym a) (sym b)) q
     (sym (ap (λ m. take (10 * m) N) h ∙ st.bytes), sym (h ∙ st.total))
 
 -- both displacements
@@ -248,9 +192,9 @@ stored_both {d = d} {e = e} {c = c} h g =
     record { bytes = g.bytes ∙ ap₂ (λ x y. x ++ nodes_d y e) h.bytes q; total = g.total ∙ ap (λ x. x + size_d e) q }
 
 -- behind both parts
-pub operand_behind : (x : Inner) (y : Outer) {s : Setting} {k : Token} {n : InnerPart} {u : OuterPart} {L T N N' D D' : List ℕ} {c c₁ : Counters} {r : OperandStep} → inner_of 0 x ≡ n → outer_of c.nodes y ≡ u
-    → StoredD [] N 0 x.displacement c → StoredD N N' c.nodes y.displacement c₁ → ClosedTold s k T D D' c₁ n u r
-    → Told operand_read (Stored N') (close_indirect s k x y) L T D D' c₁ r.operand r.counters
-operand_behind x y {L = L} {N' = N'} {c = c} a b st g h =
+pub operand_behind : (x : Inner) (y : Outer) {s : Setting} {k : Token} {n : InnerPart} {u : OuterPart} {L T N N' D D' : List ℕ} {c c₁ : Counters} {v : Option OperandRecord} {r : Counters} → inner_of 0 x ≡ n → outer_of c.nodes y ≡ u
+    → StoredD [] N 0 x.displacement c → StoredD N N' c.nodes y.displacement c₁ → ClosedTold s k L T D D' c₁ n u v r
+    → Told (option_map record_of) (Stored N') (close_indirect s k x y) L T D D' c₁ v r
+operand_behind x y {N' = N'} {c = c} a b st g h =
     let q : size_d x.displacement ≡ c.nodes = omega (arith, st.total) in
-    h.told L N' x y a (ap (λ m. outer_of m y) q ∙ b) (stored_both st g)
+    h.told N' x y a (ap (λ m. outer_of m y) q ∙ b) (stored_both st g)

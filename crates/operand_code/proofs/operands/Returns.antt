@@ -11,15 +11,14 @@ use lib.ListN.{length}
 use Rattle.names.specs.Choice.{pick}
 use Rattle.names.specs.Kinds
 use Rattle.names.specs.Places.{Place, text_of, place, there}
+use Rattle.names.specs.Cases.{special_number}
 use Rattle.names.specs.Registers.{register_of, special_of}
 use Rattle.names.specs.Reserved.{is_register, is_special}
 use Rattle.names.specs.Sizes.{run_of, size_of}
 use Rattle.names.specs.Tokens.{token_at}
-use Rattle.names.specs.declared.registers.Reg.{Reg}
 use Rattle.names.specs.declared.registers.SpecialRegister.{SpecialRegister}
 use Rattle.names.specs.declared.sizes.SizeSuffix.{SizeSuffix}
 use Rattle.names.specs.declared.tokens.Token.{Token}
-use Rattle.names.specs.declared.tokens.Peeked.TheVariants as peeked
 use Rattle.records.specs.Problems
 use Rattle.records.specs.Shapes
 use Rattle.records.specs.declared.spans.Span.{Span}
@@ -32,33 +31,31 @@ use Rattle.records.specs.Counters.{stepped}
 use Rattle.records.specs.Spans.{span, no_span, span_of}
 use Rattle.expressions.specs.Trees.{Expr, span_e, size}
 use Rattle.expressions.specs.declared.reading.Setting.{Setting}
-use Rattle.operand.specs.Operands.{displaced, undisplaced, some}
+use Rattle.operand.specs.Operands.{displaced, undisplaced}
 use Rattle.operand.specs.Operands as O
 use Rattle.operand.specs.Operand.{name, a_register, register_from, over, predecrement_close, parse_predecrement, register_direct, parse_register_operand, immediate_size, absolute_size, special_index}
 use Rattle.operand.specs.Records.{flag, size_d, nodes_d, size_o, nodes_o}
-use Rattle.operand.specs.Forms.{record_of, operand_read, suffix_read}
+use Rattle.operand.specs.Forms.{record_of, suffix_read}
 use Rattle.expressions.specs.Told.{Raised, Told, Same}
 use Rattle.operand_code.specs.Operands.{Kept, Stored}
 use Rattle.operand_code.specs.Lookahead.{reg_at}
-use Rattle.operand_code.specs.Absolutes.{immediate_step, absolute_step, SizeAt}
+use Rattle.operand_code.specs.Absolutes.{immediate_record, absolute_record, SizeAt}
 use Rattle.operand.specs.declared.forms.Register.{Register}
 use Rattle.operand.specs.declared.forms.Suffixed.{Suffixed}
-use Rattle.operand.specs.declared.forms.SuffixRead.{SuffixRead}
-use Rattle.operand.specs.declared.forms.SuffixStep.{SuffixStep}
-use Rattle.operand.specs.declared.forms.OperandRead.{OperandRead}
-use Rattle.operand.specs.declared.forms.OperandStep.{OperandStep}
 use Rattle.expressions.specs.Paths.{bound, chosen, unchosen, hit, raised_same}
 use Rattle.operand_code.proofs.malformed.Failures.{failed_malformed}
 use Rattle.operand_code.proofs.lookahead.Names.{reg_from}
 use Rattle.operand_code.proofs.Rooms.{suffix_is, suffix_not}
 use Rattle.operand_code.proofs.bases.Tails.{operand_told, register_at_base}
 use Rattle.operand_code.proofs.Holdings.{kept_none, unstored_told, tree_is_lem}
+use Rattle.std.specs.Prelude.{Option, Some, None, option_map}
+use Rattle.operand.specs.declared.forms.OperandRecord.{OperandRecord}
 
 -- ---- a register
 
-pub direct_told : (N : List ℕ) (q : Register) {L T D : List ℕ} {c : Counters} {r : OperandStep} → c.nodes ≡ 0 → (r.operand ≡ operand_read (some (register_direct q q.span))) × (r.counters ≡ c)
-    → Told operand_read (Stored N) (answer (some (register_direct q q.span))) L T D D c r.operand r.counters
-unfolding operand_read register_direct nodes_o size_o nodes_d size_d
+pub direct_told : (N : List ℕ) (q : Register) {L T D : List ℕ} {c : Counters} {v : Option OperandRecord} {r : Counters} → c.nodes ≡ 0 → (v ≡ option_map record_of (Some (register_direct q q.span))) × (r ≡ c)
+    → Told (option_map record_of) (Stored N) (answer (Some (register_direct q q.span))) L T D D c v r
+unfolding register_direct nodes_o size_o nodes_d size_d
 direct_told N q e h = unstored_told N e (operand_told (register_direct q q.span) undisplaced h refl refl (bare_nodes (leb 8 q.index)) (bare_size (leb 8 q.index)))
   where
     bare_nodes : (b : Bool) → nodes_o (pick b (O.address_register_direct q q.span) (O.data_register_direct q q.span)) ≡ []
@@ -71,21 +68,21 @@ direct_told N q e h = unstored_told N e (operand_told (register_direct q q.span)
 
 -- ---- a size behind a tree
 
-module _ {L T D D₁ : List ℕ} {c : Counters} (value : Span) {s : SuffixStep} (h : Told suffix_read (Same c.nodes) (take_size_suffix value.start) L T D D₁ c s.suffix s.counters) (e : Expr) (v : value ≡ span_e e) where
-  from_tree : Told suffix_read (Same c.nodes) (take_size_suffix (span_e e).start) L T D D₁ c s.suffix s.counters
-  from_tree = subst (λ (z : Span). Told suffix_read (Same c.nodes) (take_size_suffix z.start) L T D D₁ c s.suffix s.counters) v h
+module _ {L T D D₁ : List ℕ} {c : Counters} (value : Span) {m : Option Suffixed} {s : Counters} (h : Told suffix_read (Same c.nodes) (take_size_suffix value.start) L T D D₁ c m s) (e : Expr) (v : value ≡ span_e e) where
+  from_tree : Told suffix_read (Same c.nodes) (take_size_suffix (span_e e).start) L T D D₁ c m s
+  from_tree = subst (λ (z : Span). Told suffix_read (Same c.nodes) (take_size_suffix z.start) L T D D₁ c m s) v h
 
   module _ {A E : Type 0} {f : A → E} {Q : A → Counters → Type 0} {D₂ : List ℕ} {q : Suffix → Reader A} {w : E} {r : Counters} where
-    pub behind_bare : s.suffix ≡ SuffixRead.Not → Told f Q (q bare) L T D₁ D₂ s.counters w r → Told f Q (take_size_suffix (span_e e).start >>= q) L T D D₂ c w r
+    pub behind_bare : m ≡ None → Told f Q (q bare) L T D₁ D₂ s w r → Told f Q (take_size_suffix (span_e e).start >>= q) L T D D₂ c w r
     behind_bare g k = bound from_tree (suffix_not _ (sym from_tree.what ∙ g)) k
 
-    pub behind_size : {x : Suffixed} → s.suffix ≡ SuffixRead.Is x → Told f Q (q (suffixed x.size x.span)) L T D₁ D₂ s.counters w r → Told f Q (take_size_suffix (span_e e).start >>= q) L T D D₂ c w r
+    pub behind_size : {x : Suffixed} → m ≡ Some x → Told f Q (q (suffixed x.size x.span)) L T D₁ D₂ s w r → Told f Q (take_size_suffix (span_e e).start >>= q) L T D D₂ c w r
     behind_size g k = bound from_tree (suffix_is _ (sym from_tree.what ∙ g)) k
 
-known_stays : (k : Token) (z : SizeSuffix) (at : ℕ → Place) (i l : ℕ) → (run (known k z) at i l).cursor ≡ i
+known_stays : (k : Token) (z : Option SizeSuffix) (at : ℕ → Place) (i l : ℕ) → (run (known k z) at i l).cursor ≡ i
 unfolding run known
-known_stays k (SizeSuffix.Is n) at i l = refl
-known_stays k SizeSuffix.Not at i l = refl
+known_stays k (Some n) at i l = refl
+known_stays k None at i l = refl
 
 run_stays : (from : ℕ) (k : Token) (x : List ℕ) (at : ℕ → Place) (i l : ℕ) → (run (suffix_run from k x) at i l).cursor ≡ i
 unfolding run suffix_run
@@ -96,7 +93,7 @@ run_stays from k x at i l = go (leb 2 (length x))
     go false = known_stays k (size_of x) at i l
 
 -- a size that stands at the cursor is stepped over
-pub size_passed : (from : ℕ) {Q : Suffix → Counters → Type 0} {L T D D₁ : List ℕ} {c : Counters} {v : SuffixRead} {c₁ : Counters} → {k : Token} → SizeAt T c.at k → Told suffix_read Q (take_size_suffix from) L T D D₁ c v c₁ → c₁.at ≡ c.at + 1
+pub size_passed : (from : ℕ) {Q : Suffix → Counters → Type 0} {L T D D₁ : List ℕ} {c : Counters} {v : Option Suffixed} {c₁ : Counters} → {k : Token} → SizeAt T c.at k → Told suffix_read Q (take_size_suffix from) L T D D₁ c v c₁ → c₁.at ≡ c.at + 1
 unfolding run take_size_suffix
 size_passed from {L = L} {T = T} {c = c} {k = k} h t =
     let x = text_of L k.start k.end in
@@ -106,43 +103,43 @@ size_passed from {L = L} {T = T} {c = c} {k = k} h t =
 
 -- ---- an immediate or an absolute address: the tree that the last records hold
 
-module _ (e : Expr) {n : ℕ} (h : n ≡ size e) {L T D : List ℕ} {c : Counters} (k : c.nodes ≡ n) {r : OperandStep} where
-  immediate_told : (l : Bool) {s t z : ℕ} → r ≡ immediate_step c s t (flag l) → t ≡ z → Told operand_read (Kept n (displaced e 0)) (answer (some (O.immediate e l (span s z)))) L T D D c r.operand r.counters
+module _ (e : Expr) {n : ℕ} (h : n ≡ size e) {L T D : List ℕ} {c : Counters} (k : c.nodes ≡ n) where
+  immediate_told : (l : Bool) {s t z : ℕ} {u : OperandRecord} → u ≡ immediate_record c s t (flag l) → t ≡ z → Told (option_map record_of) (Kept n (displaced e 0)) (answer (Some (O.immediate e l (span s z)))) L T D D c (Some u) c
   unfolding record_of nodes_o size_o nodes_d size_d
-  immediate_told l {s} {t} {z} w u = operand_told (O.immediate e l (span s z)) (displaced e 0) (ap (λ y. y.operand) w, ap (λ y. y.counters) w) (rw (u, tree_is_lem e (k ∙ h) refl)) k refl refl
+  immediate_told l {s} {t} {z} w q = operand_told (O.immediate e l (span s z)) (displaced e 0) (refl, refl) (w ∙ rw (q, tree_is_lem e (k ∙ h) refl)) k refl refl
 
-  absolute_told : {b t z m : ℕ} → r ≡ absolute_step c b t m → t ≡ z → Told operand_read (Kept n (displaced e 0)) (answer (some (O.absolute e m (span b z)))) L T D D c r.operand r.counters
+  absolute_told : {b t z m : ℕ} {u : OperandRecord} → u ≡ absolute_record c b t m → t ≡ z → Told (option_map record_of) (Kept n (displaced e 0)) (answer (Some (O.absolute e m (span b z)))) L T D D c (Some u) c
   unfolding record_of nodes_o size_o nodes_d size_d
-  absolute_told {b} {t} {z} {m} w u = operand_told (O.absolute e m (span b z)) (displaced e 0) (ap (λ y. y.operand) w, ap (λ y. y.counters) w) (rw (u, tree_is_lem e (k ∙ h) refl)) k refl refl
+  absolute_told {b} {t} {z} {m} w q = operand_told (O.absolute e m (span b z)) (displaced e 0) (refl, refl) (w ∙ rw (q, tree_is_lem e (k ∙ h) refl)) k refl refl
 
   module _ (s : Setting) where
-    pub absolute_bare : {t : ℕ} → r ≡ absolute_step c s.start t 0 → t ≡ (span_e e).end → Told operand_read (Kept n (displaced e 0)) (absolute_size s e bare) L T D D c r.operand r.counters
+    pub absolute_bare : {t : ℕ} {u : OperandRecord} → u ≡ absolute_record c s.start t 0 → t ≡ (span_e e).end → Told (option_map record_of) (Kept n (displaced e 0)) (absolute_size s e bare) L T D D c (Some u) c
     unfolding absolute_size
-    absolute_bare w u = absolute_told w u
+    absolute_bare w q = absolute_told w q
 
-    pub absolute_sized : (x : Suffixed) → r ≡ absolute_step c s.start x.span.end x.size → Told operand_read (Kept n (displaced e 0)) (absolute_size s e (suffixed x.size x.span)) L T D D c r.operand r.counters
+    pub absolute_sized : (x : Suffixed) {u : OperandRecord} → u ≡ absolute_record c s.start x.span.end x.size → Told (option_map record_of) (Kept n (displaced e 0)) (absolute_size s e (suffixed x.size x.span)) L T D D c (Some u) c
     unfolding absolute_size
     absolute_sized x w = absolute_told w refl
 
     module _ (hash : Token) where
-      pub immediate_bare : {t : ℕ} → r ≡ immediate_step c hash.start t 0 → t ≡ (span_e e).end → Told operand_read (Kept n (displaced e 0)) (immediate_size s hash e bare) L T D D c r.operand r.counters
+      pub immediate_bare : {t : ℕ} {u : OperandRecord} → u ≡ immediate_record c hash.start t 0 → t ≡ (span_e e).end → Told (option_map record_of) (Kept n (displaced e 0)) (immediate_size s hash e bare) L T D D c (Some u) c
       unfolding immediate_size flag
-      immediate_bare w u = immediate_told false w u
+      immediate_bare w q = immediate_told false w q
 
       module _ (x : Suffixed) where
-        pub immediate_long : x.size ≡ 3 → r ≡ immediate_step c hash.start x.span.end 1 → Told operand_read (Kept n (displaced e 0)) (immediate_size s hash e (suffixed x.size x.span)) L T D D c r.operand r.counters
+        pub immediate_long : {u : OperandRecord} → x.size ≡ 3 → u ≡ immediate_record c hash.start x.span.end 1 → Told (option_map record_of) (Kept n (displaced e 0)) (immediate_size s hash e (suffixed x.size x.span)) L T D D c (Some u) c
         unfolding immediate_size flag
         immediate_long g w = chosen (eqb x.size 3) _ (eq-eqb _ 3 g) (immediate_told true w refl)
 
-        pub immediate_unknown : x.size ≡ 0 → r ≡ immediate_step c hash.start x.span.end 0 → Told operand_read (Kept n (displaced e 0)) (immediate_size s hash e (suffixed x.size x.span)) L T D D c r.operand r.counters
+        pub immediate_unknown : {u : OperandRecord} → x.size ≡ 0 → u ≡ immediate_record c hash.start x.span.end 0 → Told (option_map record_of) (Kept n (displaced e 0)) (immediate_size s hash e (suffixed x.size x.span)) L T D D c (Some u) c
         unfolding immediate_size flag
         immediate_unknown g w = unchosen (eqb x.size 3) _ (ne_eqb x.size 3 (λ u. omega (arith, g, u))) (chosen (eqb x.size 0) _ (eq-eqb _ 0 g) (immediate_told false w refl))
 
-        pub immediate_wrong : {D' : List ℕ} {m : Counters} → (x.size ≡ 3 → ⊥) → (x.size ≡ 0 → ⊥) → Raised D D' c (malformed_operand Shapes.immediate Problems.immediate_carries_no_size (span s.start c.end) no_span) m → (r.operand ≡ OperandRead.Not) × (r.counters ≡ m)
-            → Told operand_read (Kept n (displaced e 0)) (immediate_size s hash e (suffixed x.size x.span)) L T D D' c r.operand r.counters
-        unfolding immediate_size operand_read
-        immediate_wrong a b g w =
-            unchosen (eqb x.size 3) _ (ne_eqb _ 3 a) (unchosen (eqb x.size 0) _ (ne_eqb _ 0 b) (failed_malformed s Shapes.immediate Problems.immediate_carries_no_size g w.0 w.1 (kept_none (displaced e 0) (raised_same g ∙ k))))
+        pub immediate_wrong : {D' : List ℕ} {m : Counters} → (x.size ≡ 3 → ⊥) → (x.size ≡ 0 → ⊥) → Raised D D' c (malformed_operand Shapes.immediate Problems.immediate_carries_no_size (span s.start c.end) no_span) m
+            → Told (option_map record_of) (Kept n (displaced e 0)) (immediate_size s hash e (suffixed x.size x.span)) L T D D' c None m
+        unfolding immediate_size
+        immediate_wrong a b g =
+            unchosen (eqb x.size 3) _ (ne_eqb _ 3 a) (unchosen (eqb x.size 0) _ (ne_eqb _ 0 b) (failed_malformed s Shapes.immediate Problems.immediate_carries_no_size g refl refl (kept_none (displaced e 0) (raised_same g ∙ k))))
 
 -- ---- a name
 
@@ -154,33 +151,33 @@ pub unnamed_register : (t : Token) (x : List ℕ) → (t.kind ≡ Kinds.identifi
 unfolding a_register
 unnamed_register t x h = unnamed (λ y. is_register (register_of y)) t x h
 
-pub register_read : (s : Setting) (t : Token) (x : List ℕ) {n : ℕ} {w : Span} → reg_at t x ≡ Reg.Is n → w ≡ span_of t → parse_register_operand s (record { index = n; span = w }) ≡ parse_register_operand s (register_from t x)
+pub register_read : (s : Setting) (t : Token) (x : List ℕ) {n : ℕ} {w : Span} → reg_at t x ≡ Some n → w ≡ span_of t → parse_register_operand s (record { index = n; span = w }) ≡ parse_register_operand s (register_from t x)
 register_read s t x {n} e w = ap (parse_register_operand s) (register_at_base w (reg_from t x n e))
 
 module _ (t : Token) (x : List ℕ) (k : t.kind ≡ Kinds.identifier) where
-  pub special_is : {n : ℕ} → special_of x ≡ SpecialRegister.Is n → name (λ y. is_special (special_of y)) t x ≡ true
+  pub special_is : {n : SpecialRegister} → special_of x ≡ Some n → name (λ y. is_special (special_of y)) t x ≡ true
   special_is e = rw (k, e)
 
-  pub special_not : special_of x ≡ SpecialRegister.Not → name (λ y. is_special (special_of y)) t x ≡ false
+  pub special_not : special_of x ≡ None → name (λ y. is_special (special_of y)) t x ≡ false
   special_not e = rw (k, e)
 
-pub special_told : (N : List ℕ) (c : Counters) (t : Token) (x : List ℕ) {n : ℕ} {s : Span} {L T D : List ℕ} {c₁ : Counters} {r : OperandStep} → c.nodes ≡ 0 → c₁ ≡ stepped c t → special_of x ≡ SpecialRegister.Is n → s ≡ span_of t
-    → (r.operand ≡ operand_read (some (O.special_register n s))) × (r.counters ≡ c₁)
-    → Told operand_read (Stored N) (answer (some (O.special_register (special_index (special_of x)) (span_of t)))) L T D D c₁ r.operand r.counters
-unfolding special_index operand_read nodes_o size_o nodes_d size_d
-special_told N c t x z e q w a =
-    unstored_told N z (operand_told (O.special_register (special_index (special_of x)) (span_of t)) undisplaced (a.0, a.1) (rw (q, w)) (ap (λ y. y.nodes) e) refl refl)
+pub special_told : (N : List ℕ) (c : Counters) (t : Token) (x : List ℕ) {n : SpecialRegister} {m : ℕ} {s : Span} {L T D : List ℕ} {c₁ : Counters} {v : Option OperandRecord} {r : Counters} → c.nodes ≡ 0 → c₁ ≡ stepped c t → special_of x ≡ Some n → special_number (Some n) ≡ m → s ≡ span_of t
+    → (v ≡ option_map record_of (Some (O.special_register m s))) × (r ≡ c₁)
+    → Told (option_map record_of) (Stored N) (answer (Some (O.special_register (special_index (special_of x)) (span_of t)))) L T D D c₁ v r
+unfolding special_index nodes_o size_o nodes_d size_d
+special_told N c t x z e q f w a =
+    unstored_told N z (operand_told (O.special_register (special_index (special_of x)) (span_of t)) undisplaced (a.0, a.1) (rw (q, f, w)) (ap (λ y. y.nodes) e) refl refl)
 
 -- ---- a predecrement
 
-pub token_from_lem : (T : List ℕ) {i j : ℕ} {k : Token} → i ≡ j → token_at T j ≡ peeked.Is k → token_at T i ≡ peeked.Is k
+pub token_from_lem : (T : List ℕ) {i j : ℕ} {k : Token} → i ≡ j → token_at T j ≡ Some k → token_at T i ≡ Some k
 token_from_lem T e h = ap (token_at T) e ∙ h
 
 -- behind its three tokens
-pub predecrement_told : (s : Setting) {minus k t : Token} {L T D D' : List ℕ} {c c₁ c₂ c₃ : Counters} {r : OperandStep} (N : List ℕ) → c.nodes ≡ 0
-    → token_at T c.at ≡ peeked.Is minus → token_at T (c.at + 1) ≡ peeked.Is k → token_at T (c.at + 2) ≡ peeked.Is t → c₁ ≡ stepped c minus → c₂ ≡ stepped c₁ k → c₃ ≡ stepped c₂ t
-    → Told operand_read (Kept c₃.nodes undisplaced) (predecrement_close s minus k t (register_from t (text_of L t.start t.end))) L T D D' c₃ r.operand r.counters
-    → Told operand_read (Stored N) (parse_predecrement s minus k t (text_of L t.start t.end)) L T D D' c r.operand r.counters
+pub predecrement_told : (s : Setting) {minus k t : Token} {L T D D' : List ℕ} {c c₁ c₂ c₃ : Counters} {v : Option OperandRecord} {r : Counters} (N : List ℕ) → c.nodes ≡ 0
+    → token_at T c.at ≡ Some minus → token_at T (c.at + 1) ≡ Some k → token_at T (c.at + 2) ≡ Some t → c₁ ≡ stepped c minus → c₂ ≡ stepped c₁ k → c₃ ≡ stepped c₂ t
+    → Told (option_map record_of) (Kept c₃.nodes undisplaced) (predecrement_close s minus k t (register_from t (text_of L t.start t.end))) L T D D' c₃ v r
+    → Told (option_map record_of) (Stored N) (parse_predecrement s minus k t (text_of L t.start t.end)) L T D D' c v r
 unfolding parse_predecrement over
 predecrement_told s {T = T} {c₃ = c₃} N z a b d e₁ e₂ e₃ h =
     let at₁ = ap (λ y. y.at) e₁ in

@@ -9,33 +9,27 @@ use lib.Seq.{drop-length}
 use Rattle.names.specs.Tokens.{count, token_at}
 use Rattle.names.specs.Places.{place, below, there, nowhere}
 use Rattle.names.specs.declared.tokens.Token.{Token}
-use Rattle.names.specs.declared.tokens.Peeked.TheVariants as peeked
 use Rattle.records.specs.declared.counters.Counters.{Counters}
 use Rattle.records.specs.Counters.{counters_are}
-use Rattle.records.specs.Rooms.{NodeRoom}
 use Rattle.records.specs.Stores.{cleared, added}
 use Rattle.records.specs.Written.{cleared_fits}
 use Rattle.expressions.specs.Reader.{Reading, run}
-use Rattle.operand.specs.Operands.{Operand, Maybe, some, none}
+use Rattle.operand.specs.Operands.{Operand}
 use Rattle.operand.specs.Operand.{setting_from, operand_from, reading_of}
 use Rattle.operand.specs.Records.{size_m, nodes_m}
 use Rattle.operand.proofs.Readings.{nodes_few, within, started, ended}
-use Rattle.operand.specs.Forms.{operand_read}
 use Rattle.operand.specs.declared.forms.OperandRecord.{OperandRecord}
-use Rattle.operand.specs.declared.forms.OperandRead.{OperandRead}
-use Rattle.operand.specs.declared.forms.OperandStep.{OperandStep}
 use Rattle.operand_code.specs.Operands.{HeldBy, OperandTold}
 use Rattle.operand_code.specs.Reading.{OperandAsks, nodes_alone, OperandFits, NothingTold}
+use Rattle.std.specs.Prelude.{Option, Some, None}
+use Rattle.operand.specs.declared.forms.OperandStep.{OperandStep}
 
 -- the counters before the first token
 abbrev pub first : ℕ → Counters
 first start = record { at = start; end = 0; nodes = 0; diagnostics = 0 }
 
-pub first_room : {T N : List ℕ} {start limit : ℕ} → OperandAsks T N start limit → NodeRoom T N (first start) 0 0 1
-first_room h = omega (arith, h)
-
 -- a store whose first n records are b, cleared behind them
-alone : (v : Maybe Operand) (N N₁ N₂ : List ℕ) (n : ℕ) → take (10 * n) N₁ ≡ nodes_m v → n ≡ size_m v → length N₁ ≡ length N → 10 * n ≤ length N → N₂ ≡ cleared N₁ (10 * n) (length N₁) → N₂ ≡ nodes_alone v (length N)
+alone : (v : Option Operand) (N N₁ N₂ : List ℕ) (n : ℕ) → take (10 * n) N₁ ≡ nodes_m v → n ≡ size_m v → length N₁ ≡ length N → 10 * n ≤ length N → N₂ ≡ cleared N₁ (10 * n) (length N₁) → N₂ ≡ nodes_alone v (length N)
 unfolding nodes_alone
 alone v N N₁ N₂ n b e l f k =
     k
@@ -44,9 +38,13 @@ alone v N N₁ N₂ n b e l f k =
     ∙ append-nil (take (10 * n) N₁ ++ replicate (length N₁ - 10 * n) 0)
     ∙ ap₂ (λ x y. x ++ replicate y 0) b (ap₂ (λ i j. i - 10 * j) l e)
 
-module _ {L T N D N₁ D₁ : List ℕ} {start limit : ℕ} (mark : ℕ) (k : Token) (asks : OperandAsks T N start limit) (here : token_at T start ≡ peeked.Is k) {r : OperandStep}
-    (told : OperandTold (operand_from (setting_from limit mark k)) L T D N₁ D₁ (first start) r) (long : length N₁ ≡ length N) where
-  abbrev whole : Reading (Maybe Operand)
+-- a store that was lent ends as the reference to it that comes back holds it
+pub lent_back : {G : Type 0} {g k : G} {D₁ D₂ : List ℕ} → k ≡ g → (g ≡ k → D₂ ≡ D₁) → D₂ ≡ D₁
+lent_back e f = f (sym e)
+
+module _ {L T N D N₁ D₁ D₂ : List ℕ} {start limit : ℕ} (mark : ℕ) (k : Token) (asks : OperandAsks T N start limit) (here : token_at T start ≡ Some k) {v : Option OperandRecord} {r : Counters}
+    (told : OperandTold (operand_from (setting_from limit mark k)) L T D N₁ D₁ (first start) v r) (long : length N₁ ≡ length N) (back : D₂ ≡ D₁) where
+  abbrev whole : Reading (Option Operand)
   whole = run (operand_from (setting_from limit mark k)) (place L T) start 0
 
   reads : reading_of limit mark (place L T) start ≡ whole
@@ -62,61 +60,60 @@ module _ {L T N D N₁ D₁ : List ℕ} {start limit : ℕ} (mark : ℕ) (k : To
         rw reads at (within limit mark (place L T) (count T) start (λ j q x g. below L T j q x g) asks.within),
       )
 
-  module _ {x : OperandRecord} (e : r.operand ≡ OperandRead.Is x) where
+  module _ {x : OperandRecord} (e : v ≡ Some x) where
     -- the operand that is read
     record Read : Type 0 where
       read : Operand
-      value : whole.value ≡ some read
+      value : whole.value ≡ Some read
 
     is_read : Read
-    unfolding operand_read
     is_read = go whole.value refl
       where
-        go : (z : Maybe Operand) → whole.value ≡ z → Read
-        go (some y) q = record { read = y; value = q }
-        go none q = let w = ap operand_read q in let z : ◌≡◌ {A = ℕ} 0 1 = cc (told.told.what, w, e) in absurd (omega arith)
+        go : (z : Option Operand) → whole.value ≡ z → Read
+        go (Some y) q = record { read = y; value = q }
+        go None q = let z : ◌≡◌ {A = ℕ} 0 1 = cc (told.told.what, e) in absurd (omega arith)
 
     -- its nodes are the records that count
-    held : (size_m whole.value ≡ r.counters.nodes) × (nodes_m whole.value ≡ take (10 * r.counters.nodes) N₁)
+    held : (size_m whole.value ≡ r.nodes) × (nodes_m whole.value ≡ take (10 * r.nodes) N₁)
     unfolding HeldBy size_m nodes_m
     held = let h = rw is_read.value at told.told.held in (rw is_read.value h.1, rw is_read.value h.0)
 
-    pub operand_kept : {N₂ : List ℕ} → N₂ ≡ cleared N₁ (10 * r.counters.nodes) (length N₁) → OperandFits (reading_of limit mark (place L T) start) N D N₂ D₁ r
+    pub operand_kept : {N₂ : List ℕ} → N₂ ≡ cleared N₁ (10 * r.nodes) (length N₁) → OperandFits (reading_of limit mark (place L T) start) N D N₂ D₂ (record { operand = v; counters = r })
     operand_kept {N₂} c =
         rw reads
         (record {
           operand = told.told.what;
-          counters = counters_are r.counters whole.cursor whole.end (size_m whole.value) (length whole.raised) told.told.at told.told.end (sym held.0) (omega (arith, told.told.seen));
-          nodes = alone whole.value N N₁ N₂ r.counters.nodes (sym held.1) (sym held.0) long (omega (arith, fits, held.0)) c;
-          diagnostics = told.told.more;
+          counters = counters_are r whole.cursor whole.end (size_m whole.value) (length whole.raised) told.told.at told.told.end (sym held.0) (omega (arith, told.told.seen));
+          nodes = alone whole.value N N₁ N₂ r.nodes (sym held.1) (sym held.0) long (omega (arith, fits, held.0)) c;
+          diagnostics = back ∙ told.told.more;
         })
 
   -- without an operand no node is used
-  pub nothing_kept : {N₂ : List ℕ} {q : OperandStep} → r.operand ≡ OperandRead.Not → NothingTold N₁ N₂ r.counters q → OperandFits (reading_of limit mark (place L T) start) N D N₂ D₁ q
-  unfolding operand_read size_m nodes_m
+  pub nothing_kept : {N₂ : List ℕ} {q : OperandStep} → v ≡ None → NothingTold N₁ N₂ r q → OperandFits (reading_of limit mark (place L T) start) N D N₂ D₂ q
+  unfolding size_m nodes_m
   nothing_kept {N₂} {q} e c = rw reads (go whole.value refl)
     where
-      go : (z : Maybe Operand) → whole.value ≡ z → OperandFits whole N D N₂ D₁ q
-      go (some y) q = let w = ap operand_read q in let z : ◌≡◌ {A = ℕ} 0 1 = cc (told.told.what, w, e) in absurd (omega arith)
-      go none q = record {
+      go : (z : Option Operand) → whole.value ≡ z → OperandFits whole N D N₂ D₂ q
+      go (Some y) q = let z : ◌≡◌ {A = ℕ} 0 1 = cc (told.told.what, e) in absurd (omega arith)
+      go None q = record {
         operand = c.operand ∙ sym e ∙ told.told.what;
         counters = c.counters ∙ counters_are _ whole.cursor whole.end (size_m whole.value) (length whole.raised) told.told.at told.told.end (sym (ap size_m q)) (omega (arith, told.told.seen));
         nodes = alone whole.value N N₁ N₂ 0 (sym (ap nodes_m q)) (sym (ap size_m q)) long (omega arith) c.nodes;
-        diagnostics = told.told.more;
+        diagnostics = back ∙ told.told.more;
       }
 
 pub nothing_from : {N N' : List ℕ} {c c₁ : Counters} {r : OperandStep} → c₁ ≡ c → NothingTold N N' c₁ r → NothingTold N N' c r
 nothing_from {N} {N'} {r = r} e h = subst (λ z. NothingTold N N' z r) e h
 
 -- at the list's end
-pub ended_kept : (L T : List ℕ) {N D N' : List ℕ} (start limit mark : ℕ) {r : OperandStep} → token_at T start ≡ peeked.End → NothingTold N N' (first start) r
+pub ended_kept : (L T : List ℕ) {N D N' : List ℕ} (start limit mark : ℕ) {r : OperandStep} → token_at T start ≡ None → NothingTold N N' (first start) r
     → OperandFits (reading_of limit mark (place L T) start) N D N' D r
-unfolding operand_read size_m nodes_m added
+unfolding size_m nodes_m added
 ended_kept L T {N} {N' = N'} start limit mark e h =
     rw (ended limit mark (place L T) start (nowhere L T start e))
     (record {
       operand = h.operand;
       counters = h.counters;
-      nodes = alone none N N N' 0 refl refl refl (omega arith) h.nodes;
+      nodes = alone None N N N' 0 refl refl refl (omega arith) h.nodes;
       diagnostics = refl;
     })

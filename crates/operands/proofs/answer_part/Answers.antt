@@ -32,4 +32,4 @@ loop-at-preserved g c = (
 
 pub returns : goal.returns
 returns g c =
-    λ e. rest_end c.args.input.now c.loop-at.at _ _ _ _ _ _ (omega arith) c.loop-at.invariant.1
+    rest_end c.args.input.now c.loop-at.at _ _ _ _ _ _ (omega arith) c.loop-at.invariant.1

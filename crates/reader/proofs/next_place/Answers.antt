@@ -8,12 +8,12 @@ use Rattle.reader.proofs.next_place.Goals as goal
 
 pub overflow_add-result : goal.overflow_add-result
 overflow_add-result c =
-    let l = live _ _ _ (sym c.lent_token_at.ensures ∙ c.in-Is.is) in search (rules, l)
+    let l = live _ _ _ (sym c.lent_token_at.ensures ∙ c.in-Some.is) in search (rules, l)
 
-pub returns-in-Is : goal.returns-in-Is
-returns-in-Is c =
-    sym (next_there _ _ _ (sym c.lent_token_at.ensures ∙ c.in-Is.is))
+pub returns-in-Some : goal.returns-in-Some
+returns-in-Some c =
+    sym (next_there _ _ _ (sym c.lent_token_at.ensures ∙ c.in-Some.is))
 
-pub returns-in-End : goal.returns-in-End
-returns-in-End c =
-    sym (next_nowhere _ _ (sym c.lent_token_at.ensures ∙ c.in-End.is))
+pub returns-in-None : goal.returns-in-None
+returns-in-None c =
+    sym (next_nowhere _ _ (sym c.lent_token_at.ensures ∙ c.in-None.is))

@@ -1,13 +1,16 @@
 -- The tests of the refusals, each at what the code looks at: a byte of the line, the free records.
 -- Assumes nothing.
-use mathlib.Core.Path.{◌≡◌, refl, sym}
-use mathlib.Core.Bool.{Bool, true, false, ◌||◌}
+use mathlib.Core.Path.{◌≡◌, refl, sym, ◌∙◌, ap₂}
+use mathlib.Core.Bool.{Bool, true, false, not, ◌||◌}
 use mathlib.Core.List.{List}
-use Prim.Native.Nat.{ℕ, ◌+◌, ◌≤◌, ◌<◌}
-use borrow.Author.Tests.{lt-ltb, le-ltb, ltb-true, ltb-false}
-use lib.Dec.{ltb}
+use Prim.Native.Nat.{ℕ, ◌+◌, ◌*◌, ◌/◌, ◌%◌, ◌≤◌, ◌<◌}
+use native.Mathlib.Omega.{arith}
+use borrow.Author.Tests.{lt-ltb, le-ltb, ltb-true, ltb-false, eq-eqb, ne_eqb}
+use lib.Dec.{eqb, ltb}
 use lib.ListN.{length, get_or, drop, drop_of_length-le}
 use Rattle.names.specs.Choice.{either}
+use Rattle.operand.specs.declared.layouts.Layout.{Layout}
+use Rattle.operand.specs.Layouts.{token_size, most_tokens}
 use Rattle.operand.specs.Listed.{from}
 use Rattle.operand.specs.Entry.{foreign}
 
@@ -36,3 +39,35 @@ as_less m u n k f g = go (ltb m u) refl
     go : (b : Bool) → ltb m u ≡ b → b ≡ ltb n k
     go true q = sym (lt-ltb n k (f (ltb-true m u q)))
     go false q = sym (le-ltb n k (g (ltb-false m u q)))
+
+-- ---- the list
+
+-- bytes that are whole tokens have no rest, and bytes that are not have one
+rest_none : (w : Layout) (bytes : ℕ) → token_size w * (bytes / token_size w) ≡ bytes → bytes % token_size w ≡ 0
+rest_none Layout.Narrow bytes h = omega arith
+rest_none Layout.Wide bytes h = omega arith
+
+rest_some : (w : Layout) (bytes : ℕ) → (token_size w * (bytes / token_size w) ≡ bytes → ⊥) → bytes % token_size w ≡ 0 → ⊥
+rest_some Layout.Narrow bytes h e = h (omega arith)
+rest_some Layout.Wide bytes h e = h (omega arith)
+
+either_true : (a : Bool) → either a true ≡ true
+either_true true = refl
+either_true false = refl
+
+module _ (w : Layout) (bytes s n : ℕ) (size : s ≡ token_size w) (count : n ≡ bytes / token_size w) where
+  whole : s * n ≡ bytes → token_size w * (bytes / token_size w) ≡ bytes
+  whole h = ap₂ (λ a b. a * b) (sym size) (sym count) ∙ h
+
+  part : token_size w * (bytes / token_size w) ≡ bytes → s * n ≡ bytes
+  part h = ap₂ (λ a b. a * b) size count ∙ h
+
+  pub no_tokens : (s * n ≡ bytes → ⊥) → either (not (eqb (bytes % token_size w) 0)) (ltb (most_tokens w) (bytes / token_size w)) ≡ true
+  no_tokens h = rw (ne_eqb (bytes % token_size w) 0 (rest_some w bytes (λ e. h (part e))))
+
+  module _ (m : ℕ) (most : m ≡ most_tokens w) where
+    pub many_tokens : m < n → either (not (eqb (bytes % token_size w) 0)) (ltb (most_tokens w) (bytes / token_size w)) ≡ true
+    many_tokens h = rw (lt-ltb (most_tokens w) (bytes / token_size w) (omega (arith, count, most))) (either_true _)
+
+    pub good_list : s * n ≡ bytes → n ≤ m → either (not (eqb (bytes % token_size w) 0)) (ltb (most_tokens w) (bytes / token_size w)) ≡ false
+    good_list e h = rw (eq-eqb (bytes % token_size w) 0 (rest_none w bytes (whole e)), le-ltb (most_tokens w) (bytes / token_size w) (omega (arith, count, most)))

@@ -14,14 +14,15 @@ use Rattle.operand.specs.Layouts.{operand_size}
 use Rattle.operand.specs.Layout.{bytes_of, head_laid}
 use Rattle.operand.specs.Lengths.{length_bytes}
 use Rattle.operand.specs.Entry.{Input}
-use Rattle.layout.specs.Promise.{given, EntryPromise}
+use Rattle.std.specs.Prelude.{Option, Some, None, Result, Ok, Err}
+use Rattle.operand.specs.RefusalNumbers
+use Rattle.operand.specs.declared.refusals.Refusal.{Refusal}
+use Rattle.operand.specs.declared.forms.OperandRecord.{OperandRecord}
+use Rattle.layout.specs.Promise.{given_read, given, EntryPromise}
 use Rattle.layout.specs.Head.{head_size, length_head}
 use Rattle.layout.specs.declared.answer.Answer.{Answer}
-use Rattle.layout.specs.declared.answer.Found.{Found}
-use Rattle.layout.specs.declared.answer.Missed.{Missed}
 use Rattle.terminal.specs.Exported.{told, number_of, answer_laid, out_after, answered, answer_bytes, answer_bytes_lem, short_answer, exported}
 use Rattle.terminal.proofs.Stays.{written_nothing}
-use Rattle.terminal.specs.Call.{AnswerPut}
 
 -- one piece behind the other
 two : (O P Q y z : List ℕ) (k : ℕ) → P ≡ written O 0 y → Q ≡ written P k z → k ≡ 0 + length y → 0 + length y + length z ≤ length O → Q ≡ written O 0 (y ++ z)
@@ -45,27 +46,24 @@ zeros_part w k e = ap (λ n. take {A = ℕ} (n + 2) (replicate 32 0)) e ∙ go w
     go Layout.Narrow = refl
     go Layout.Wide = refl
 
-pub found_put : (w : Layout) (x : Found) (O P Q R : List ℕ) (j k : ℕ) → answer_bytes w ≤ length O → j ≡ head_size w → k ≡ operand_size w
-    → P ≡ written O 0 (head_laid w 0 x.cursor x.nodes x.diagnostics) → Q ≡ written P j (bytes_of w x.operand)
-    → R ≡ written Q (j + k) (x.operand.mask % 256 ∷ x.operand.mask / 256 % 256 ∷ []) → AnswerPut w (Answer.Operand x) O R 0
-unfolding given number_of out_after answer_laid low_first
-found_put w x O P Q R j k h e f p q r =
-    let head = length_head w 0 x.cursor x.nodes x.diagnostics in
-    let record-long = length_bytes w x.operand in
-    record { number = refl; out = three O P Q R _ _ _ j (j + k) p q r (omega (arith, head)) (omega (arith, head, record-long)) (omega (arith, head, record-long, answer_bytes_lem w)) }
+module _ (w : Layout) (x : Answer) (O P Q : List ℕ) (j : ℕ) (room : answer_bytes w ≤ length O) (is : j ≡ head_size w) where
+  pub operand_put : (o : OperandRecord) → x.operand ≡ Some o → (R : List ℕ) (k : ℕ) → k ≡ operand_size w
+      → P ≡ written O 0 (head_laid w 0 x.cursor x.nodes x.diagnostics) → Q ≡ written P j (bytes_of w o)
+      → R ≡ written Q (j + k) (o.mask % 256 ∷ o.mask / 256 % 256 ∷ []) → R ≡ out_after w (given w (Ok x)) O
+  unfolding given out_after answer_laid low_first
+  operand_put o e R k f p q r =
+      let head = length_head w 0 x.cursor x.nodes x.diagnostics in
+      let record-long = length_bytes w o in
+      rw e (three O P Q R _ _ _ j (j + k) p q r (omega (arith, head)) (omega (arith, head, record-long)) (omega (arith, head, record-long, answer_bytes_lem w)))
 
-pub missed_put : (w : Layout) (x : Missed) (O P Q Z : List ℕ) (j : ℕ) → answer_bytes w ≤ length O → j ≡ head_size w → Z ≡ replicate (operand_size w + 2) 0
-    → P ≡ written O 0 (head_laid w 1 x.cursor 0 x.diagnostics) → Q ≡ written P j Z → AnswerPut w (Answer.NoOperand x) O Q 0
-unfolding given number_of out_after answer_laid
-missed_put w x O P Q Z j h e z p q =
-    let head = length_head w 1 x.cursor 0 x.diagnostics in
-    let Y : List ℕ = replicate (operand_size w + 2) 0 in
-    let long : length Y ≡ operand_size w + 2 = length-replicate (operand_size w + 2) 0 in
-    record { number = refl; out = two O P Q _ _ j p (q ∙ ap (written P j) z) (omega (arith, head)) (omega (arith, head, long, answer_bytes_lem w)) }
-
-pub refused_put : (w : Layout) (O : List ℕ) (k : ℕ) → AnswerPut w (Answer.Refused k) O O k
-unfolding given number_of out_after answer_laid
-refused_put w O k = record { number = refl; out = sym (written_nothing O) }
+  pub none_put : x.operand ≡ None → (Z : List ℕ) → Z ≡ replicate (operand_size w + 2) 0
+      → P ≡ written O 0 (head_laid w 1 x.cursor 0 x.diagnostics) → Q ≡ written P j Z → Q ≡ out_after w (given w (Ok x)) O
+  unfolding given out_after answer_laid
+  none_put e Z z p q =
+      let head = length_head w 1 x.cursor 0 x.diagnostics in
+      let Y : List ℕ = replicate (operand_size w + 2) 0 in
+      let long : length Y ≡ operand_size w + 2 = length-replicate (operand_size w + 2) 0 in
+      rw e (two O P Q _ _ j p (q ∙ ap (written P j) z) (omega (arith, head)) (omega (arith, head, long, answer_bytes_lem w)))
 
 -- ---- the whole
 
@@ -76,9 +74,23 @@ pub short : (a : Input) (O : List ℕ) → length O < answer_bytes a.layout → 
 unfolding exported
 short a O h = rw (lt-ltb (length O) (answer_bytes a.layout) h)
 
-pub whole : (a : Input) (N D : List ℕ) (x : Answer) (O O' : List ℕ) (k : ℕ) → EntryPromise a N D x → answer_bytes a.layout ≤ length O → AnswerPut a.layout x O O' k
-    → told k N D O' ≡ exported a O
-unfolding exported answered
-whole a N D x O O' k p h q =
-    rw (le-ltb (length O) (answer_bytes a.layout) h)
-    (joined (q.number ∙ ap number_of p.answer) p.nodes p.diagnostics (q.out ∙ ap (λ r. out_after a.layout r O) p.answer))
+module _ (a : Input) (N D O : List ℕ) (room : answer_bytes a.layout ≤ length O) where
+  -- a call's number, and its answer store
+  whole : (x : Result Answer Refusal) → EntryPromise a N D x → (O' : List ℕ) (k : ℕ) → k ≡ number_of (given a.layout x) → O' ≡ out_after a.layout (given a.layout x) O
+      → told k N D O' ≡ exported a O
+  unfolding exported answered
+  whole x p O' k n out =
+      rw (le-ltb (length O) (answer_bytes a.layout) room)
+      (joined (n ∙ ap number_of p.answer) p.nodes p.diagnostics (out ∙ ap (λ r. out_after a.layout r O) p.answer))
+
+  pub answer_told : (x : Answer) → EntryPromise a N D (Ok x) → (O' : List ℕ) → O' ≡ out_after a.layout (given a.layout (Ok x)) O → told 0 N D O' ≡ exported a O
+  unfolding given number_of
+  answer_told x p O' out = whole (Ok x) p O' 0 (go x.operand) out
+    where
+      go : (o : Option OperandRecord) → 0 ≡ number_of (given_read a.layout x o)
+      go (Some o) = refl
+      go None = refl
+
+  pub refusal_told : (k : Refusal) (n : ℕ) → EntryPromise a N D (Err k) → n ≡ RefusalNumbers.number k → told n N D O ≡ exported a O
+  unfolding given number_of out_after answer_laid
+  refusal_told k n p e = whole (Err k) p O n e (sym (written_nothing O))

@@ -11,14 +11,14 @@ pub report-requires : goal.report-requires
 report-requires c =
     omega (arith, c.requires)
 
-pub returns-then-is_reserved_name : goal.returns-then-is_reserved_name
-returns-then-is_reserved_name c =
-    name_reserved _ _ _ _ [] (sym (c.is_reserved_name.ensures ∙ ap reserved c.text_of-text.ensures) ∙ c.if-is_reserved_name.true) c.span_of-span.ensures c.plain.ensures c.report.ensures
+pub returns-then-is_reserved_name-clause-told : goal.returns-then-is_reserved_name-clause-told
+returns-then-is_reserved_name-clause-told c =
+    name_reserved _ _ _ _ [] (sym (c.is_reserved_name.ensures ∙ ap reserved c.text_of.ensures) ∙ c.if-is_reserved_name.true) c.span_of-span.ensures c.plain.ensures c.report.ensures.told
 
 pub read_leaf-requires : goal.read_leaf-requires
 read_leaf-requires c =
     omega (arith, c.requires)
 
-pub returns : goal.returns
-returns c =
-    name_read _ _ _ _ [] (sym (c.is_reserved_name.ensures ∙ ap reserved c.text_of-text.ensures) ∙ c.if-is_reserved_name.false) c.span_of-span.ensures c.own.ensures c.read_leaf.ensures
+pub returns-clause-told : goal.returns-clause-told
+returns-clause-told c =
+    name_read _ _ _ _ [] (sym (c.is_reserved_name.ensures ∙ ap reserved c.text_of.ensures) ∙ c.if-is_reserved_name.false) c.span_of-span.ensures c.own.ensures c.read_leaf.ensures

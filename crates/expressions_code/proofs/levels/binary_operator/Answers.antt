@@ -3,22 +3,22 @@
 use Rattle.expressions_code.proofs.levels.Operators.{operator_none, operator_first, operator_later, operator_shift, operator_past}
 use Rattle.expressions_code.proofs.levels.binary_operator.Goals as goal
 
-pub returns-then-kind-lt-PLUS : goal.returns-then-kind-lt-PLUS
-returns-then-kind-lt-PLUS c =
-    operator_none _ c.if-kind-lt-PLUS.true
+pub returns-in-14-to-20 : goal.returns-in-14-to-20
+returns-in-14-to-20 c =
+    operator_first _ (search) (search)
 
-pub returns-then-kind-lt-PIPE : goal.returns-then-kind-lt-PIPE
-returns-then-kind-lt-PIPE c =
-    operator_first _ c.if-kind-lt-PLUS.false c.if-kind-lt-PIPE.true
+pub returns-in-21-to-22 : goal.returns-in-21-to-22
+returns-in-21-to-22 c =
+    operator_later _ (search) (search)
 
-pub returns-then-kind-lt-TILDE : goal.returns-then-kind-lt-TILDE
-returns-then-kind-lt-TILDE c =
-    operator_later _ c.if-kind-lt-PIPE.false c.if-kind-lt-TILDE.true
+pub returns-in-24 : goal.returns-in-24
+returns-in-24 c =
+    operator_shift _ c.in-24.is
 
-pub returns-then-kind-eq-SHIFT_LEFT : goal.returns-then-kind-eq-SHIFT_LEFT
-returns-then-kind-eq-SHIFT_LEFT c =
-    operator_shift _ c.if-kind-eq-SHIFT_LEFT.true
+pub returns-in_default : goal.returns-in_default
+returns-in_default c =
+    operator_none _ (search)
 
-pub returns : goal.returns
-returns c =
-    operator_past _ c.if-kind-lt-TILDE.false c.if-kind-eq-SHIFT_LEFT.false
+pub returns-in_default-2 : goal.returns-in_default-2
+returns-in_default-2 c =
+    operator_past _ (search) (search)

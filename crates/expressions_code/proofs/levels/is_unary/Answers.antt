@@ -1,15 +1,15 @@
 -- `expressions_code::levels::is_unary` meets its contract.
 -- Assumes nothing.
-use borrow.Author.Tests.{eq-eqb, ne_eqb}
+use borrow.Author.Tests.{ne_eqb}
 use Rattle.expressions.specs.Expressions.{is_unary}
 use Rattle.expressions_code.proofs.levels.is_unary.Goals as goal
 
 pub returns-then-token-eq-MINUS : goal.returns-then-token-eq-MINUS
 unfolding is_unary
 returns-then-token-eq-MINUS c =
-    λ x. simp (eq-eqb _ 15 c.if-token-eq-MINUS.true)
+    λ x. rw c.if-token-eq-MINUS.true
 
-pub returns : goal.returns
+pub returns-else-token-eq-MINUS : goal.returns-else-token-eq-MINUS
 unfolding is_unary
-returns c =
+returns-else-token-eq-MINUS c =
     λ x. simp (ne_eqb _ 15 c.if-token-eq-MINUS.false)

@@ -1,33 +1,32 @@
 -- `expressions_code::levels::precedence` meets its contract.
 -- Assumes nothing.
-use native.Mathlib.Omega.{arith}
 use Rattle.expressions_code.proofs.levels.Operators.{level_none, level_sum, level_product, level_bits, level_tilde, level_shift, level_past}
 use Rattle.expressions_code.proofs.levels.precedence.Goals as goal
 
-pub returns-then-kind-lt-PLUS : goal.returns-then-kind-lt-PLUS
-returns-then-kind-lt-PLUS c =
-    level_none _ c.if-kind-lt-PLUS.true
+pub returns-in-14-to-15 : goal.returns-in-14-to-15
+returns-in-14-to-15 c =
+    level_sum _ (search) (search)
 
-pub returns-then-kind-lt-STAR : goal.returns-then-kind-lt-STAR
-returns-then-kind-lt-STAR c =
-    level_sum _ c.if-kind-lt-PLUS.false c.if-kind-lt-STAR.true
+pub returns-in-16-to-18 : goal.returns-in-16-to-18
+returns-in-16-to-18 c =
+    level_product _ (search) (search)
 
-pub returns-then-kind-lt-AMPERSAND : goal.returns-then-kind-lt-AMPERSAND
-returns-then-kind-lt-AMPERSAND c =
-    level_product _ c.if-kind-lt-STAR.false c.if-kind-lt-AMPERSAND.true
+pub returns-in-19-to-22 : goal.returns-in-19-to-22
+returns-in-19-to-22 c =
+    level_bits _ (search) (search)
 
-pub returns-then-kind-lt-TILDE : goal.returns-then-kind-lt-TILDE
-returns-then-kind-lt-TILDE c =
-    level_bits _ c.if-kind-lt-AMPERSAND.false c.if-kind-lt-TILDE.true
+pub returns-in-24-to-25 : goal.returns-in-24-to-25
+returns-in-24-to-25 c =
+    level_shift _ (search) (search)
 
-pub returns-then-kind-eq-TILDE : goal.returns-then-kind-eq-TILDE
-returns-then-kind-eq-TILDE c =
-    level_tilde _ c.if-kind-eq-TILDE.true
+pub returns-in_default : goal.returns-in_default
+returns-in_default c =
+    level_none _ (search)
 
-pub returns-then-kind-le-SHIFT_RIGHT : goal.returns-then-kind-le-SHIFT_RIGHT
-returns-then-kind-le-SHIFT_RIGHT c =
-    level_shift _ (omega (arith, c.if-kind-lt-TILDE.false, c.if-kind-eq-TILDE.false)) (omega (arith, c.if-kind-le-SHIFT_RIGHT.true))
+pub returns-in_default-2 : goal.returns-in_default-2
+returns-in_default-2 c =
+    level_tilde _ (search) (search)
 
-pub returns : goal.returns
-returns c =
-    level_past _ (omega (arith, c.if-kind-le-SHIFT_RIGHT.false))
+pub returns-in_default-3 : goal.returns-in_default-3
+returns-in_default-3 c =
+    level_past _ (search)

@@ -3,11 +3,10 @@
 use mathlib.Core.Path.{sym, ◌∙◌}
 use Rattle.expressions_code.proofs.leaves.Returns.{deep_token, deep_past}
 use Rattle.expressions_code.proofs.reports.too_deep.Goals as goal
+use Rattle.expressions_code.proofs.reports.too_deep.Goals.{in-Some, in-None}
 
-pub returns-in-Is : goal.returns-in-Is
-returns-in-Is c =
-    deep_token (sym c.token_at-p.ensures ∙ c.in-Is.is) c.span_of.ensures c.plain.ensures c.report.ensures
-
-pub returns-in-End : goal.returns-in-End
-returns-in-End c =
-    deep_past (sym c.token_at-p.ensures ∙ c.in-End.is) c.plain-in-End.ensures c.report-in-End.ensures
+pub returns-clause-told : goal.returns-clause-told
+returns-clause-told c = elim c.match-peek.branch [
+  | in-Some w ↦ deep_token (sym c.peek.ensures ∙ w.in-Some.is) (w.span-is ∙ w.span_of-span.ensures) c.plain.ensures c.report.ensures.told
+  | in-None w ↦ deep_past (sym c.peek.ensures ∙ w.in-None.is) (rw w.span-is at c.plain.ensures) c.report.ensures.told
+]

@@ -1,26 +1,28 @@
 -- `frames::batches::batch_in` meets its contract. The loop's invariant: the rest of the input takes this state where the whole takes the first one.
 -- Assumes nothing.
-use mathlib.Core.Path.{refl}
+use mathlib.Core.Path.{◌≡◌}
+use Prim.Native.Nat.{◌+◌}
 use native.Mathlib.Omega.{arith}
-use Rattle.frames.proofs.batches.Turns.{batch_end, batch_full, batch_on}
+use lib.ListN.{length, drop}
+use Rattle.frames.specs.Machine.{steps, fresh}
+use Rattle.frames.specs.Inner.{state}
+use Rattle.frames.proofs.batches.Turns.{turn_fed, turn_kept, batch_end, batch_full, batch_on}
 use Rattle.frames.proofs.batches.batch_in.Goals as goal
-
-pub loop-i-init : goal.loop-i-init
-loop-i-init c =
-    (omega arith, c.requires, refl)
+use Rattle.frames.proofs.batches.batch_in.Goals.{then-b-eq10, else-b-eq10}
 
 pub returns-then-w-gt-ROOMY : goal.returns-then-w-gt-ROOMY
 returns-then-w-gt-ROOMY c =
-    batch_full c.args.input.now _ _ _ c.loop-i.i c.loop-i.h c.loop-i.w _ _ c.loop-i.invariant.2 (omega arith) (omega (arith, c.if-w-gt-ROOMY.true))
-
-pub turn-t-requires : goal.turn-t-requires
-turn-t-requires c =
-    record { stores = c.loop-i.invariant.1; room = omega (arith, c.if-w-gt-ROOMY.false) }
+    batch_full c.args.input.now _ _ _ c.loop-i.i c.loop-i.h c.loop-i.w _ _ c.loop-i.invariant (omega arith) (omega (arith, c.if-w-gt-ROOMY.true))
 
 pub loop-i-preserved : goal.loop-i-preserved
 loop-i-preserved c =
-    (omega arith, record { carry_long = omega (arith, c.loop-i.invariant.1, c.turn-t.auto); frame_long = omega (arith, c.loop-i.invariant.1, c.turn-t.auto); nodes_long = omega (arith, c.loop-i.invariant.1, c.turn-t.auto); diagnostics_long = omega (arith, c.loop-i.invariant.1, c.turn-t.auto); out_long = omega (arith, c.loop-i.invariant.1, c.turn-t.auto) }, batch_on c.args.input.now _ _ _ c.loop-i.i c.loop-i.h c.loop-i.w _ _ c.loop-i.invariant.2 (omega arith) _ _ _ (omega (arith, c.if-w-gt-ROOMY.false)) c.turn-t.ensures)
+    let x = c.if-b-eq10 in
+    elim x.branch as (λ _. steps (drop (c.loop-i.i + 1) c.args.input.now) (state (c.loop-i.i + 1) x.h x.w x.carry x.out) ≡ steps c.args.input.now (fresh c.args.held c.args.carry.now c.args.out.now)) [
+      | then-b-eq10 y ↦ rw (y.h-is, y.w-is, y.carry-is, y.out-is) (batch_on c.args.input.now _ _ _ c.loop-i.i c.loop-i.h c.loop-i.w _ _ c.loop-i.invariant (omega arith) _ _ _ _ (omega (arith, c.if-w-gt-ROOMY.false)) (turn_fed _ _ _ _ _ _ _ y.if-b-eq10.true y.answer-w.ensures))
+      | else-b-eq10 y ↦ rw (y.h-is, y.w-is, y.carry-is, y.out-is) (batch_on c.args.input.now _ _ _ c.loop-i.i c.loop-i.h c.loop-i.w _ _ c.loop-i.invariant (omega arith) _ _ _ _ (omega (arith, c.if-w-gt-ROOMY.false)) (turn_kept _ _ _ _ _ _ _ y.if-b-eq10.false y.hold-h.ensures))
+    ]
 
 pub returns : goal.returns
 returns c =
-    batch_end c.args.input.now _ _ _ c.loop-i.i c.loop-i.h c.loop-i.w _ _ c.loop-i.invariant.2 (omega arith)
+    let end : c.loop-i.i ≡ length c.args.input.now = omega arith in
+    rw end at (batch_end c.args.input.now _ _ _ c.loop-i.i c.loop-i.h c.loop-i.w _ _ c.loop-i.invariant (omega arith))

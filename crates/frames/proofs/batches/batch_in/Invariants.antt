@@ -1,14 +1,9 @@
 -- `frames::batches::batch_in` meets its contract. The loop's invariant: the rest of the input takes this state where the whole takes the first one.
 -- Assumes nothing.
-use mathlib.Core.Path.{◌≡◌}
-use Prim.Native.Nat.{◌≤◌, ◌-◌}
-use lib.ListN.{length, drop}
+use Rattle.std.proofs.Common.{◌≡◌, drop}
 use Rattle.frames.specs.Machine.{steps, fresh}
-use Rattle.frames.specs.Inner.{BatchAsks, state}
+use Rattle.frames.specs.Inner.{state}
 use Rattle.frames.proofs.batches.batch_in.Given as goal
 
 abbrev pub invariant-loop-i : goal.invariant-loop-i
-invariant-loop-i l = (l.i ≤ length l.input) × BatchAsks l.carry l.frame l.nodes l.diagnostics l.out × (steps (drop l.i l.input) (state l.i l.h l.w l.carry l.out) ≡ steps l.input (fresh l.held l.initial.carry l.initial.out))
-
-abbrev pub decreases-loop-i : goal.decreases-loop-i
-decreases-loop-i l = length l.input - l.i
+invariant-loop-i l = steps (drop l.i l.input) (state l.i l.h l.w l.carry l.out) ≡ steps l.input (fresh l.held l.initial.carry l.initial.out)

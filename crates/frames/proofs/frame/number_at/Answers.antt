@@ -23,9 +23,9 @@ bounds-bytes-at-in-Wide-2 c =
 pub returns-in-Narrow : goal.returns-in-Narrow
 unfolding number_at
 returns-in-Narrow c =
-    rw c.in-Narrow.is c.single.ensures
+    rw c.in-Narrow.is (c.from.ensures, omega (arith, c.type_inv.bytes c.args.at))
 
 pub returns-in-Wide : goal.returns-in-Wide
 unfolding number_at
 returns-in-Wide c =
-    rw c.in-Wide.is c.joined.ensures
+    rw c.in-Wide.is (omega arith, omega arith)

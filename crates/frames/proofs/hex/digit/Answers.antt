@@ -10,7 +10,7 @@ unfolding digit
 returns-then-n-lt10 c =
     rw (lt-ltb c.args.n 10 (omega (arith, c.if-n-lt10.true)))
 
-pub returns : goal.returns
+pub returns-else-n-lt10 : goal.returns-else-n-lt10
 unfolding digit
-returns c =
+returns-else-n-lt10 c =
     rw (le-ltb c.args.n 10 (omega (arith, c.if-n-lt10.false)))

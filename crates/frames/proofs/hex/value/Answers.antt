@@ -1,25 +1,25 @@
 -- `frames::hex::value` meets its contract.
 -- Assumes nothing.
 use native.Mathlib.Omega.{arith}
-use Rattle.frames.proofs.hex.Digits.{value_low, value_figure, value_between, value_letter, value_high}
+use Rattle.frames.proofs.hex.Digits.{value_figure, value_letter, value_none, digit_some, digit_none}
 use Rattle.frames.proofs.hex.value.Goals as goal
 
-pub returns-then-c-lt48 : goal.returns-then-c-lt48
-returns-then-c-lt48 c =
-    value_low _ (omega (arith, c.if-c-lt48.true))
+pub returns-in-48-to-57 : goal.returns-in-48-to-57
+returns-in-48-to-57 c =
+    digit_some _ _ (value_figure _ (omega arith) (omega arith)) (omega arith)
 
-pub returns-then-c-lt58 : goal.returns-then-c-lt58
-returns-then-c-lt58 c =
-    value_figure _ (omega (arith, c.if-c-lt48.false)) (omega (arith, c.if-c-lt58.true))
+pub returns-in-97-to-102 : goal.returns-in-97-to-102
+returns-in-97-to-102 c =
+    digit_some _ _ (omega (arith, value_letter c.args.c (omega arith) (omega arith))) (omega arith)
 
-pub returns-then-c-lt97 : goal.returns-then-c-lt97
-returns-then-c-lt97 c =
-    value_between _ (omega (arith, c.if-c-lt58.false)) (omega (arith, c.if-c-lt97.true))
+pub returns-in_default : goal.returns-in_default
+returns-in_default c =
+    digit_none _ (value_none _ (λ h k. omega arith) (λ h k. omega arith))
 
-pub returns-then-c-lt103 : goal.returns-then-c-lt103
-returns-then-c-lt103 c =
-    value_letter _ (omega (arith, c.if-c-lt97.false)) (omega (arith, c.if-c-lt103.true))
+pub returns-in_default-2 : goal.returns-in_default-2
+returns-in_default-2 c =
+    digit_none _ (value_none _ (λ h k. omega arith) (λ h k. omega arith))
 
-pub returns : goal.returns
-returns c =
-    value_high _ (omega (arith, c.if-c-lt103.false))
+pub returns-in_default-3 : goal.returns-in_default-3
+returns-in_default-3 c =
+    digit_none _ (value_none _ (λ h k. omega arith) (λ h k. omega arith))

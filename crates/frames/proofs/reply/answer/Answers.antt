@@ -34,22 +34,6 @@ pub answer_digits-requires : goal.answer_digits-requires
 answer_digits-requires c =
     narrow_asks c.layout_of-layout.result c.args.carry.now c.args.frame.now c.args.nodes.now c.args.diagnostics.now c.args.out.now c.args.held c.args.at c.in-Narrow.is c.requires (omega (arith, c.if-held-gt-LONGEST_NARROW.false))
 
-pub slice_bounds-answer_long-count : goal.slice_bounds-answer_long-count
-slice_bounds-answer_long-count c =
-    omega (arith, wide_some c.args.held c.args.carry.now c.layout_of-layout.result c.layout_of-layout.ensures c.in-Wide.is, c.requires, c.if-held-gt-LONGEST.false)
-
-pub slice_bounds-answer_long-start : goal.slice_bounds-answer_long-start
-slice_bounds-answer_long-start c =
-    omega (arith, wide_some c.args.held c.args.carry.now c.layout_of-layout.result c.layout_of-layout.ensures c.in-Wide.is, c.requires, c.if-held-gt-LONGEST.false)
-
-pub slice_bounds-answer_long-end : goal.slice_bounds-answer_long-end
-slice_bounds-answer_long-end c =
-    omega (arith, wide_some c.args.held c.args.carry.now c.layout_of-layout.result c.layout_of-layout.ensures c.in-Wide.is, c.requires, c.if-held-gt-LONGEST.false)
-
-pub returns-then-held-gt-LONGEST_LAWFUL : goal.returns-then-held-gt-LONGEST_LAWFUL
-returns-then-held-gt-LONGEST_LAWFUL c =
-    put_as _ _ (held_wide c.args.held c.args.carry.now (omega (arith, c.if-held-gt-LONGEST.false)) c.layout_of-layout.result c.layout_of-layout.ensures c.in-Wide.is _ (behind_first c.args.held c.args.carry.now (wide_some c.args.held c.args.carry.now c.layout_of-layout.result c.layout_of-layout.ensures c.in-Wide.is))) c.answer_long.ensures
-
 pub slice_bounds-answer_wide-count : goal.slice_bounds-answer_wide-count
 slice_bounds-answer_wide-count c =
     omega (arith, wide_some c.args.held c.args.carry.now c.layout_of-layout.result c.layout_of-layout.ensures c.in-Wide.is, c.requires, c.if-held-gt-LONGEST.false)
@@ -62,10 +46,26 @@ pub slice_bounds-answer_wide-end : goal.slice_bounds-answer_wide-end
 slice_bounds-answer_wide-end c =
     omega (arith, wide_some c.args.held c.args.carry.now c.layout_of-layout.result c.layout_of-layout.ensures c.in-Wide.is, c.requires, c.if-held-gt-LONGEST.false)
 
+pub returns-then-held-gt-LONGEST_LAWFUL : goal.returns-then-held-gt-LONGEST_LAWFUL
+returns-then-held-gt-LONGEST_LAWFUL c =
+    put_as _ _ (held_wide c.args.held c.args.carry.now (omega (arith, c.if-held-gt-LONGEST.false)) c.layout_of-layout.result c.layout_of-layout.ensures c.in-Wide.is _ (behind_first c.args.held c.args.carry.now (wide_some c.args.held c.args.carry.now c.layout_of-layout.result c.layout_of-layout.ensures c.in-Wide.is))) c.answer_wide.ensures
+
+pub slice_bounds-answer_wide-count-in-Wide : goal.slice_bounds-answer_wide-count-in-Wide
+slice_bounds-answer_wide-count-in-Wide c =
+    omega (arith, wide_some c.args.held c.args.carry.now c.layout_of-layout.result c.layout_of-layout.ensures c.in-Wide.is, c.requires, c.if-held-gt-LONGEST.false)
+
+pub slice_bounds-answer_wide-start-in-Wide : goal.slice_bounds-answer_wide-start-in-Wide
+slice_bounds-answer_wide-start-in-Wide c =
+    omega (arith, wide_some c.args.held c.args.carry.now c.layout_of-layout.result c.layout_of-layout.ensures c.in-Wide.is, c.requires, c.if-held-gt-LONGEST.false)
+
+pub slice_bounds-answer_wide-end-in-Wide : goal.slice_bounds-answer_wide-end-in-Wide
+slice_bounds-answer_wide-end-in-Wide c =
+    omega (arith, wide_some c.args.held c.args.carry.now c.layout_of-layout.result c.layout_of-layout.ensures c.in-Wide.is, c.requires, c.if-held-gt-LONGEST.false)
+
 pub returns-else-held-gt-LONGEST_NARROW : goal.returns-else-held-gt-LONGEST_NARROW
 returns-else-held-gt-LONGEST_NARROW c =
     put_as _ _ (held_narrow c.args.held c.args.carry.now (omega (arith, c.if-held-gt-LONGEST.false)) c.layout_of-layout.result c.layout_of-layout.ensures c.in-Narrow.is) c.answer_digits.ensures
 
 pub returns-else-held-gt-LONGEST_LAWFUL : goal.returns-else-held-gt-LONGEST_LAWFUL
 returns-else-held-gt-LONGEST_LAWFUL c =
-    put_as _ _ (held_wide c.args.held c.args.carry.now (omega (arith, c.if-held-gt-LONGEST.false)) c.layout_of-layout.result c.layout_of-layout.ensures c.in-Wide.is _ (behind_first c.args.held c.args.carry.now (wide_some c.args.held c.args.carry.now c.layout_of-layout.result c.layout_of-layout.ensures c.in-Wide.is))) c.answer_wide.ensures
+    put_as _ _ (held_wide c.args.held c.args.carry.now (omega (arith, c.if-held-gt-LONGEST.false)) c.layout_of-layout.result c.layout_of-layout.ensures c.in-Wide.is _ (behind_first c.args.held c.args.carry.now (wide_some c.args.held c.args.carry.now c.layout_of-layout.result c.layout_of-layout.ensures c.in-Wide.is))) c.answer_wide-in-Wide.ensures

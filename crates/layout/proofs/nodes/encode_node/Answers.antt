@@ -9,16 +9,16 @@ use Rattle.layout.proofs.nodes.encode_node.Goals as goal
 
 pub write_parts-requires : goal.write_parts-requires
 write_parts-requires c =
-    omega (arith, rw c.in-Narrow.is at c.requires.1, ap length c.last_eight-rest.ensures ∙ length_last _ _ _ _ _ _)
+    omega (arith, rw c.in-Narrow.is at c.requires, ap length c.last_eight-rest.ensures ∙ length_last _ _ _ _ _ _)
 
 pub write_parts-requires-in-Wide : goal.write_parts-requires-in-Wide
 write_parts-requires-in-Wide c =
-    omega (arith, rw c.in-Wide.is at c.requires.1, ap length c.last_eight-rest.ensures ∙ length_last _ _ _ _ _ _)
+    omega (arith, rw c.in-Wide.is at c.requires, ap length c.last_eight-rest.ensures ∙ length_last _ _ _ _ _ _)
 
 pub returns-in-Narrow : goal.returns-in-Narrow
 returns-in-Narrow c =
-    node_written c.args.layout _ c.args.numbers.now c.args.from c.args.at _ _ _ _ c.in-Narrow.is c.write_parts.ensures c.narrow_head-head.ensures c.last_eight-rest.ensures
+    node_written c.args.layout _ c.args.numbers.now 0 c.args.at _ _ _ _ c.in-Narrow.is c.write_parts.ensures c.narrow_head.ensures c.last_eight-rest.ensures
 
 pub returns-in-Wide : goal.returns-in-Wide
 returns-in-Wide c =
-    node_written c.args.layout _ c.args.numbers.now c.args.from c.args.at _ _ _ _ c.in-Wide.is c.write_parts-in-Wide.ensures c.wide_head-head.ensures c.last_eight-rest.ensures
+    node_written c.args.layout _ c.args.numbers.now 0 c.args.at _ _ _ _ c.in-Wide.is c.write_parts-in-Wide.ensures c.wide_head.ensures c.last_eight-rest.ensures

@@ -4,12 +4,12 @@ use Rattle.operand.specs.Records.{flag}
 use Rattle.operand.specs.Layout.{index_part}
 use Rattle.layout.proofs.record.index_part.Goals as goal
 
-pub returns-in-Indexed : goal.returns-in-Indexed
+pub returns-in-Some : goal.returns-in-Some
 unfolding flag index_part
-returns-in-Indexed c =
-    λ w. rw c.in-Indexed.is
+returns-in-Some c =
+    λ w. rw c.in-Some.is
 
-pub returns-in-Unindexed : goal.returns-in-Unindexed
+pub returns-in-None : goal.returns-in-None
 unfolding flag index_part
-returns-in-Unindexed c =
-    λ w. rw (c.spanless.ensures, c.in-Unindexed.is)
+returns-in-None c =
+    λ w. rw (c.spanless.ensures, c.in-None.is)

@@ -5,4 +5,4 @@ use Rattle.layout.proofs.record.narrow_bytes.Goals as goal
 
 pub returns : goal.returns
 returns c =
-    narrow_record _ _ c.requires
+    let e = narrow_record _ _ c.requires in cc

@@ -3,12 +3,12 @@
 use Rattle.operand.specs.Layout.{sized_part}
 use Rattle.layout.proofs.record.sized_part.Goals as goal
 
-pub returns-in-Is : goal.returns-in-Is
+pub returns-in-Some : goal.returns-in-Some
 unfolding sized_part
-returns-in-Is c =
-    λ w. rw c.in-Is.is
+returns-in-Some c =
+    λ w. rw c.in-Some.is
 
-pub returns-in-Not : goal.returns-in-Not
+pub returns-in-None : goal.returns-in-None
 unfolding sized_part
-returns-in-Not c =
-    λ w. rw c.in-Not.is
+returns-in-None c =
+    λ w. rw c.in-None.is

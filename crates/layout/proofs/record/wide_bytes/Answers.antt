@@ -5,4 +5,4 @@ use Rattle.layout.proofs.record.wide_bytes.Goals as goal
 
 pub returns : goal.returns
 returns c =
-    wide_record _ _ c.requires
+    rw (c.span_bytes-span.ensures, c.to_le_bytes-displacement.ensures, c.span_bytes-base.ensures, c.span_bytes-register.ensures, c.span_bytes-index.ensures, c.to_le_bytes-outer.ensures) (wide_record _ _ c.requires)

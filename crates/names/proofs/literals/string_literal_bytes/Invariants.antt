@@ -1,11 +1,12 @@
--- `names::literals::string_literal_bytes` meets its contract. The loop's invariant: the first n bytes are stored, and the others are the literal from i on.
+-- `names::literals::string_literal_bytes` meets its contract. The loop's invariant: the bytes stored and those to come are all that the literal has.
 -- Assumes nothing.
-use Prim.Native.Nat.{◌-◌}
+use Rattle.std.proofs.Common.{length}
+use Rattle.names.specs.Literals.{quoted, literal_bytes}
 use Rattle.names.proofs.literals.Quotes.{Storing}
 use Rattle.names.proofs.literals.string_literal_bytes.Given as goal
 
-abbrev pub invariant-loop-n : goal.invariant-loop-n
-invariant-loop-n l = Storing l.text l.initial.out l.total l.quote l.n l.i l.out
+abbrev pub invariant-loop-byte : goal.invariant-loop-byte
+invariant-loop-byte l = Storing (literal_bytes l.text) l.initial.out l.n (quoted l.quote l.rest) l.out
 
-abbrev pub decreases-loop-n : goal.decreases-loop-n
-decreases-loop-n l = l.total - l.n
+abbrev pub decreases-loop-byte : goal.decreases-loop-byte
+decreases-loop-byte l = length l.rest

@@ -1,36 +1,42 @@
 -- `names::numbers::parse_digits` meets its contract. The loop's invariant: the rest of the digits, read on from the value, give what all of them give.
 -- Assumes nothing.
-use mathlib.Core.Path.{refl, sym, ◌∙◌, ap}
-use Prim.Native.Nat.{◌+◌, ◌*◌, ◌^◌, min}
-use native.Mathlib.Omega.{arith}
+use Rattle.std.proofs.Common.{refl, sym, ◌∙◌, ap, true-eqb, false-eqb, arith}
+use Rattle.std.proofs.lemmas.Result.{err_from_is_err_and}
 use Rattle.names.specs.Numbers.{scan}
-use Rattle.names.proofs.numbers.Figures.{radix_small, scan_on, scan_stop, scan_value, scan_large, digits_none, digits_some}
+use Rattle.names.proofs.numbers.Figures.{radix_most, cap_sum, scan_on, scan_stop, scan_value, scan_large, digits_none, digits_some, read_digit, no_digit}
 use Rattle.names.proofs.numbers.parse_digits.Goals as goal
 
-pub returns-then-digits-eq0 : goal.returns-then-digits-eq0
-returns-then-digits-eq0 c =
-    sym (digits_none _ _ c.if-digits-eq0.true)
+pub returns-then-is_empty : goal.returns-then-is_empty
+returns-then-is_empty c =
+    sym (digits_none _ _ (true-eqb _ _ c.if-is_empty.ensures))
 
-pub loop-i-init : goal.loop-i-init
-loop-i-init c =
-    (omega arith, omega arith, omega (arith, c.radix-radix.ensures, radix_small c.args.base), refl)
+pub loop-byte-init : goal.loop-byte-init
+loop-byte-init c =
+    refl
 
-pub returns-then-radix-digit : goal.returns-then-radix-digit
-returns-then-radix-digit c =
-    sym (scan_stop c.radix-radix.result c.loop-i.value c.args.digits.now c.loop-i.i (omega arith) (omega (arith, c.figure.ensures, c.wide-digit.ensures, c.if-radix-digit.true))) ∙ c.loop-i.invariant.3 ∙ ap (λ r. scan r 0 c.args.digits.now) c.radix-radix.ensures ∙ sym (digits_some _ _ c.if-digits-eq0.false)
+pub to_digit-requires-clause-lower_bound : goal.to_digit-requires-clause-lower_bound
+to_digit-requires-clause-lower_bound c =
+    omega (arith, c.radix-radix.ensures, radix_most c.args.base)
 
-pub with_digit-value-requires : goal.with_digit-value-requires
-with_digit-value-requires c =
-    record { capped = c.loop-i.invariant.1; small = c.loop-i.invariant.2; less = c.if-radix-digit.false }
+pub to_digit-requires-clause-upper_bound : goal.to_digit-requires-clause-upper_bound
+to_digit-requires-clause-upper_bound c =
+    omega (arith, c.radix-radix.ensures, radix_most c.args.base)
 
-pub loop-i-preserved : goal.loop-i-preserved
-loop-i-preserved c =
-    (omega arith, omega (arith, c.with_digit-value.ensures), c.loop-i.invariant.2, sym (scan_on c.radix-radix.result c.loop-i.value c.args.digits.now c.loop-i.i (omega arith) c.with_digit-value.result (omega (arith, c.wide-digit.ensures ∙ c.figure.ensures, c.if-radix-digit.false)) (c.with_digit-value.ensures ∙ ap (λ d. min (c.loop-i.value * c.radix-radix.result + d) (2 ^ 63)) (c.wide-digit.ensures ∙ c.figure.ensures))) ∙ c.loop-i.invariant.3)
+pub returns-in_err-digit : goal.returns-in_err-digit
+returns-in_err-digit c =
+    let p = err_from_is_err_and c.from_residual.result c.from_residual.ensures.1 in
+    let n = no_digit _ c.radix-radix.result _ _ c.from.ensures c.to_digit.ensures.value (sym c.ok_or.ensures.value ∙ c.in_err-digit.was) in
+    p.1 ∙ rw (p.2, n.1) (sym (scan_stop c.radix-radix.result c.loop-byte.value c.args.digits.now c.loop-byte.byte-index c.loop-byte-test.true n.0) ∙ c.loop-byte.invariant ∙ ap (λ r. scan r 0 c.args.digits.now) c.radix-radix.ensures ∙ sym (digits_some _ _ (false-eqb _ _ c.if-is_empty.ensures)))
 
-pub returns-then-value-lt9223372036854775808 : goal.returns-then-value-lt9223372036854775808
-returns-then-value-lt9223372036854775808 c =
-    sym (scan_value c.radix-radix.result c.loop-i.value c.args.digits.now c.loop-i.i (omega arith) c.if-value-lt9223372036854775808.true) ∙ c.loop-i.invariant.3 ∙ ap (λ r. scan r 0 c.args.digits.now) c.radix-radix.ensures ∙ sym (digits_some _ _ c.if-digits-eq0.false)
+pub loop-byte-preserved : goal.loop-byte-preserved
+loop-byte-preserved c =
+    let d = read_digit _ c.radix-radix.result _ _ c.from.ensures c.to_digit.ensures.value (sym c.ok_or.ensures.value ∙ c.in_ok-digit.was) in
+    sym (scan_on c.radix-radix.result c.loop-byte.value c.args.digits.now c.loop-byte.byte-index c.loop-byte-test.true c.saturating_add-value.result d.0 (rw (c.saturating_add-value.ensures, c.saturating_mul.ensures, c.from-in-loop-byte.ensures, c.from-in-loop-byte-2.ensures, d.1) (cap_sum _ _))) ∙ c.loop-byte.invariant
 
-pub returns-else-value-lt9223372036854775808 : goal.returns-else-value-lt9223372036854775808
-returns-else-value-lt9223372036854775808 c =
-    sym (scan_large c.radix-radix.result c.loop-i.value c.args.digits.now c.loop-i.i (omega arith) c.if-value-lt9223372036854775808.false) ∙ c.loop-i.invariant.3 ∙ ap (λ r. scan r 0 c.args.digits.now) c.radix-radix.ensures ∙ sym (digits_some _ _ c.if-digits-eq0.false)
+pub returns-then-value-lt-LIMIT : goal.returns-then-value-lt-LIMIT
+returns-then-value-lt-LIMIT c =
+    sym (scan_value c.radix-radix.result c.loop-byte.value c.args.digits.now c.loop-byte.byte-index c.loop-byte-test.false c.if-value-lt-LIMIT.true) ∙ c.loop-byte.invariant ∙ ap (λ r. scan r 0 c.args.digits.now) c.radix-radix.ensures ∙ sym (digits_some _ _ (false-eqb _ _ c.if-is_empty.ensures))
+
+pub returns-else-value-lt-LIMIT : goal.returns-else-value-lt-LIMIT
+returns-else-value-lt-LIMIT c =
+    sym (scan_large c.radix-radix.result c.loop-byte.value c.args.digits.now c.loop-byte.byte-index c.loop-byte-test.false c.if-value-lt-LIMIT.false) ∙ c.loop-byte.invariant ∙ ap (λ r. scan r 0 c.args.digits.now) c.radix-radix.ensures ∙ sym (digits_some _ _ (false-eqb _ _ c.if-is_empty.ensures))

@@ -1,17 +1,17 @@
 -- `names::numbers::parse_number` meets its contract.
 -- Assumes nothing.
-use mathlib.Core.Path.{◌∙◌, ap}
-use borrow.Author.Tests.{lt-ltb, le-ltb}
-use Rattle.names.specs.Numbers.{digits_of, in_base, number_of}
+use Rattle.std.proofs.Common.{◌∙◌, ap}
+use Rattle.std.proofs.lemmas.Result.{err_from_is_err_and}
+use Rattle.names.specs.Numbers.{digits_of}
 use Rattle.names.proofs.Cases.{told_number}
+use Rattle.names.proofs.numbers.Figures.{number_in, number_no}
 use Rattle.names.proofs.numbers.parse_number.Goals as goal
 
-pub returns-then-detail-ge-BASES : goal.returns-then-detail-ge-BASES
-unfolding number_of in_base
-returns-then-detail-ge-BASES c =
-    told_number (rw (le-ltb _ 4 c.if-detail-ge-BASES.true))
+pub returns-in_err-base : goal.returns-in_err-base
+returns-in_err-base c =
+    let p = err_from_is_err_and c.from_residual.result c.from_residual.ensures.1 in
+    told_number (p.1 ∙ rw p.2 (number_no c.args.detail c.args.text.now c.in_err-base.ensures))
 
 pub returns : goal.returns
-unfolding number_of in_base
 returns c =
-    told_number (rw (lt-ltb _ 4 c.if-detail-ge-BASES.false) (c.parse_digits.ensures ∙ ap (digits_of _) c.digits.ensures ∙ ap (λ b. in_base b c.args.text.now) c.of_detail-base.ensures))
+    told_number (c.parse_digits.ensures ∙ ap (digits_of _) c.digits.ensures ∙ number_in c.args.detail c.args.text.now c.in_ok-base.ensures)

@@ -1,26 +1,27 @@
 -- `names::registers::is_reserved_name` meets its contract, by the rule of the table.
 -- Assumes nothing.
-use mathlib.Core.Path.{sym, ◌∙◌}
-use Rattle.names.specs.Reserved.{reserved_rule}
-use Rattle.names.proofs.registers.Specials.{reserved_long}
+use Rattle.std.proofs.Common.{sym, ◌∙◌, ap, is_some}
+use Rattle.names.proofs.registers.Specials.{reserved_long, either_register, either_counter, reserved_before, reserved_special}
 use Rattle.names.proofs.registers.is_reserved_name.Goals as goal
+use Rattle.names.proofs.registers.is_reserved_name.Goals.{then-is_some, else-is_some}
 
 pub returns-then-name-gt4 : goal.returns-then-name-gt4
 returns-then-name-gt4 c =
     sym (reserved_long _ c.if-name-gt4.true)
 
-pub returns-in-Is : goal.returns-in-Is
-returns-in-Is c =
-    rw (reserved_rule, sym c.parse-register.ensures.register ∙ c.in-Is.is)
-
 pub returns-then-is_program_counter : goal.returns-then-is_program_counter
 returns-then-is_program_counter c =
-    rw (reserved_rule, sym c.parse-register.ensures.register ∙ c.in_default.is, sym c.is_program_counter.ensures ∙ c.if-is_program_counter.true)
+    let r = c.is_some.ensures ∙ ap is_some c.parse_register.ensures.register in
+    reserved_before _ _ (elim c.if-is_some.branch [
+      | then-is_some w ↦ w.value-is ∙ either_register _ _ r w.if-is_some.true
+      | else-is_some w ↦ w.value-is ∙ w.is_program_counter.ensures ∙ either_counter _ _ r w.if-is_some.false
+    ]) c.if-is_program_counter.true
 
-pub returns-in-Is-special : goal.returns-in-Is-special
-returns-in-Is-special c =
-    rw (reserved_rule, sym c.parse-register.ensures.register ∙ c.in_default.is, sym c.is_program_counter.ensures ∙ c.if-is_program_counter.false, sym c.by_length-special.ensures ∙ c.in-Is-special.is)
-
-pub returns-in-Not : goal.returns-in-Not
-returns-in-Not c =
-    rw (reserved_rule, sym c.parse-register.ensures.register ∙ c.in_default.is, sym c.is_program_counter.ensures ∙ c.if-is_program_counter.false, sym c.by_length-special.ensures ∙ c.in-Not.is)
+pub returns-else-is_program_counter : goal.returns-else-is_program_counter
+returns-else-is_program_counter c =
+    let r = c.is_some.ensures ∙ ap is_some c.parse_register.ensures.register in
+    c.is_some-else-is_program_counter.ensures ∙ ap is_some c.by_length.ensures
+    ∙ reserved_special _ _ (elim c.if-is_some.branch [
+      | then-is_some w ↦ w.value-is ∙ either_register _ _ r w.if-is_some.true
+      | else-is_some w ↦ w.value-is ∙ w.is_program_counter.ensures ∙ either_counter _ _ r w.if-is_some.false
+    ]) c.if-is_program_counter.false

@@ -1,30 +1,29 @@
 -- `names::registers::suppressed_register` meets its contract.
 -- Assumes nothing.
-use mathlib.Core.Path.{sym, ◌∙◌}
-use borrow.Author.Tests.{not-true, not-false}
+use Rattle.std.proofs.Common.{sym, ◌∙◌, arith}
 use Rattle.names.specs.Registers.{suppressing}
 use Rattle.names.proofs.Cases.{told_suppressed}
 use Rattle.names.proofs.registers.Pairs.{suppressed_none, suppressed_some}
 use Rattle.names.proofs.registers.suppressed_register.Goals as goal
 
-pub returns-then-name-eq0 : goal.returns-then-name-eq0
-returns-then-name-eq0 c =
-    told_suppressed (sym (suppressed_none _ c.if-name-eq0.true))
+pub returns-in_default : goal.returns-in_default
+returns-in_default c =
+    told_suppressed (sym (suppressed_none _ (omega (arith, c.in_default.len_below))))
 
 pub returns-then-not-eq_ignore_case : goal.returns-then-not-eq_ignore_case
 returns-then-not-eq_ignore_case c =
-    told_suppressed (rw (suppressed_some _ c.if-name-eq0.false, sym c.eq_ignore_case.ensures ∙ not-true _ c.if-not-eq_ignore_case.true-raw))
+    told_suppressed (rw (suppressed_some _ c.in-len1-up.len_at_least, ← c.if-not-eq_ignore_case.ensures))
 
 pub returns-then-is_program_counter : goal.returns-then-is_program_counter
 returns-then-is_program_counter c =
-    told_suppressed (rw (suppressed_some _ c.if-name-eq0.false, sym c.eq_ignore_case.ensures ∙ not-false _ c.if-not-eq_ignore_case.false-raw, ← c.behind_first-rest.ensures, ← c.is_program_counter.ensures, c.if-is_program_counter.true))
+    told_suppressed (rw (suppressed_some _ c.in-len1-up.len_at_least, ← c.if-not-eq_ignore_case.ensures, ← c.if-is_program_counter.ensures))
 
-pub returns-in-Is : goal.returns-in-Is
+pub returns-in_err-parse_register : goal.returns-in_err-parse_register
 unfolding suppressing
-returns-in-Is c =
-    told_suppressed (rw (suppressed_some _ c.if-name-eq0.false, sym c.eq_ignore_case.ensures ∙ not-false _ c.if-not-eq_ignore_case.false-raw, ← c.behind_first-rest.ensures, ← c.is_program_counter.ensures, c.if-is_program_counter.false, ← c.parse-register.ensures.register, c.in-Is.is))
+returns-in_err-parse_register c =
+    told_suppressed (c.from_residual.ensures ∙ rw (suppressed_some _ c.in-len1-up.len_at_least, ← c.if-not-eq_ignore_case.ensures, ← c.if-is_program_counter.ensures, ← c.parse_register.ensures.register, c.in_err-parse_register.was))
 
-pub returns-in-Not : goal.returns-in-Not
+pub returns : goal.returns
 unfolding suppressing
-returns-in-Not c =
-    told_suppressed (rw (suppressed_some _ c.if-name-eq0.false, sym c.eq_ignore_case.ensures ∙ not-false _ c.if-not-eq_ignore_case.false-raw, ← c.behind_first-rest.ensures, ← c.is_program_counter.ensures, c.if-is_program_counter.false, ← c.parse-register.ensures.register, c.in-Not.is))
+returns c =
+    told_suppressed (rw (suppressed_some _ c.in-len1-up.len_at_least, ← c.if-not-eq_ignore_case.ensures, ← c.if-is_program_counter.ensures, ← c.parse_register.ensures.register, c.in_ok-parse_register.was))

@@ -1,12 +1,8 @@
 -- `names::tokens::lent_token_at` meets its contract.
 -- Assumes nothing.
-use Rattle.names.proofs.tokens.Peeks.{end_at, token_below}
+use Rattle.names.proofs.tokens.Peeks.{token_of_chunk}
 use Rattle.names.proofs.tokens.lent_token_at.Goals as goal
-
-pub returns-then-bytes-i : goal.returns-then-bytes-i
-returns-then-bytes-i c =
-    end_at _ _ c.if-bytes-i.true
 
 pub returns : goal.returns
 returns c =
-    token_below _ _ _ c.if-bytes-i.false c.number-kind.ensures c.number-detail.ensures c.number-start.ensures c.number-end.ensures
+    token_of_chunk c.args.bytes.now c.args.i c.in_ok-kind.field-0.now c.as_chunks.result.0.now c.as_chunks.ensures.front c.as_chunks.ensures.front_len c.in_ok-kind.ensures.lookup.0 c.in_ok-kind.ensures.lookup.1 _ c.from.ensures c.from-2.ensures c.from-3.ensures c.from-4.ensures

@@ -1,13 +1,9 @@
 -- `names::tokens::token_at` meets its contract.
 -- Assumes nothing.
-use mathlib.Core.Path.{refl}
-use Rattle.names.proofs.tokens.Peeks.{end_at, token_below}
+use Rattle.std.proofs.Common.{refl}
+use Rattle.names.proofs.tokens.Peeks.{token_of_chunk}
 use Rattle.names.proofs.tokens.token_at.Goals as goal
-
-pub returns-then-tokens-i : goal.returns-then-tokens-i
-returns-then-tokens-i c =
-    end_at _ _ c.if-tokens-i.true
 
 pub returns : goal.returns
 returns c =
-    token_below _ _ _ c.if-tokens-i.false refl refl refl refl
+    token_of_chunk c.args.tokens.now c.args.i c.in_ok-kind.field-0.now c.as_chunks.result.0.now c.as_chunks.ensures.front c.as_chunks.ensures.front_len c.in_ok-kind.ensures.lookup.0 c.in_ok-kind.ensures.lookup.1 _ refl refl refl refl

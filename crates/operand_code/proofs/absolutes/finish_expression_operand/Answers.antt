@@ -1,29 +1,16 @@
 -- `operand_code::absolutes::finish_expression_operand` meets its contract.
 -- Assumes nothing.
 use mathlib.Core.Path.{ap}
-use native.Mathlib.Omega.{arith}
 use Rattle.operand.specs.Operand.{finish_expression_operand}
 use Rattle.operand_code.proofs.operands.Returns.{behind_bare, behind_size, absolute_bare, absolute_sized}
 use Rattle.operand_code.proofs.absolutes.finish_expression_operand.Goals as goal
 
-pub take_size_suffix-z-requires : goal.take_size_suffix-z-requires
-take_size_suffix-z-requires c =
-    omega (arith, c.requires)
-
-pub absolute-requires : goal.absolute-requires
-absolute-requires c =
-    omega (arith, c.requires, c.take_size_suffix-z.ensures.held)
-
-pub absolute-requires-in-Is : goal.absolute-requires-in-Is
-absolute-requires-in-Is c =
-    omega (arith, c.requires, c.take_size_suffix-z.ensures.held)
-
-pub returns-in-Not : goal.returns-in-Not
+pub returns-in-Some-clause-told : goal.returns-in-Some-clause-told
 unfolding finish_expression_operand
-returns-in-Not c =
-    record { told = λ e n v. behind_bare c.args.value c.take_size_suffix-z.ensures e v c.in-Not.is (absolute_bare e n c.take_size_suffix-z.ensures.held _ c.absolute.ensures (ap (λ z. z.end) v)) }
+returns-in-Some-clause-told c =
+    record { told = λ e n v. behind_size c.args.value c.take_size_suffix.ensures.told e v c.in-Some.is (absolute_sized e n c.take_size_suffix.ensures.told.held _ _ c.absolute.ensures) }
 
-pub returns-in-Is : goal.returns-in-Is
+pub returns-in-None-clause-told : goal.returns-in-None-clause-told
 unfolding finish_expression_operand
-returns-in-Is c =
-    record { told = λ e n v. behind_size c.args.value c.take_size_suffix-z.ensures e v c.in-Is.is (absolute_sized e n c.take_size_suffix-z.ensures.held _ _ c.absolute-in-Is.ensures) }
+returns-in-None-clause-told c =
+    record { told = λ e n v. behind_bare c.args.value c.take_size_suffix.ensures.told e v c.in-None.is (absolute_bare e n c.take_size_suffix.ensures.told.held _ c.absolute-in-None.ensures (ap (λ z. z.end) v)) }

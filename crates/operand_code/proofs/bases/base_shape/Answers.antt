@@ -4,10 +4,10 @@ use mathlib.Core.Path.{◌∙◌}
 use Rattle.operand_code.proofs.bases.Tails.{shape_displaced, shape_undisplaced}
 use Rattle.operand_code.proofs.bases.base_shape.Goals as goal
 
-pub returns-in-Is : goal.returns-in-Is
-returns-in-Is c =
-    λ y e. shape_displaced y (e ∙ c.in-Is.is)
+pub returns-in-Some : goal.returns-in-Some
+returns-in-Some c =
+    λ y e. shape_displaced y (e ∙ c.in-Some.is)
 
-pub returns-in-Not : goal.returns-in-Not
-returns-in-Not c =
-    λ y e. shape_undisplaced y (e ∙ c.in-Not.is)
+pub returns-in-None : goal.returns-in-None
+returns-in-None c =
+    λ y e. shape_undisplaced y (e ∙ c.in-None.is)

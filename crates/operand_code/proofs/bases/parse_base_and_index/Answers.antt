@@ -1,10 +1,9 @@
 -- `operand_code::bases::parse_base_and_index` meets its contract.
 -- Assumes nothing.
-use mathlib.Core.Path.{refl, sym, ◌∙◌, ap}
+use mathlib.Core.Path.{refl, sym, ◌∙◌}
 use native.Mathlib.Omega.{arith}
 use Rattle.operand.specs.Operand.{parse_base_and_index}
-use Rattle.operand.specs.Forms.{operand_read}
-use Rattle.names.specs.Places.{live}
+use Rattle.records.specs.Counters.{over_is}
 use Rattle.records.specs.Problems
 use Rattle.expressions.specs.Paths.{hit, miss, done}
 use Rattle.operand_code.proofs.malformed.Failures.{failed_unclosed, failed_register}
@@ -13,32 +12,20 @@ use Rattle.operand_code.proofs.bases.Tails.{kept_from, unclosed_shape, register_
 use Rattle.operand_code.proofs.bases.Opened.{unsuppressed, no_register, no_counter, opened}
 use Rattle.operand_code.proofs.bases.parse_base_and_index.Goals as goal
 
-pub unclosed-requires : goal.unclosed-requires
-unclosed-requires c =
-    omega (arith, c.requires)
-
-pub returns-in_default : goal.returns-in_default
-unfolding parse_base_and_index operand_read
-returns-in_default c =
-    record { told = λ y e z. done (sym c.token_at-p.ensures ∙ c.in_default.is) (done (sym c.token_at-p.ensures ∙ c.in_default.is) (done (sym c.token_at-p.ensures ∙ c.in_default.is) (failed_unclosed _ _ _ Problems.base_missing (unclosed_shape Problems.base_missing _ _ (c.base_shape.ensures y e) c.unclosed.ensures) c.no_operand.ensures.0 c.no_operand.ensures.1 (no_operand_held y c.unclosed.ensures)))) }
-
-pub step_over-e-requires : goal.step_over-e-requires
-step_over-e-requires c =
-    omega (arith, c.requires, live _ _ _ (sym c.token_at-p.ensures ∙ c.in-Is.is))
+pub returns-in_default-clause-told : goal.returns-in_default-clause-told
+unfolding parse_base_and_index
+returns-in_default-clause-told c =
+    record { told = λ y e z. done (sym c.peek.ensures ∙ c.in_default.is) (done (sym c.peek.ensures ∙ c.in_default.is) (done (sym c.peek.ensures ∙ c.in_default.is) (failed_unclosed _ _ _ Problems.base_missing (unclosed_shape Problems.base_missing _ _ (c.base_shape.ensures y e) c.unclosed.ensures.told) refl refl (no_operand_held y c.unclosed.ensures.told)))) }
 
 pub after_base-requires : goal.after_base-requires
 after_base-requires c =
-    (room_step c.requires (sym c.token_at-p.ensures ∙ c.in-Is.is) c.step_over-e.ensures, unsuppressed _ _ _ c.unsuppressed_base-base.ensures (sym c.is_base.ensures ∙ c.if-is_base.true))
+    (room_step c.requires (sym c.peek.ensures ∙ c.in-Some.is) (over_is (omega (arith, c.requires)) c.step_over.ensures), unsuppressed _ _ _ c.unsuppressed_base-base.ensures (sym c.is_base.ensures ∙ c.if-is_base.true))
 
-pub returns-then-is_base : goal.returns-then-is_base
-returns-then-is_base c =
-    record { told = λ y e z. opened _ _ y _ (sym c.token_at-p.ensures ∙ c.in-Is.is) c.unsuppressed_base-base.ensures (sym c.is_base.ensures ∙ c.if-is_base.true) c.step_over-e.ensures (kept_from y (ap (λ w. w.nodes) c.step_over-e.ensures) (c.after_base.ensures.told y e z)) }
+pub returns-then-is_base-clause-told : goal.returns-then-is_base-clause-told
+returns-then-is_base-clause-told c =
+    record { told = λ y e z. opened _ _ y _ (sym c.peek.ensures ∙ c.in-Some.is) c.unsuppressed_base-base.ensures (sym c.is_base.ensures ∙ c.if-is_base.true) (over_is (omega (arith, c.requires)) c.step_over.ensures) (kept_from y c.step_over.ensures.nodes (c.after_base.ensures.told.told y e z)) }
 
-pub not_an_address_register-requires : goal.not_an_address_register-requires
-not_an_address_register-requires c =
-    omega (arith, c.requires, live _ _ _ (sym c.token_at-p.ensures ∙ c.in-Is.is), ap (λ w. w.diagnostics) c.step_over-e.ensures)
-
-pub returns : goal.returns
-unfolding parse_base_and_index operand_read
-returns c =
-    record { told = λ y e z. miss (sym c.token_at-p.ensures ∙ c.in-Is.is) (no_register _ _ _ c.unsuppressed_base-base.ensures (sym c.is_base.ensures ∙ c.if-is_base.false)) (miss (sym c.token_at-p.ensures ∙ c.in-Is.is) (no_counter _ _ _ c.unsuppressed_base-base.ensures (sym c.is_base.ensures ∙ c.if-is_base.false)) (hit (sym c.token_at-p.ensures ∙ c.in-Is.is) refl c.step_over-e.ensures (failed_register _ _ _ (register_shape _ _ (c.base_shape-2.ensures y e) c.not_an_address_register.ensures) c.no_operand-2.ensures.0 c.no_operand-2.ensures.1 (no_operand_behind y (ap (λ w. w.nodes) c.step_over-e.ensures) c.not_an_address_register.ensures)))) }
+pub returns-clause-told : goal.returns-clause-told
+unfolding parse_base_and_index
+returns-clause-told c =
+    record { told = λ y e z. miss (sym c.peek.ensures ∙ c.in-Some.is) (no_register _ _ _ c.unsuppressed_base-base.ensures (sym c.is_base.ensures ∙ c.if-is_base.false)) (miss (sym c.peek.ensures ∙ c.in-Some.is) (no_counter _ _ _ c.unsuppressed_base-base.ensures (sym c.is_base.ensures ∙ c.if-is_base.false)) (hit (sym c.peek.ensures ∙ c.in-Some.is) refl (over_is (omega (arith, c.requires)) c.step_over.ensures) (failed_register _ _ _ (register_shape _ _ (c.base_shape-2.ensures y e) c.not_an_address_register.ensures.told) refl refl (no_operand_behind y c.step_over.ensures.nodes c.not_an_address_register.ensures.told)))) }

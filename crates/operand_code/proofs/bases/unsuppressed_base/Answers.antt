@@ -6,17 +6,17 @@ use Rattle.operand_code.specs.Bases.{unsuppressed_base}
 use Rattle.operand_code.proofs.lookahead.Names.{address_hit, address_miss}
 use Rattle.operand_code.proofs.bases.unsuppressed_base.Goals as goal
 
-pub returns-in-Is : goal.returns-in-Is
+pub returns-in-Some : goal.returns-in-Some
 unfolding unsuppressed_base
-returns-in-Is c =
-    let h = address_hit _ _ (sym c.address_register_at-r.ensures ∙ c.in-Is.is) in rw h.0 (ap BaseRegister.Address (c.register_of.ensures ∙ sym h.1))
+returns-in-Some c =
+    let h = address_hit _ _ (sym c.address_register_at.ensures ∙ c.in-Some.is) in rw h.0 (ap BaseRegister.Address (c.register_of.ensures ∙ sym h.1))
 
 pub returns-then-program_counter_at : goal.returns-then-program_counter_at
 unfolding unsuppressed_base
 returns-then-program_counter_at c =
-    rw (address_miss _ _ (sym c.address_register_at-r.ensures ∙ c.in_default.is), sym c.program_counter_at.ensures ∙ c.if-program_counter_at.true)
+    rw (address_miss _ _ (sym c.address_register_at.ensures ∙ c.in_default.is), sym c.program_counter_at.ensures ∙ c.if-program_counter_at.true)
 
 pub returns : goal.returns
 unfolding unsuppressed_base
 returns c =
-    rw (address_miss _ _ (sym c.address_register_at-r.ensures ∙ c.in_default.is), sym c.program_counter_at.ensures ∙ c.if-program_counter_at.false)
+    rw (address_miss _ _ (sym c.address_register_at.ensures ∙ c.in_default.is), sym c.program_counter_at.ensures ∙ c.if-program_counter_at.false)

@@ -10,9 +10,10 @@ use Rattle.operand_code.proofs.indexes.index_register.Goals as goal
 
 pub index_scale-requires : goal.index_scale-requires
 index_scale-requires c =
-    suffix_room _ c.requires c.take_size_suffix-z.ensures
+    suffix_room _ c.requires c.take_size_suffix-suffix.ensures.told
 
-pub returns : goal.returns
+pub returns-clause-told : goal.returns-clause-told
 unfolding index_register
-returns c =
-    bound c.take_size_suffix-z.ensures refl (same c.take_size_suffix-z.ensures.held (renamed (ap (index_scale c.args.s c.args.shape) (c.sized_index-x.ensures ∙ ap (sized_index c.args.register c.args.suppressed) c.take_size_suffix-z.ensures.what) ∙ index_sized _ _ _ _ _) c.index_scale.ensures))
+returns-clause-told c =
+    let suffix = c.take_size_suffix-suffix.ensures.told in
+    bound suffix refl (same suffix.held (renamed (ap (index_scale c.args.source.now.setting c.args.shape) (c.sized_index.ensures ∙ ap (sized_index c.args.register c.args.suppressed) suffix.what) ∙ index_sized _ _ _ _ _) c.index_scale.ensures.told))

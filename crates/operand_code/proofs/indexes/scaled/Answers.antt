@@ -4,22 +4,21 @@ use mathlib.Core.Path.{refl, sym, ◌∙◌}
 use native.Mathlib.Omega.{arith}
 use Rattle.records.specs.Problems
 use Rattle.operand.specs.Operand.{scaled, scale_of}
-use Rattle.operand.specs.Forms.{index_read}
 use Rattle.expressions.specs.Paths.{answered, chosen, unchosen, raised_same}
 use Rattle.operand_code.proofs.malformed.Failures.{failed_malformed}
 use Rattle.operand_code.proofs.indexes.Returns.{scale_small}
 use Rattle.operand_code.proofs.indexes.scaled.Goals as goal
 
-pub overflow_cast-y : goal.overflow_cast-y
-overflow_cast-y c =
-    omega (arith, scale_small _ (sym c.is_scale.ensures ∙ c.if-is_scale.true))
+pub returns-then-not-is_scale-clause-told : goal.returns-then-not-is_scale-clause-told
+unfolding scaled
+returns-then-not-is_scale-clause-told c =
+    unchosen (scale_of _) _ (sym c.is_scale.ensures ∙ c.if-not-is_scale.true) (failed_malformed _ _ Problems.bad_scale c.malformed.ensures.told refl refl (raised_same c.malformed.ensures.told))
 
-pub returns-then-is_scale : goal.returns-then-is_scale
-unfolding scaled index_read
-returns-then-is_scale c =
-    λ L T. chosen (scale_of _) _ (sym c.is_scale.ensures ∙ c.if-is_scale.true) (answered c.an_index.ensures.0 c.an_index.ensures.1 refl)
+pub overflow_cast-result : goal.overflow_cast-result
+overflow_cast-result c =
+    omega (arith, scale_small _ (sym c.is_scale.ensures ∙ c.if-not-is_scale.false))
 
-pub returns : goal.returns
-unfolding scaled index_read
-returns c =
-    λ L T. unchosen (scale_of _) _ (sym c.is_scale.ensures ∙ c.if-is_scale.false) (failed_malformed _ _ Problems.bad_scale c.malformed.ensures c.no_index.ensures.0 c.no_index.ensures.1 (raised_same c.malformed.ensures))
+pub returns-clause-told : goal.returns-clause-told
+unfolding scaled
+returns-clause-told c =
+    chosen (scale_of _) _ (sym c.is_scale.ensures ∙ c.if-not-is_scale.false) (answered refl refl refl)

@@ -8,6 +8,3 @@ use Rattle.operand_code.proofs.lists.range_bits.Given as goal
 
 abbrev pub invariant-loop-i : goal.invariant-loop-i
 invariant-loop-i l = bit_or l.bits (bits_from l.i (l.to + 1 - l.i)) ≡ bits_from l.from (l.to + 1 - l.from)
-
-abbrev pub decreases-loop-i : goal.decreases-loop-i
-decreases-loop-i l = l.to + 1 - l.i

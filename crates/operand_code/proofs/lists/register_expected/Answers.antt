@@ -1,16 +1,16 @@
 -- `operand_code::lists::register_expected` meets its contract.
 -- Assumes nothing.
 use mathlib.Core.Path.{sym, ◌∙◌}
+use native.Mathlib.Omega.{arith}
 use Rattle.operand_code.specs.Lists.{expected_at}
-use Rattle.expressions.specs.Paths.{raised_as}
+use Rattle.expressions.specs.Paths.{told_one, raised_as}
 use Rattle.operand_code.proofs.lists.register_expected.Goals as goal
+use Rattle.operand_code.proofs.lists.register_expected.Goals.{in-Some, in-None}
 
-pub returns-in-Is : goal.returns-in-Is
+pub returns-clause-told : goal.returns-clause-told
 unfolding expected_at
-returns-in-Is c =
-    raised_as (rw (c.diagnostic.ensures, c.span_of.ensures, sym c.token_at-p.ensures ∙ c.in-Is.is)) c.raise.ensures
-
-pub returns-in-End : goal.returns-in-End
-unfolding expected_at
-returns-in-End c =
-    raised_as (rw (c.diagnostic-in-End.ensures, sym c.token_at-p.ensures ∙ c.in-End.is)) c.raise-in-End.ensures
+returns-clause-told c =
+    elim c.match-peek.branch [
+      | in-Some w ↦ raised_as (rw (c.diagnostic.ensures, w.span-is, w.span_of-span.ensures, sym c.peek.ensures ∙ w.in-Some.is)) (told_one (omega (arith, c.requires)) c.raise.ensures.told c.raise.ensures.counted)
+      | in-None w ↦ raised_as (rw (c.diagnostic.ensures, w.span-is, sym c.peek.ensures ∙ w.in-None.is)) (told_one (omega (arith, c.requires)) c.raise.ensures.told c.raise.ensures.counted)
+    ]

@@ -9,14 +9,14 @@ use Rattle.operand_code.proofs.lists.slash_at.Goals as goal
 pub returns-in_default : goal.returns-in_default
 unfolding slashed
 returns-in_default c =
-    rw (sym c.token_at-p.ensures ∙ c.in_default.is)
+    rw (sym c.peek.ensures ∙ c.in_default.is)
 
 pub returns-then-t-ne-SLASH : goal.returns-then-t-ne-SLASH
 unfolding slashed
 returns-then-t-ne-SLASH c =
-    rw ((sym c.token_at-p.ensures ∙ c.in-Is.is), ne_eqb _ Kinds.slash c.if-t-ne-SLASH.true)
+    rw ((sym c.peek.ensures ∙ c.in-Some.is), ne_eqb _ Kinds.slash c.if-t-ne-SLASH.true)
 
 pub returns : goal.returns
 unfolding slashed
 returns c =
-    rw ((sym c.token_at-p.ensures ∙ c.in-Is.is), eq-eqb _ Kinds.slash c.if-t-ne-SLASH.false)
+    rw ((sym c.peek.ensures ∙ c.in-Some.is), eq-eqb _ Kinds.slash c.if-t-ne-SLASH.false)

@@ -1,5 +1,6 @@
 -- `operand_code::lookahead::base_at` meets its contract.
 -- Assumes nothing.
+use Rattle.std.proofs.Common.{Some, ap}
 use mathlib.Core.Path.{sym, ◌∙◌}
 use Rattle.operand_code.specs.Lookahead.{is_counter, suppressed_base, base_at}
 use Rattle.operand_code.proofs.lookahead.base_at.Goals as goal
@@ -9,17 +10,17 @@ unfolding base_at
 returns-then-program_counter_at c =
     rw (sym c.program_counter_at.ensures ∙ c.if-program_counter_at.true)
 
-pub returns-in-ProgramCounter : goal.returns-in-ProgramCounter
+pub returns-in-Some-ProgramCounter : goal.returns-in-Some-ProgramCounter
 unfolding is_counter base_at
-returns-in-ProgramCounter c =
-    rw (sym c.program_counter_at.ensures ∙ c.if-program_counter_at.false, sym c.suppressed_register_at-z.ensures ∙ c.in-ProgramCounter.is)
+returns-in-Some-ProgramCounter c =
+    rw (sym c.program_counter_at.ensures ∙ c.if-program_counter_at.false, sym c.suppressed_register_at.ensures ∙ (c.in-Some-ProgramCounter.is ∙ ap Some c.in-Some-ProgramCounter.field-0-is))
 
-pub returns-in-Register : goal.returns-in-Register
+pub returns-in-Some-Register : goal.returns-in-Some-Register
 unfolding is_counter base_at
-returns-in-Register c =
-    c.address_at.ensures ∙ rw (sym c.program_counter_at.ensures ∙ c.if-program_counter_at.false, sym c.suppressed_register_at-z.ensures ∙ c.in-Register.is, c.suppressed_address.ensures)
+returns-in-Some-Register c =
+    c.address_at.ensures ∙ rw (sym c.program_counter_at.ensures ∙ c.if-program_counter_at.false, sym c.suppressed_register_at.ensures ∙ (c.in-Some-Register.is ∙ ap Some c.in-Some-Register.field-0-is), c.suppressed_address.ensures)
 
-pub returns-in-Not : goal.returns-in-Not
+pub returns-in-None : goal.returns-in-None
 unfolding is_counter suppressed_base base_at
-returns-in-Not c =
-    c.address_at-in-Not.ensures ∙ rw (sym c.program_counter_at.ensures ∙ c.if-program_counter_at.false, sym c.suppressed_register_at-z.ensures ∙ c.in-Not.is)
+returns-in-None c =
+    c.address_at-in-None.ensures ∙ rw (sym c.program_counter_at.ensures ∙ c.if-program_counter_at.false, sym c.suppressed_register_at.ensures ∙ c.in-None.is)

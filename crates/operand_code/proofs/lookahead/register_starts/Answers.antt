@@ -5,10 +5,10 @@ use Rattle.operand_code.proofs.lookahead.Names.{reg_not, address_none}
 use Rattle.operand_code.proofs.lookahead.Starts.{register_starts}
 use Rattle.operand_code.proofs.lookahead.register_starts.Goals as goal
 
-pub returns-in-Not : goal.returns-in-Not
-returns-in-Not c =
-    rw (address_none _ _ (sym c.register_at-r.ensures ∙ c.in-Not.is), reg_not _ _ (sym c.register_at-r.ensures ∙ c.in-Not.is))
+pub returns-in-None : goal.returns-in-None
+returns-in-None c =
+    rw (address_none _ _ (sym c.register_at.ensures ∙ c.in-None.is), reg_not _ _ (sym c.register_at.ensures ∙ c.in-None.is))
 
-pub returns-in-Is : goal.returns-in-Is
-returns-in-Is c =
-    c.closes_at.ensures c.args.line.now ∙ register_starts _ _ _ _ (sym c.register_at-r.ensures ∙ c.in-Is.is)
+pub returns-in-Some : goal.returns-in-Some
+returns-in-Some c =
+    c.closes_at.ensures ∙ register_starts _ _ _ _ (sym c.register_at.ensures ∙ c.in-Some.is)

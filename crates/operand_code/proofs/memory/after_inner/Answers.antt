@@ -1,24 +1,29 @@
 -- `operand_code::memory::after_inner` meets its contract.
 -- Assumes nothing.
-use mathlib.Core.Path.{sym, ◌∙◌}
+use mathlib.Core.Path.{refl, sym, ◌∙◌}
 use native.Mathlib.Omega.{arith}
 use Rattle.operand.specs.Operand.{or_none}
-use Rattle.operand.specs.Forms.{operand_read}
 use Rattle.operand_code.specs.Operands.{HeldBy}
 use Rattle.expressions.specs.Paths.{held_as, answered, bound}
-use Rattle.operand_code.proofs.memory.Inners.{outer_room, outer_is, outer_not, outer_of_lem, operand_behind}
+use Rattle.operand_code.proofs.memory.Inners.{outer_room, outer_of_lem, operand_behind}
+use Rattle.operand_code.proofs.Rooms.{map_is, map_not}
 use Rattle.operand_code.proofs.memory.after_inner.Goals as goal
+
+pub returns-in_err-u-clause-told : goal.returns-in_err-u-clause-told
+unfolding or_none HeldBy
+returns-in_err-u-clause-told c =
+    record { told = λ x a st. let t = (outer_of_lem _ x a c.parse_outer.ensures.told).told in bound t (map_not _ _ (sym t.what ∙ c.in_err-u.was)) (answered c.from_residual.ensures refl tt) }
 
 pub close_indirect-requires : goal.close_indirect-requires
 close_indirect-requires c =
-    (outer_room _ _ c.requires c.parse_outer-u.ensures (outer_is _ _ (sym c.parse_outer-u.ensures.told.what ∙ c.in-Is.is)).is (omega (arith, c.parse_outer-u.auto))).room
+    let t = c.parse_outer.ensures.told in
+    (outer_room _ _ c.requires t (map_is _ _ (sym t.told.what ∙ c.in_ok-u.was)).is (omega (arith, c.parse_outer.auto))).room
 
-pub returns-in-Not : goal.returns-in-Not
-unfolding or_none operand_read HeldBy
-returns-in-Not c =
-    record { told = λ x a st. bound (outer_of_lem _ x a c.parse_outer-u.ensures).told (outer_not _ _ (sym (outer_of_lem _ x a c.parse_outer-u.ensures).told.what ∙ c.in-Not.is)) (answered c.no_operand.ensures.0 c.no_operand.ensures.1 tt) }
-
-pub returns-in-Is : goal.returns-in-Is
-unfolding or_none operand_read HeldBy
-returns-in-Is c =
-    record { told = λ x a st. bound (outer_of_lem _ x a c.parse_outer-u.ensures).told (outer_is _ _ (sym (outer_of_lem _ x a c.parse_outer-u.ensures).told.what ∙ c.in-Is.is)).is (operand_behind x (outer_is _ _ (sym (outer_of_lem _ x a c.parse_outer-u.ensures).told.what ∙ c.in-Is.is)).part a (outer_is _ _ (sym (outer_of_lem _ x a c.parse_outer-u.ensures).told.what ∙ c.in-Is.is)).form st (held_as (outer_of_lem _ x a c.parse_outer-u.ensures).told (outer_is _ _ (sym (outer_of_lem _ x a c.parse_outer-u.ensures).told.what ∙ c.in-Is.is)).is) c.close_indirect.ensures) }
+pub returns-clause-told : goal.returns-clause-told
+unfolding or_none HeldBy
+returns-clause-told c =
+    record {
+      told = λ x a st. let t = (outer_of_lem _ x a c.parse_outer.ensures.told).told in
+          let y = map_is _ _ (sym t.what ∙ c.in_ok-u.was) in
+          bound t y.is (operand_behind x y.part a y.form st (held_as t y.is) c.close_indirect.ensures.told);
+    }

@@ -1,23 +1,28 @@
 -- `operand_code::memory_inner::inner_displacement` meets its contract.
 -- Assumes nothing.
-use mathlib.Core.Path.{sym, ◌∙◌}
+use mathlib.Core.Path.{refl, sym, ◌∙◌, ap}
 use native.Mathlib.Omega.{arith}
 use Rattle.operand.specs.Operand.{or_none}
-use Rattle.operand_code.specs.Memory.{inner_read}
 use Rattle.expressions.specs.Paths.{held_as, answered, bound}
-use Rattle.operand_code.proofs.memory.Inners.{displacement_is, displacement_not, displacement_room}
+use Rattle.operand_code.proofs.memory.Inners.{displacement_room}
+use Rattle.operand_code.proofs.Rooms.{map_is, map_not}
 use Rattle.operand_code.proofs.memory_inner.inner_displacement.Goals as goal
+use Rattle.std.specs.Prelude.{Some, option_map}
 
 pub inner_displaced-requires : goal.inner_displaced-requires
 inner_displaced-requires c =
-    (displacement_room _ c.requires c.parse_sized_displacement-r.ensures (displacement_is _ _ (sym c.parse_sized_displacement-r.ensures.told.what ∙ c.in-Is.is)).is (omega (arith, c.parse_sized_displacement-r.auto))).room
+    let t = c.parse_sized_displacement.ensures.told in
+    (displacement_room _ c.requires t (map_is _ _ (sym t.told.what ∙ ap (option_map Some) c.in_ok-d.was)).is (omega (arith, c.parse_sized_displacement.auto))).room
 
-pub returns-in-Not : goal.returns-in-Not
-unfolding or_none inner_read
-returns-in-Not c =
-    record { told = bound c.parse_sized_displacement-r.ensures.told (displacement_not _ _ (sym c.parse_sized_displacement-r.ensures.told.what ∙ c.in-Not.is)) (answered c.no_inner.ensures.0 c.no_inner.ensures.1 tt) }
+pub returns-in_err-d-clause-told : goal.returns-in_err-d-clause-told
+unfolding or_none
+returns-in_err-d-clause-told c =
+    let t = c.parse_sized_displacement.ensures.told.told in
+    record { told = bound t (map_not _ _ (sym t.what ∙ ap (option_map Some) c.in_err-d.was)) (answered c.from_residual.ensures refl tt) }
 
-pub returns-in-Is : goal.returns-in-Is
-unfolding or_none inner_read
-returns-in-Is c =
-    record { told = bound c.parse_sized_displacement-r.ensures.told (displacement_is _ _ (sym c.parse_sized_displacement-r.ensures.told.what ∙ c.in-Is.is)).is (c.inner_displaced.ensures.told _ _ _ (displacement_is _ _ (sym c.parse_sized_displacement-r.ensures.told.what ∙ c.in-Is.is)).displacement (displacement_is _ _ (sym c.parse_sized_displacement-r.ensures.told.what ∙ c.in-Is.is)).form (held_as c.parse_sized_displacement-r.ensures.told (displacement_is _ _ (sym c.parse_sized_displacement-r.ensures.told.what ∙ c.in-Is.is)).is)) }
+pub returns-clause-told : goal.returns-clause-told
+unfolding or_none
+returns-clause-told c =
+    let t = c.parse_sized_displacement.ensures.told.told in
+    let y = map_is _ _ (sym t.what ∙ ap (option_map Some) c.in_ok-d.was) in
+    record { told = bound t y.is (c.inner_displaced.ensures.told.told _ _ _ y.part y.form (held_as t y.is)) }

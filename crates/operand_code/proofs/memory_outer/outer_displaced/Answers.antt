@@ -1,18 +1,22 @@
 -- `operand_code::memory_outer::outer_displaced` meets its contract.
 -- Assumes nothing.
-use mathlib.Core.Path.{sym, ◌∙◌}
+use mathlib.Core.Path.{refl, sym, ◌∙◌, ap}
 use Rattle.operand.specs.Operand.{or_none}
-use Rattle.operand_code.specs.Memory.{outer_read}
 use Rattle.expressions.specs.Paths.{held_as, answered, bound}
-use Rattle.operand_code.proofs.memory.Inners.{displacement_is, displacement_not, outer_answered}
+use Rattle.operand_code.proofs.memory.Inners.{outer_answered}
+use Rattle.operand_code.proofs.Rooms.{map_is, map_not}
 use Rattle.operand_code.proofs.memory_outer.outer_displaced.Goals as goal
+use Rattle.std.specs.Prelude.{Some, option_map}
 
-pub returns-in-Not : goal.returns-in-Not
-unfolding or_none outer_read
-returns-in-Not c =
-    record { told = bound c.parse_sized_displacement-r.ensures.told (displacement_not _ _ (sym c.parse_sized_displacement-r.ensures.told.what ∙ c.in-Not.is)) (answered c.no_outer.ensures.0 c.no_outer.ensures.1 tt) }
+pub returns-in_err-d-clause-told : goal.returns-in_err-d-clause-told
+unfolding or_none
+returns-in_err-d-clause-told c =
+    let t = c.parse_sized_displacement.ensures.told.told in
+    record { told = bound t (map_not _ _ (sym t.what ∙ ap (option_map Some) c.in_err-d.was)) (answered c.from_residual.ensures refl tt) }
 
-pub returns-in-Is : goal.returns-in-Is
-unfolding or_none outer_read
-returns-in-Is c =
-    record { told = bound c.parse_sized_displacement-r.ensures.told (displacement_is _ _ (sym c.parse_sized_displacement-r.ensures.told.what ∙ c.in-Is.is)).is (outer_answered _ _ _ (displacement_is _ _ (sym c.parse_sized_displacement-r.ensures.told.what ∙ c.in-Is.is)).form c.an_outer.ensures.0 c.an_outer.ensures.1 (held_as c.parse_sized_displacement-r.ensures.told (displacement_is _ _ (sym c.parse_sized_displacement-r.ensures.told.what ∙ c.in-Is.is)).is)) }
+pub returns-clause-told : goal.returns-clause-told
+unfolding or_none
+returns-clause-told c =
+    let t = c.parse_sized_displacement.ensures.told.told in
+    let y = map_is _ _ (sym t.what ∙ ap (option_map Some) c.in_ok-d.was) in
+    record { told = bound t y.is (outer_answered _ _ _ y.form refl refl (held_as t y.is)) }

@@ -4,42 +4,38 @@ use mathlib.Core.Path.{refl, sym, ◌∙◌}
 use native.Mathlib.Omega.{arith}
 use borrow.Author.Tests.{eq-eqb, ne_eqb}
 use Rattle.names.specs.Kinds
+use Rattle.records.specs.Counters.{over_is}
 use Rattle.operand.specs.Operands.{undisplaced}
 use Rattle.operand.specs.Operand.{parse_outer}
 use Rattle.operand.specs.Forms.{sized_of}
-use Rattle.names.specs.Places.{live}
 use Rattle.expressions.specs.Paths.{miss, done}
 use Rattle.operand_code.proofs.memory.Inners.{node_step, stored_none, outer_answered, outer_hit, outer_index_here, outer_no_index}
 use Rattle.operand_code.proofs.memory_outer.parse_outer.Goals as goal
 
-pub returns-in_default : goal.returns-in_default
+pub returns-in_default-clause-told : goal.returns-in_default-clause-told
 unfolding parse_outer sized_of
-returns-in_default c =
-    record { told = done (sym c.token_at-p.ensures ∙ c.in_default.is) (outer_answered _ 1 undisplaced refl c.an_outer.ensures.0 c.an_outer.ensures.1 (stored_none _ _)) }
+returns-in_default-clause-told c =
+    record { told = done (sym c.peek.ensures ∙ c.in_default.is) (outer_answered _ 1 undisplaced refl refl refl (stored_none _ _)) }
 
-pub returns-then-t-ne-COMMA : goal.returns-then-t-ne-COMMA
+pub returns-then-t-ne-COMMA-clause-told : goal.returns-then-t-ne-COMMA-clause-told
 unfolding parse_outer sized_of
-returns-then-t-ne-COMMA c =
-    record { told = miss (sym c.token_at-p.ensures ∙ c.in-Is.is) (ne_eqb _ Kinds.comma c.if-t-ne-COMMA.true) (outer_answered _ 1 undisplaced refl c.an_outer-then-t-ne-COMMA.ensures.0 c.an_outer-then-t-ne-COMMA.ensures.1 (stored_none _ _)) }
-
-pub step_over-e-requires : goal.step_over-e-requires
-step_over-e-requires c =
-    omega (arith, c.requires.room, live _ _ _ (sym c.token_at-p.ensures ∙ c.in-Is.is))
+returns-then-t-ne-COMMA-clause-told c =
+    record { told = miss (sym c.peek.ensures ∙ c.in-Some.is) (ne_eqb _ Kinds.comma c.if-t-ne-COMMA.true) (outer_answered _ 1 undisplaced refl refl refl (stored_none _ _)) }
 
 pub outer_index-requires : goal.outer_index-requires
 outer_index-requires c =
-    node_step c.requires (sym c.token_at-p.ensures ∙ c.in-Is.is) c.step_over-e.ensures
+    node_step c.requires (sym c.peek.ensures ∙ c.in-Some.is) (over_is (omega (arith, c.requires)) c.step_over.ensures)
 
-pub returns-then-is_an_index_at : goal.returns-then-is_an_index_at
+pub returns-then-is_an_index_at-clause-told : goal.returns-then-is_an_index_at-clause-told
 unfolding parse_outer sized_of
-returns-then-is_an_index_at c =
-    outer_hit (sym c.token_at-p.ensures ∙ c.in-Is.is) (eq-eqb _ Kinds.comma c.if-t-ne-COMMA.false) c.step_over-e.ensures (outer_index_here _ _ _ (sym c.is_an_index_at.ensures ∙ c.if-is_an_index_at.true) c.outer_index.ensures)
+returns-then-is_an_index_at-clause-told c =
+    outer_hit (sym c.peek.ensures ∙ c.in-Some.is) (eq-eqb _ Kinds.comma c.if-t-ne-COMMA.false) (over_is (omega (arith, c.requires)) c.step_over.ensures) (outer_index_here _ _ _ (sym c.is_an_index_at.ensures ∙ c.if-is_an_index_at.true) c.outer_index.ensures.told)
 
 pub outer_displaced-requires : goal.outer_displaced-requires
 outer_displaced-requires c =
-    node_step c.requires (sym c.token_at-p.ensures ∙ c.in-Is.is) c.step_over-e.ensures
+    node_step c.requires (sym c.peek.ensures ∙ c.in-Some.is) (over_is (omega (arith, c.requires)) c.step_over.ensures)
 
-pub returns : goal.returns
+pub returns-clause-told : goal.returns-clause-told
 unfolding parse_outer sized_of
-returns c =
-    outer_hit (sym c.token_at-p.ensures ∙ c.in-Is.is) (eq-eqb _ Kinds.comma c.if-t-ne-COMMA.false) c.step_over-e.ensures (outer_no_index _ _ _ (sym c.is_an_index_at.ensures ∙ c.if-is_an_index_at.false) c.outer_displaced.ensures)
+returns-clause-told c =
+    outer_hit (sym c.peek.ensures ∙ c.in-Some.is) (eq-eqb _ Kinds.comma c.if-t-ne-COMMA.false) (over_is (omega (arith, c.requires)) c.step_over.ensures) (outer_no_index _ _ _ (sym c.is_an_index_at.ensures ∙ c.if-is_an_index_at.false) c.outer_displaced.ensures.told)

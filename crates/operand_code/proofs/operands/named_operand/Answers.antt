@@ -1,43 +1,67 @@
 -- `operand_code::operands::named_operand` meets its contract.
 -- Assumes nothing.
-use mathlib.Core.Path.{sym, ◌∙◌, ap}
+use mathlib.Core.Path.{refl, sym, ◌∙◌, ap}
 use native.Mathlib.Omega.{arith}
+use denote.Enum.Declared.{tag_of}
+use Rattle.std.proofs.Common.{◌≡◌, ◌+◌, Some}
+use Rattle.names.specs.Cases.{special_number}
+use Rattle.names.specs.contracts.registers.SpecialRegister.{the_type}
+use Rattle.names.specs.declared.registers.SpecialRegister.{SpecialRegister}
+use Rattle.names.specs.declared.registers.SpecialRegister.TheVariants.{Sr, Ccr, Usp, Sfc, Dfc, Vbr, Cacr, Caar, Msp, Isp}
 use Rattle.names.specs.Registers.{special_of}
-use Rattle.operand.specs.Operand.{name_or_expression}
-use Rattle.names.specs.Places.{live}
+use Rattle.records.specs.Counters.{over_is}
+use Rattle.operand.specs.Operand.{name_or_expression, parse_register_operand}
 use Rattle.expressions.specs.Paths.{renamed, hit, miss}
 use Rattle.operand_code.proofs.lookahead.Names.{reg_is, reg_not, reg_small}
 use Rattle.operand_code.proofs.Rooms.{room_step}
 use Rattle.operand_code.proofs.operands.Returns.{register_read, special_is, special_not, special_told}
 use Rattle.operand_code.proofs.operands.named_operand.Goals as goal
 
-pub step_over-e-requires : goal.step_over-e-requires
-step_over-e-requires c =
-    omega (arith, c.requires.0.room, live _ _ _ c.requires.2)
+-- its discriminant is its number
+special_code : (r : SpecialRegister) → special_number (Some r) ≡ tag_of the_type r + 1
+special_code Sr = refl
+special_code Ccr = refl
+special_code Usp = refl
+special_code Sfc = refl
+special_code Dfc = refl
+special_code Vbr = refl
+special_code Cacr = refl
+special_code Caar = refl
+special_code Msp = refl
+special_code Isp = refl
 
 pub parse_register_operand-requires : goal.parse_register_operand-requires
 parse_register_operand-requires c =
-    record { room = room_step c.requires.0.room c.requires.2 c.step_over-e.ensures; long = omega (arith, c.requires.0.nodes_long, c.requires.1, ap (λ z. z.at) c.step_over-e.ensures); none = ap (λ z. z.nodes) c.step_over-e.ensures ∙ c.requires.1; behind = omega (arith, ap (λ z. z.at) c.step_over-e.ensures); small = reg_small _ _ _ (sym c.register_at-r.ensures ∙ c.in-Is.is) }
+    record {
+      room = room_step c.requires.0.room c.requires.2 (over_is (omega (arith, c.requires.0)) c.step_over.ensures);
+      long = omega (arith, c.requires.0, c.requires.1, c.step_over.ensures);
+      none = c.step_over.ensures.nodes ∙ c.requires.1;
+      behind = omega (arith, c.requires.0, c.step_over.ensures);
+      small = rw c.register_of.ensures (reg_small _ _ _ (sym c.register_at.ensures ∙ c.in-Some.is));
+    }
 
-pub returns-in-Is : goal.returns-in-Is
+pub returns-in-Some-clause-told : goal.returns-in-Some-clause-told
 unfolding name_or_expression
-returns-in-Is c =
-    record { told = hit c.requires.2 (reg_is _ _ _ (sym c.register_at-r.ensures ∙ c.in-Is.is)) c.step_over-e.ensures (renamed (register_read _ _ _ (sym c.register_at-r.ensures ∙ c.in-Is.is) c.span_of.ensures) c.parse_register_operand.ensures.told) }
+returns-in-Some-clause-told c =
+    let q = sym c.register_at.ensures ∙ c.in-Some.is in
+    record {
+      told = hit c.requires.2 (reg_is _ _ _ q) (over_is (omega (arith, c.requires.0)) c.step_over.ensures)
+          (renamed (ap (parse_register_operand c.args.source.now.setting) c.register_of.ensures ∙ register_read _ _ _ q refl) c.parse_register_operand.ensures.told.told);
+    }
 
-pub step_over-requires : goal.step_over-requires
-step_over-requires c =
-    omega (arith, c.requires.0.room, live _ _ _ c.requires.2)
-
-pub parse_expression_operand-requires : goal.parse_expression_operand-requires
-parse_expression_operand-requires c =
-    (c.requires.0, c.requires.1)
-
-pub returns-in-Is-special : goal.returns-in-Is-special
+pub returns-in-Some-parse-clause-told : goal.returns-in-Some-parse-clause-told
 unfolding name_or_expression
-returns-in-Is-special c =
-    record { told = miss c.requires.2 (reg_not _ _ (sym c.register_at-r.ensures ∙ c.in_default.is)) (hit c.requires.2 (special_is c.args.token _ c.requires.3 (sym (c.parse-special.ensures.special ∙ ap special_of c.text_of.ensures) ∙ c.in-Is-special.is)) c.step_over.ensures (special_told _ c.args.c c.args.token _ c.requires.1 c.step_over.ensures (sym (c.parse-special.ensures.special ∙ ap special_of c.text_of.ensures) ∙ c.in-Is-special.is) c.span_of-in-Is-special.ensures c.special_register.ensures)) }
+returns-in-Some-parse-clause-told c =
+    let e = over_is (omega (arith, c.requires.0)) c.step_over-in-Some-parse.ensures in
+    let q = sym (c.parse.ensures.special ∙ ap special_of c.text_of.ensures) ∙ c.in-Some-parse.is in
+    record {
+      told = miss c.requires.2 (reg_not _ _ (sym c.register_at.ensures ∙ c.in_default.is))
+          (hit c.requires.2 (special_is c.args.token _ c.requires.3 q) e
+          (special_told _ c.args.out.now.counters c.args.token _ c.requires.1 e q (special_code c.in-Some-parse.n) c.span_of.ensures (ap Some c.special_register.ensures, refl)));
+    }
 
-pub returns-in-Not : goal.returns-in-Not
+pub returns-in-None-clause-told : goal.returns-in-None-clause-told
 unfolding name_or_expression
-returns-in-Not c =
-    record { told = miss c.requires.2 (reg_not _ _ (sym c.register_at-r.ensures ∙ c.in_default.is)) (miss c.requires.2 (special_not c.args.token _ c.requires.3 (sym (c.parse-special.ensures.special ∙ ap special_of c.text_of.ensures) ∙ c.in-Not.is)) c.parse_expression_operand.ensures.told) }
+returns-in-None-clause-told c =
+    let q = sym (c.parse.ensures.special ∙ ap special_of c.text_of.ensures) ∙ c.in-None.is in
+    record { told = miss c.requires.2 (reg_not _ _ (sym c.register_at.ensures ∙ c.in_default.is)) (miss c.requires.2 (special_not c.args.token _ c.requires.3 q) c.parse_expression_operand.ensures.told.told) }

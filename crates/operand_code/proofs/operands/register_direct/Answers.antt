@@ -3,15 +3,14 @@
 use mathlib.Core.Path.{◌∙◌}
 use borrow.Author.Tests.{le-leb, lt-leb}
 use Rattle.operand.specs.Operand.{register_direct}
-use Rattle.operand.specs.Forms.{record_of, operand_read}
+use Rattle.operand.specs.Forms.{record_of}
 use Rattle.operand_code.proofs.operands.register_direct.Goals as goal
-
-pub returns-then-r-lt8 : goal.returns-then-r-lt8
-unfolding record_of operand_read register_direct
-returns-then-r-lt8 c =
-    (c.an_operand.ensures.0 ∙ rw (c.plain_operand.ensures, lt-leb 8 c.args.r.index c.if-r-lt8.true), c.an_operand.ensures.1)
+use Rattle.operand_code.proofs.operands.register_direct.Goals.{then-r-lt8, else-r-lt8}
 
 pub returns : goal.returns
-unfolding record_of operand_read register_direct
+unfolding record_of register_direct
 returns c =
-    (c.an_operand-2.ensures.0 ∙ rw (c.plain_operand-2.ensures, le-leb 8 c.args.r.index c.if-r-lt8.false), c.an_operand-2.ensures.1)
+    elim c.if-r-lt8.branch [
+      | then-r-lt8 w ↦ c.plain_operand.ensures ∙ rw (w.form-is, lt-leb 8 c.args.r.index w.if-r-lt8.true)
+      | else-r-lt8 w ↦ c.plain_operand.ensures ∙ rw (w.form-is, le-leb 8 c.args.r.index w.if-r-lt8.false)
+    ]

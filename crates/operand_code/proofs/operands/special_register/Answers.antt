@@ -1,9 +1,10 @@
 -- `operand_code::operands::special_register` meets its contract.
 -- Assumes nothing.
-use Rattle.operand.specs.Forms.{record_of, operand_read}
+use mathlib.Core.Path.{refl}
+use Rattle.operand.specs.Forms.{record_of}
 use Rattle.operand_code.proofs.operands.special_register.Goals as goal
 
 pub returns : goal.returns
-unfolding record_of operand_read
+unfolding record_of
 returns c =
-    c.an_operand.ensures
+    refl

@@ -5,29 +5,21 @@ use native.Mathlib.Omega.{arith}
 use borrow.Author.Tests.{eq-eqb, ne_eqb}
 use Rattle.names.specs.Kinds
 use Rattle.operand.specs.Operand.{unexpected}
-use Rattle.expressions.specs.Paths.{raised, raised_as, raised_same, seen, other, beyond}
+use Rattle.expressions.specs.Paths.{told_one, raised, raised_as, raised_same, seen, other, beyond}
 use Rattle.operand_code.proofs.Holdings.{nothing_told}
 use Rattle.operand_code.proofs.parentheses.unexpected.Goals as goal
 
-pub returns-then-t-eq-ERROR : goal.returns-then-t-eq-ERROR
+pub returns-in_default-clause-told : goal.returns-in_default-clause-told
 unfolding unexpected
-returns-then-t-eq-ERROR c =
-    record { told = λ L y. seen (omega arith) (sym c.token_at-p.ensures ∙ c.in-Is.is) (eq-eqb _ Kinds.error c.if-t-eq-ERROR.true) (nothing_told y c.no_operand.ensures refl) }
+returns-in_default-clause-told c =
+    record { told = λ L y. beyond (omega arith) (sym c.peek.ensures ∙ c.in_default.is) (beyond (omega arith) (sym c.peek.ensures ∙ c.in_default.is) (raised (raised_as (rw (c.diagnostic.ensures, c.span_of-span.ensures)) (told_one (omega (arith, c.requires)) c.raise.ensures.told c.raise.ensures.counted)) (nothing_told y refl refl (raised_same (told_one (omega (arith, c.requires)) c.raise.ensures.told c.raise.ensures.counted))))) }
 
-pub raise-requires : goal.raise-requires
-raise-requires c =
-    omega (arith, c.requires)
-
-pub raise-requires-in-End : goal.raise-requires-in-End
-raise-requires-in-End c =
-    omega (arith, c.requires)
-
-pub returns-else-t-eq-ERROR : goal.returns-else-t-eq-ERROR
+pub returns-then-t-eq-ERROR-clause-told : goal.returns-then-t-eq-ERROR-clause-told
 unfolding unexpected
-returns-else-t-eq-ERROR c =
-    record { told = λ L y. other (omega arith) (sym c.token_at-p.ensures ∙ c.in-Is.is) (ne_eqb _ Kinds.error c.if-t-eq-ERROR.false) (seen (omega arith) (sym c.token_at-p.ensures ∙ c.in-Is.is) refl (raised (raised_as (rw (c.diagnostic-x.ensures, c.span_of-span.ensures)) c.raise.ensures) (nothing_told y c.no_operand-in-Is.ensures (raised_same c.raise.ensures)))) }
+returns-then-t-eq-ERROR-clause-told c =
+    record { told = λ L y. seen (omega arith) (sym c.peek.ensures ∙ c.in-Some.is) (eq-eqb _ Kinds.error c.if-t-eq-ERROR.true) (nothing_told y refl refl refl) }
 
-pub returns-in-End : goal.returns-in-End
+pub returns-clause-told : goal.returns-clause-told
 unfolding unexpected
-returns-in-End c =
-    record { told = λ L y. beyond (omega arith) (sym c.token_at-p.ensures ∙ c.in-End.is) (beyond (omega arith) (sym c.token_at-p.ensures ∙ c.in-End.is) (raised (raised_as (rw (c.diagnostic-x-in-End.ensures, c.span_of.ensures)) c.raise-in-End.ensures) (nothing_told y c.no_operand-in-End.ensures (raised_same c.raise-in-End.ensures)))) }
+returns-clause-told c =
+    record { told = λ L y. other (omega arith) (sym c.peek.ensures ∙ c.in-Some.is) (ne_eqb _ Kinds.error c.if-t-eq-ERROR.false) (seen (omega arith) (sym c.peek.ensures ∙ c.in-Some.is) refl (raised (raised_as (rw (c.diagnostic-2.ensures, c.span_of-span-2.ensures)) (told_one (omega (arith, c.requires)) c.raise-2.ensures.told c.raise-2.ensures.counted)) (nothing_told y refl refl (raised_same (told_one (omega (arith, c.requires)) c.raise-2.ensures.told c.raise-2.ensures.counted))))) }

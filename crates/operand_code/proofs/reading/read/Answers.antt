@@ -1,22 +1,15 @@
 -- `operand_code::reading::read` meets its contract.
 -- Assumes nothing.
-use mathlib.Core.Path.{refl}
 use native.Mathlib.Omega.{arith}
-use Rattle.operand_code.proofs.reading.Cleared.{first_room, operand_kept, nothing_kept}
+use Rattle.operand_code.proofs.reading.Cleared.{lent_back, operand_kept, nothing_kept}
 use Rattle.operand_code.proofs.reading.read.Goals as goal
 
-pub first-c-requires : goal.first-c-requires
-first-c-requires c =
-    omega (arith, c.requires.0)
+pub returns-in-Some : goal.returns-in-Some
+returns-in-Some c =
+    let f = c.operand_from-found in
+    operand_kept _ _ c.requires.0 c.requires.1 (rw c.first.ensures at f.ensures.told) (omega (arith, f.auto)) (lent_back f.ensures.lent search) c.in-Some.is c.clear_behind.ensures
 
-pub operand_from-r-requires : goal.operand_from-r-requires
-operand_from-r-requires c =
-    let h = c.first-c.ensures in rw h (first_room c.requires.0, refl, c.requires.1)
-
-pub returns-in-Is : goal.returns-in-Is
-returns-in-Is c =
-    operand_kept _ _ c.requires.0 c.requires.1 (rw c.first-c.ensures at c.operand_from-r.ensures) (omega (arith, c.operand_from-r.auto)) c.in-Is.is c.clear_behind.ensures
-
-pub returns-in-Not : goal.returns-in-Not
-returns-in-Not c =
-    nothing_kept _ _ c.requires.0 c.requires.1 (rw c.first-c.ensures at c.operand_from-r.ensures) (omega (arith, c.operand_from-r.auto)) c.in-Not.is c.nothing.ensures
+pub returns-in-None : goal.returns-in-None
+returns-in-None c =
+    let f = c.operand_from-found in
+    nothing_kept _ _ c.requires.0 c.requires.1 (rw c.first.ensures at f.ensures.told) (omega (arith, f.auto)) (lent_back f.ensures.lent search) c.in-None.is c.nothing.ensures

@@ -1,18 +1,33 @@
 -- `operand_code::suffixes::suffix_run` meets its contract.
 -- Assumes nothing.
 use mathlib.Core.Path.{refl, sym, ◌∙◌, ap}
+use native.Mathlib.Omega.{arith}
+use denote.Enum.Declared.{tag_of}
+use Rattle.std.proofs.Common.{◌≡◌, ◌+◌, Some}
+use Rattle.names.specs.Cases.{size_number}
 use Rattle.names.specs.Sizes.{run_of, size_of}
+use Rattle.names.specs.contracts.sizes.SizeSuffix.{the_type}
+use Rattle.names.specs.declared.sizes.SizeSuffix.{SizeSuffix}
+use Rattle.names.specs.declared.sizes.SizeSuffix.TheVariants.{Byte, Word, Long, Short}
+use Rattle.expressions.specs.Paths.{told_one}
 use Rattle.operand_code.proofs.indexes.Returns.{suffix_dotted, suffix_known, suffix_unknown}
 use Rattle.operand_code.proofs.suffixes.suffix_run.Goals as goal
 
-pub returns-then-run-ge2 : goal.returns-then-run-ge2
-returns-then-run-ge2 c =
-    λ T. suffix_dotted _ _ _ _ _ _ _ (c.suffix_run-run.ensures ∙ ap run_of c.text_of.ensures) c.if-run-ge2.true c.span_of-span.ensures c.diagnostic-x.ensures c.raise.ensures c.unknown.ensures
+-- its discriminant is its number
+size_code : (z : SizeSuffix) → size_number (Some z) ≡ tag_of the_type z + 1
+size_code Byte = refl
+size_code Word = refl
+size_code Long = refl
+size_code Short = refl
 
-pub returns-in-Is : goal.returns-in-Is
-returns-in-Is c =
-    λ T. suffix_known _ _ _ c.args.diagnostics.now _ _ _ (c.suffix_run-run.ensures ∙ ap run_of c.text_of.ensures) c.if-run-ge2.false c.span_of-span.ensures (sym (ap size_of (c.suffix_run-run.ensures ∙ ap run_of c.text_of.ensures)) ∙ sym c.from_run-size.ensures.size ∙ c.in-Is.is) refl refl
+pub returns-then-run-ge2-clause-told : goal.returns-then-run-ge2-clause-told
+returns-then-run-ge2-clause-told c =
+    suffix_dotted _ _ _ _ _ _ _ (c.suffix_run-run.ensures ∙ ap run_of c.text_of.ensures) c.if-run-ge2.true c.span_of-span.ensures c.diagnostic.ensures (told_one (omega (arith, c.requires)) c.raise.ensures.told c.raise.ensures.counted)
 
-pub returns-in-Not : goal.returns-in-Not
-returns-in-Not c =
-    λ T. suffix_unknown _ _ _ _ _ _ _ (c.suffix_run-run.ensures ∙ ap run_of c.text_of.ensures) c.if-run-ge2.false c.span_of-span.ensures (sym (ap size_of (c.suffix_run-run.ensures ∙ ap run_of c.text_of.ensures)) ∙ sym c.from_run-size.ensures.size ∙ c.in-Not.is) c.run_span-text.ensures c.diagnostic-x-in-Not.ensures c.raise-in-Not.ensures c.unknown-in-Not.ensures
+pub returns-in-Some-clause-told : goal.returns-in-Some-clause-told
+returns-in-Some-clause-told c =
+    suffix_known _ _ _ c.args.out.now.diagnostics.now _ _ _ (c.suffix_run-run.ensures ∙ ap run_of c.text_of.ensures) c.if-run-ge2.false c.span_of-span.ensures (sym (ap size_of (c.suffix_run-run.ensures ∙ ap run_of c.text_of.ensures)) ∙ sym c.from_run.ensures.size ∙ c.in-Some.is) (size_code c.in-Some.n)
+
+pub returns-in-None-clause-told : goal.returns-in-None-clause-told
+returns-in-None-clause-told c =
+    suffix_unknown _ _ _ _ _ _ _ (c.suffix_run-run.ensures ∙ ap run_of c.text_of.ensures) c.if-run-ge2.false c.span_of-span.ensures (sym (ap size_of (c.suffix_run-run.ensures ∙ ap run_of c.text_of.ensures)) ∙ sym c.from_run.ensures.size ∙ c.in-None.is) c.run_span-text.ensures c.diagnostic-in-None.ensures (told_one (omega (arith, c.requires)) c.raise-in-None.ensures.told c.raise-in-None.ensures.counted)

@@ -1,33 +1,13 @@
--- `records::nodes::clear_behind` meets its contract. The loop's invariant: what stands from the n-th record up to i is 0, and the rest is as it was.
+-- `records::nodes::clear_behind` meets its contract.
 -- Assumes nothing.
-use mathlib.Core.Path.{sym, ap, ◌∙◌}
-use Prim.Native.Nat.{◌*◌}
-use native.Mathlib.Omega.{arith}
-use lib.ListN.{set, length-set}
-use Rattle.records.specs.Stores.{cleared}
-use Rattle.records.specs.Written.{cleared_none, cleared_more, cleared_turned}
+use Rattle.std.proofs.Common.{refl, arith}
+use Rattle.records.specs.Written.{put_cleared, cleared_stays}
 use Rattle.records.proofs.nodes.clear_behind.Goals as goal
 
-pub returns-then-nodes-i : goal.returns-then-nodes-i
-returns-then-nodes-i c =
-    sym (cleared_turned _ _ _ (omega arith))
+pub returns-then-from-nodes : goal.returns-then-from-nodes
+returns-then-from-nodes c =
+    put_cleared _ _ _ _ _ (omega arith) (omega arith) refl (c.fill.ensures.after (λ y e. e))
 
-pub loop-i-init : goal.loop-i-init
-loop-i-init c =
-    (cleared_none _ _ (omega arith), omega arith, omega arith, omega arith)
-
-pub bounds-nodes-i : goal.bounds-nodes-i
-bounds-nodes-i c =
-    omega arith
-
-pub loop-i-smaller : goal.loop-i-smaller
-loop-i-smaller c =
-    simp length-set (omega arith)
-
-pub loop-i-preserved : goal.loop-i-preserved
-loop-i-preserved c =
-    (ap (λ x. set x c.loop-i.i 0) c.loop-i.invariant.0 ∙ cleared_more c.args.nodes.now (10 * c.args.n) c.loop-i.i (omega arith) (omega arith), omega arith, omega arith, simp length-set (omega arith))
-
-pub returns : goal.returns
-returns c =
-    c.loop-i.invariant.0 ∙ ap (cleared c.args.nodes.now (10 * c.args.n)) (omega arith)
+pub returns-else-from-nodes : goal.returns-else-from-nodes
+returns-else-from-nodes c =
+    cleared_stays _ _ _ (λ h k. omega arith)

@@ -1,33 +1,17 @@
--- `records::stores::write` meets its contract. The loop's invariant: the first i numbers are written.
+-- `records::stores::write` meets its contract.
 -- Assumes nothing.
-use mathlib.Core.Path.{sym, ◌∙◌, ap}
-use Prim.Native.Nat.{◌+◌}
-use native.Mathlib.Omega.{arith}
-use lib.ListN.{length, get_or, set}
-use lib.Seq.{paste-zero, length-paste}
-use Rattle.records.specs.Written.{paste_on, paste_all, written_not}
+use Rattle.std.proofs.Common.{sym, arith}
+use Rattle.records.specs.Written.{written_not, put_written}
 use Rattle.records.proofs.stores.write.Goals as goal
 
-pub returns-then-store-numbers : goal.returns-then-store-numbers
-returns-then-store-numbers c =
-    sym (written_not c.args.store.now c.args.at c.args.numbers.now (omega arith))
+pub returns-then-store-items : goal.returns-then-store-items
+returns-then-store-items g c =
+    sym (written_not _ _ _ (omega arith))
 
-pub returns-then-store-numbers-2 : goal.returns-then-store-numbers-2
-returns-then-store-numbers-2 c =
-    sym (written_not c.args.store.now c.args.at c.args.numbers.now (omega arith))
-
-pub loop-i-init : goal.loop-i-init
-loop-i-init c =
-    (omega arith, omega arith, paste-zero c.args.store.now c.args.at c.args.numbers.now)
-
-pub bounds-store-at : goal.bounds-store-at
-bounds-store-at c =
-    omega (arith, ap length c.loop-i.invariant.2 ∙ length-paste c.args.store.now c.args.at c.args.numbers.now c.loop-i.i (omega arith) (omega arith), c.loop-i.invariant.1)
-
-pub loop-i-preserved : goal.loop-i-preserved
-loop-i-preserved c =
-    (omega arith, c.loop-i.invariant.1, ap (λ l. set l (c.args.at + c.loop-i.i) (get_or c.args.numbers.now c.loop-i.i 0)) c.loop-i.invariant.2 ∙ paste_on c.args.store.now c.args.at c.args.numbers.now c.loop-i.i (omega arith) (omega arith))
+pub returns-then-store-items-2 : goal.returns-then-store-items-2
+returns-then-store-items-2 g c =
+    sym (written_not _ _ _ (omega arith))
 
 pub returns : goal.returns
-returns c =
-    c.loop-i.invariant.2 ∙ paste_all c.args.store.now c.args.at c.args.numbers.now c.loop-i.i (omega arith) (omega arith)
+returns g c =
+    put_written _ _ _ _ _ c.copy_from_slice.ensures.after (omega arith) (omega arith)

@@ -1,16 +1,11 @@
 -- `refusals::refusals::out_of_range` meets its contract.
 -- Assumes nothing.
 use native.Mathlib.Omega.{arith}
-use borrow.Author.Tests.{lt-ltb, le-ltb}
+use borrow.Author.Tests.{le-ltb}
 use Rattle.operand.specs.Entry.{highest_limit}
 use Rattle.refusals.proofs.refusals.out_of_range.Goals as goal
 
-pub returns-then-limit-lt-LOWEST_LIMIT : goal.returns-then-limit-lt-LOWEST_LIMIT
+pub returns-else-limit-lt-LOWEST_LIMIT : goal.returns-else-limit-lt-LOWEST_LIMIT
 unfolding highest_limit
-returns-then-limit-lt-LOWEST_LIMIT c =
-    rw (lt-ltb c.args.limit 1 (omega (arith, c.if-limit-lt-LOWEST_LIMIT.true)))
-
-pub returns : goal.returns
-unfolding highest_limit
-returns c =
+returns-else-limit-lt-LOWEST_LIMIT c =
     rw (le-ltb c.args.limit 1 (omega (arith, c.if-limit-lt-LOWEST_LIMIT.false)))

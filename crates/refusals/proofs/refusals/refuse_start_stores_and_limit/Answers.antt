@@ -1,4 +1,4 @@
--- `refusals::refusals::refuse_start_stores_and_limit` meets its contract: each test fails up to the one whose number is returned.
+-- `refusals::refusals::refuse_start_stores_and_limit` meets its contract: each test fails up to the one whose refusal is returned.
 -- Assumes nothing.
 use mathlib.Core.Path.{sym, ◌∙◌}
 use native.Mathlib.Omega.{arith}

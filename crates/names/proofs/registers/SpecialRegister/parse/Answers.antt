@@ -1,7 +1,6 @@
 -- `names::registers::SpecialRegister::parse` meets its contract.
 -- Assumes nothing.
-use mathlib.Core.Path.{sym}
-use native.Mathlib.Omega.{arith}
+use Rattle.std.proofs.Common.{sym, arith}
 use Rattle.names.proofs.Cases.{told_special}
 use Rattle.names.proofs.registers.Specials.{special_other}
 use Rattle.names.proofs.registers.SpecialRegister.parse.Goals as goal

@@ -1,9 +1,0 @@
--- `frames::reply::answer_long` meets its contract.
--- Assumes nothing.
-use native.Mathlib.Omega.{arith}
-use Rattle.frames.proofs.batches.Turns.{wide_stores}
-use Rattle.frames.proofs.reply.answer_long.Goals as goal
-
-pub answer_digits-requires : goal.answer_digits-requires
-answer_digits-requires c =
-    let s = wide_stores in record { fits = omega (arith, c.requires.0); stores = record { nodes_long = omega (arith, s.0); diagnostics_long = omega (arith, s.1); room = c.requires.1 } }
