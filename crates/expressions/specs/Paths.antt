@@ -2,10 +2,11 @@
 -- Assumes nothing.
 use Rattle.std.proofs.Math.Path.{◌≡◌, refl, ap}
 use Rattle.std.proofs.Common.{Some, None, sym, ◌∙◌, ap₂, subst, arith, length-append}
-use Rattle.std.specs.Prelude.{Bool, false, List, ℕ, ◌+◌, ◌*◌, ◌<◌, length}
+use Rattle.std.specs.Prelude.{Bool, false, Option, List, ℕ, ◌+◌, ◌*◌, ◌<◌, eqb, length}
+use Rattle.std.specs.Bool.{then_some}
 use Rattle.std.proofs.Math.Bool.{true}
 use Rattle.names.specs.Tokens.{token_at}
-use Rattle.names.specs.Places.{Place, nothing, stands, text_of, place, there, nowhere}
+use Rattle.names.specs.Places.{Place, nothing, stands, text_of, placed, place, there, nowhere}
 use Rattle.names.specs.declared.tokens.Token.{Token}
 use Rattle.records.specs.declared.diagnostics.Diagnostic.{Diagnostic}
 use Rattle.records.specs.declared.counters.Counters.{Counters}
@@ -14,7 +15,7 @@ use Rattle.records.specs.Stores.{written, added}
 use Rattle.records.specs.Written.{added_append}
 use Rattle.records.specs.Counters.{stepped, OneMore, counters_are}
 use Rattle.expressions.specs.Laws.{holds, met_yes, met_no}
-use Rattle.expressions.specs.Reader.{Test, Reading, Reader, answer, here, raise, bump, peek, ◌>>=◌, choose, run}
+use Rattle.expressions.specs.Reader.{Test, is, of_kind, Reading, Reader, answer, here, raise, bump, peek, ◌>>=◌, choose, run}
 use Rattle.expressions.specs.Told.{Raised, RaisedOver, over, ended, Told, Same}
 
 -- ---- a test that fails
@@ -26,6 +27,28 @@ fails t p k x h q = rw h q
 pub fails_end : (t : Test) (p : Place) → p ≡ nothing → holds t p ≡ false
 unfolding holds
 fails_end t p h = rw h
+
+-- ---- a token of a kind
+
+pub kind_token : (kind : ℕ) (o : Option Token) {k : Token} → of_kind kind o ≡ Some k → (o ≡ Some k) × (eqb k.kind kind ≡ true)
+unfolding of_kind
+kind_token kind None e = let z : ◌≡◌ {A = ℕ} 0 1 = cc in absurd (omega arith)
+kind_token kind (Some m) {k} e = go (eqb m.kind kind) refl e
+  where
+    go : (b : Bool) → eqb m.kind kind ≡ b → then_some b m ≡ Some k → (Some m ≡ Some k) × (eqb k.kind kind ≡ true)
+    go true q h = let s : m ≡ k = cc in (h, rw (← s) q)
+    go false q h = let z : ◌≡◌ {A = ℕ} 0 1 = cc in absurd (omega arith)
+
+pub no_kind : (kind : ℕ) (L T : List ℕ) (i : ℕ) → of_kind kind (token_at T i) ≡ None → holds (is kind) (place L T i) ≡ false
+unfolding of_kind place placed holds
+no_kind kind L T i e = go (token_at T i) e
+  where
+    no : (k : Token) (b : Bool) → eqb k.kind kind ≡ b → then_some b k ≡ None → eqb k.kind kind ≡ false
+    no k true q g = let z : ◌≡◌ {A = ℕ} 0 1 = cc in absurd (omega arith)
+    no k false q g = q
+    go : (o : Option Token) → of_kind kind o ≡ None → holds (is kind) (placed L o) ≡ false
+    go None h = refl
+    go (Some k) h = no k (eqb k.kind kind) refl h
 
 -- ---- a diagnostic that is raised
 
@@ -193,6 +216,22 @@ module _ {A E : Type 0} {f : A → E} {Q : A → Counters → Type 0} {L T D D' 
       go : (b : Bool) → holds t (place L T (c.at + a)) ≡ b → Told f Q (peek a t y n) L T D D' c v r
       go true e = passed e g
       go false e = unseen e h
+
+-- the same by the kind that the code asks for
+module _ {A E : Type 0} {f : A → E} {Q : A → Counters → Type 0} {L T D D' : List ℕ} {c : Counters} {v : E} {r : Counters} (kind : ℕ) {y : Token → List ℕ → Reader A} {n : Unit {0} → Reader A} where
+  pub hit_kind : {k : Token} {c₁ : Counters} → of_kind kind (token_at T c.at) ≡ Some k → c₁ ≡ stepped c k
+      → Told f Q (y k (text_of L k.start k.end)) L T D D' c₁ v r → Told f Q (bump (is kind) y n) L T D D' c v r
+  hit_kind e s g = let h = kind_token kind _ e in hit h.0 h.1 s g
+
+  pub miss_kind : of_kind kind (token_at T c.at) ≡ None → Told f Q (n tt) L T D D' c v r → Told f Q (bump (is kind) y n) L T D D' c v r
+  miss_kind e g = missed (no_kind kind L T c.at e) g
+
+  pub seen_kind : {a j : ℕ} {k : Token} → j ≡ c.at + a → of_kind kind (token_at T j) ≡ Some k
+      → Told f Q (y k (text_of L k.start k.end)) L T D D' c v r → Told f Q (peek a (is kind) y n) L T D D' c v r
+  seen_kind i e g = let h = kind_token kind _ e in seen i h.0 h.1 g
+
+  pub unseen_kind : {a j : ℕ} → j ≡ c.at + a → of_kind kind (token_at T j) ≡ None → Told f Q (n tt) L T D D' c v r → Told f Q (peek a (is kind) y n) L T D D' c v r
+  unseen_kind {a} i e g = unseen (no_kind kind L T (c.at + a) (subst (λ z. of_kind kind (token_at T z) ≡ None) i e)) g
 
 -- a token is stepped over, and no node is written
 pub hit_same : {A E : Type 0} {f : A → E} {L T D D' : List ℕ} {c : Counters} {v : E} {r : Counters} {t : Test} {y : Token → List ℕ → Reader A} {n : Unit {0} → Reader A} {k : Token} {c₁ : Counters}

@@ -1,6 +1,7 @@
 -- A reader as data: what it may do with the tokens, and nothing else.
 -- Assumes nothing.
-use Rattle.std.specs.Prelude.{Bool, true, false, List, [], ◌∷◌, ◌++◌, ℕ, ◌+◌, max, eqb}
+use Rattle.std.specs.Prelude.{Bool, true, false, Option, Some, None, List, [], ◌∷◌, ◌++◌, ℕ, ◌+◌, max, eqb}
+use Rattle.std.specs.Bool.{then_some}
 use Rattle.names.specs.Places.{Place, nothing, stands}
 use Rattle.names.specs.declared.tokens.Token.{Token}
 use Rattle.records.specs.declared.diagnostics.Diagnostic.{Diagnostic}
@@ -18,6 +19,11 @@ Test = Token → List ℕ → Bool
 
 abbrev pub is : ℕ → Test
 is kind k x = eqb k.kind kind
+
+-- the token, if it is of this kind
+unfoldable pub of_kind : ℕ → Option Token → Option Token
+of_kind kind None = None
+of_kind kind (Some k) = then_some (eqb k.kind kind) k
 
 abbrev pub any : Test
 any k x = true

@@ -2,10 +2,12 @@
 ghost use Rattle.std.specs.Prelude.{◌≡◌};
 ghost use Rattle.names.specs.Places.{text_of};
 ghost use Rattle.names.specs.Tokens.{token_at};
+ghost use Rattle.records.specs.Spans.{span};
+ghost use Rattle.expressions.specs.Reader.{of_kind};
 
 use crate::reading::Setting;
 use names::Token;
-use records::Counters;
+use records::{Counters, Span};
 
 // The lent line, the numbers of its tokens, and the setting. Nothing of it changes, so it is lent and not copied.
 #[derive(Clone, Copy)]
@@ -28,6 +30,32 @@ impl<'a, 'b> Source<'a, 'b> {
         ensures { result ≡ token_at self.now.tokens.now c.at }
     {
         self.token_at(usize::from(c.at))
+    }
+
+    // The token at a place, if it is of this kind.
+    #[tactic(auto, unfolding(crate::specs::Reader::of_kind))]
+    pub fn token_of_kind(&self, i: usize, kind: u16) -> Option<Token>
+        ensures { result ≡ of_kind kind (token_at self.now.tokens.now i) }
+    {
+        match self.token_at(i) {
+            Some(token) if token.kind == kind => Some(token),
+            _ => None,
+        }
+    }
+
+    // The token at the cursor, if it is of this kind.
+    pub fn peek_kind(&self, c: Counters, kind: u16) -> Option<Token>
+        ensures { result ≡ of_kind kind (token_at self.now.tokens.now c.at) }
+    {
+        self.token_of_kind(usize::from(c.at), kind)
+    }
+
+    // From where the operand starts to an offset.
+    pub fn span_to(&self, end: u16) -> Span
+        ensures { result ≡ span self.now.setting.start end }
+    {
+        let start = self.setting.start;
+        Span { start, end }
     }
 
     // A token's text.

@@ -1,6 +1,7 @@
 -- The kinds of diagnostics: those of the Rust's `DiagnosticKind` that `parse_operand` raises, from 1 in the enum's order.
 -- Assumes nothing.
 use Rattle.std.specs.Prelude.{ℕ}
+use Rattle.records.specs.declared.diagnostic_kinds.DiagnosticKind.{DiagnosticKind}
 
 abbrev pub number_too_large : ℕ
 number_too_large = 1
@@ -40,3 +41,19 @@ expression_expected = 12
 
 abbrev pub plus_is_not_a_unary_operator : ℕ
 plus_is_not_a_unary_operator = 13
+
+-- the number of each
+abbrev pub number : DiagnosticKind → ℕ
+number DiagnosticKind.NumberTooLarge = number_too_large
+number DiagnosticKind.UnknownSizeSuffix = unknown_size_suffix
+number DiagnosticKind.DotInName = dot_in_name
+number DiagnosticKind.OperandExpected = operand_expected
+number DiagnosticKind.UnclosedParenthesis = unclosed_parenthesis
+number DiagnosticKind.NestingTooDeep = nesting_too_deep
+number DiagnosticKind.MalformedOperand = malformed_operand
+number DiagnosticKind.UnexpectedTokenInOperand = unexpected_token_in_operand
+number DiagnosticKind.RegisterExpectedInRegisterList = register_expected_in_register_list
+number DiagnosticKind.RegisterRangeOutOfOrder = register_range_out_of_order
+number DiagnosticKind.RegisterInExpression = register_in_expression
+number DiagnosticKind.ExpressionExpected = expression_expected
+number DiagnosticKind.PlusIsNotAUnaryOperator = plus_is_not_a_unary_operator

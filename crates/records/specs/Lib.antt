@@ -5,6 +5,7 @@ pub mod DiagnosticKinds
 pub mod Shapes
 pub mod Problems
 pub mod Diagnostics
+pub mod NodeKinds
 pub mod Nodes
 -- what is asked and told
 pub mod Counters

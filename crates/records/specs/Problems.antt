@@ -2,6 +2,7 @@
 -- and the signs that kind 9 has in a problem's place.
 -- Assumes nothing.
 use Rattle.std.specs.Prelude.{ℕ}
+use Rattle.records.specs.declared.problems.Problem.{Problem}
 
 -- of a kind that has none
 abbrev pub no_problem : ℕ
@@ -58,3 +59,19 @@ after_minus = 45
 -- `/`
 abbrev pub after_slash : ℕ
 after_slash = 47
+
+-- the number of each
+abbrev pub number : Problem → ℕ
+number Problem.ImmediateCarriesNoSize = immediate_carries_no_size
+number Problem.NotAnAddressRegister = not_an_address_register
+number Problem.ParenMissing = paren_missing
+number Problem.TheDisplacementMissing = the_displacement_missing
+number Problem.BaseMissing = base_missing
+number Problem.IndexMissing = index_missing
+number Problem.BadScale = bad_scale
+number Problem.BracketMissing = bracket_missing
+number Problem.IndexTwice = index_twice
+number Problem.ADisplacementMissing = a_displacement_missing
+number Problem.BaseOrIndexMissing = base_or_index_missing
+number Problem.AfterMinus = after_minus
+number Problem.AfterSlash = after_slash

@@ -1,6 +1,7 @@
 -- The shapes of operands that a malformed one is told by: the Rust's `OperandShape`, from 1 in the enum's order.
 -- Assumes nothing.
 use Rattle.std.specs.Prelude.{ℕ}
+use Rattle.records.specs.declared.shapes.OperandShape.{OperandShape}
 
 -- of a kind that has none
 abbrev pub no_shape : ℕ
@@ -61,3 +62,20 @@ register_pair = 13
 -- `d0{4:8}`
 abbrev pub bit_field : ℕ
 bit_field = 14
+
+-- the number of each
+abbrev pub number : OperandShape → ℕ
+number OperandShape.Immediate = immediate
+number OperandShape.Indirect = indirect
+number OperandShape.Postincrement = postincrement
+number OperandShape.Predecrement = predecrement
+number OperandShape.Displacement = displacement
+number OperandShape.Index = index
+number OperandShape.PcDisplacement = pc_displacement
+number OperandShape.PcIndex = pc_index
+number OperandShape.MemoryIndirect = memory_indirect
+number OperandShape.Absolute = absolute
+number OperandShape.RegisterList = register_list
+number OperandShape.GroupedExpression = grouped_expression
+number OperandShape.RegisterPair = register_pair
+number OperandShape.BitField = bit_field

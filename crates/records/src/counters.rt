@@ -11,7 +11,7 @@ pub const MOST_COUNTED: usize = 65535;
 
 // What is read so far: the cursor, the end of the last token, and how many records the stores hold. One machine word, so that it
 // travels in a register.
-#[derive(Clone, Copy)]
+#[derive(Clone, Copy, Default)]
 pub struct Counters {
     pub at: u16,
     pub end: u16,

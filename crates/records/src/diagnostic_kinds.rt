@@ -1,27 +1,29 @@
-// The kinds of diagnostics: those of the Rust's `DiagnosticKind` that `parse_operand` raises, from 1 in the enum's order.
-// Numbers, not an enum: a diagnostic that a caller gives may hold any, and an enum would ask more.
-pub const NUMBER_TOO_LARGE: u16 = 1;
+// The kinds of diagnostics: those of the Rust's `DiagnosticKind` that `parse_operand` raises, in its order.
+ghost use Rattle.std.specs.Prelude.{◌≡◌};
+ghost use Rattle.records.specs.DiagnosticKinds;
 
-pub const UNKNOWN_SIZE_SUFFIX: u16 = 2;
+#[derive(Clone, Copy, PartialEq, Eq, Debug)]
+pub enum DiagnosticKind {
+    NumberTooLarge = 1,
+    UnknownSizeSuffix,
+    DotInName,
+    OperandExpected,
+    UnclosedParenthesis,
+    NestingTooDeep,
+    MalformedOperand,
+    UnexpectedTokenInOperand,
+    RegisterExpectedInRegisterList,
+    RegisterRangeOutOfOrder,
+    RegisterInExpression,
+    ExpressionExpected,
+    PlusIsNotAUnaryOperator,
+}
 
-pub const DOT_IN_NAME: u16 = 3;
+// The number that a record has.
+impl From<DiagnosticKind> for u16 {
+    ghost from_gives = { λ x n. n ≡ DiagnosticKinds.number x };
 
-pub const OPERAND_EXPECTED: u16 = 4;
-
-pub const UNCLOSED_PARENTHESIS: u16 = 5;
-
-pub const NESTING_TOO_DEEP: u16 = 6;
-
-pub const MALFORMED_OPERAND: u16 = 7;
-
-pub const UNEXPECTED_TOKEN_IN_OPERAND: u16 = 8;
-
-pub const REGISTER_EXPECTED_IN_REGISTER_LIST: u16 = 9;
-
-pub const REGISTER_RANGE_OUT_OF_ORDER: u16 = 10;
-
-pub const REGISTER_IN_EXPRESSION: u16 = 11;
-
-pub const EXPRESSION_EXPECTED: u16 = 12;
-
-pub const PLUS_IS_NOT_A_UNARY_OPERATOR: u16 = 13;
+    fn from(x: DiagnosticKind) -> u16 {
+        x as u16
+    }
+}

@@ -2,20 +2,25 @@
 #![tactic(auto)]
 
 mod counters;
-pub mod diagnostic_kinds;
+mod diagnostic_kinds;
 mod diagnostics;
+mod node_kinds;
 mod nodes;
-pub mod problems;
+mod problems;
 mod progress;
 mod reports;
-pub mod shapes;
+mod shapes;
 mod spans;
 mod stores;
 
 pub use counters::{Counters, MOST_COUNTED, MOST_TOKENS};
+pub use diagnostic_kinds::DiagnosticKind;
 pub use diagnostics::Diagnostic;
-pub use nodes::{clear_behind, clear_nodes, put_node, widen};
+pub use node_kinds::NodeKind;
+pub use nodes::{ABSENT, clear_behind, clear_nodes, put_node, widen};
 pub use progress::Progress;
-pub use reports::{diagnostic, push_diagnostic};
-pub use spans::{Span, span_of};
+pub use problems::Problem;
+pub use reports::{diagnostic, malformed, plain, push_diagnostic};
+pub use shapes::OperandShape;
+pub use spans::Span;
 pub use stores::write;

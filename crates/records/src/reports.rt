@@ -1,13 +1,22 @@
-// A diagnostic made, and its record written. Its number widens by `as`, as those of nodes.rt do.
+// Diagnostics made, and their records written.
 ghost use Rattle.std.specs.Prelude.{◌≡◌, ◌*◌};
-ghost use Rattle.records.specs.Diagnostics.{diagnostic, diagnostic_record};
+ghost use Rattle.records.specs.DiagnosticKinds;
+ghost use Rattle.records.specs.Diagnostics.{diagnostic, diagnostic_record, plain, malformed_operand};
+ghost use Rattle.records.specs.Problems;
+ghost use Rattle.records.specs.Shapes;
 ghost use Rattle.records.specs.Stores.{written};
 
+use crate::diagnostic_kinds::DiagnosticKind;
 use crate::diagnostics::Diagnostic;
+use crate::problems::Problem;
+use crate::shapes::OperandShape;
 use crate::spans::Span;
 use crate::stores::write;
 
-// A diagnostic that points at no other span.
+// The number in a shape's or a problem's place, of a kind that has none.
+const NONE: u16 = 0;
+
+// A diagnostic that points at no other span. Its numbers may be any.
 pub fn diagnostic(kind: u16, shape: u16, problem: u16, span: Span, text: Span) -> Diagnostic
     ensures { result ≡ diagnostic kind shape problem span text }
 {
@@ -17,9 +26,24 @@ pub fn diagnostic(kind: u16, shape: u16, problem: u16, span: Span, text: Span) -
         problem,
         span,
         text,
-        related: Span { start: 0, end: 0 },
+        related: Span::default(),
         has_related: 0,
     }
+}
+
+// A diagnostic of a kind that has no shape and no problem.
+pub fn plain(kind: DiagnosticKind, span: Span, text: Span) -> Diagnostic
+    ensures { result ≡ plain (DiagnosticKinds.number kind) span text }
+{
+    diagnostic(u16::from(kind), NONE, NONE, span, text)
+}
+
+// A malformed operand.
+pub fn malformed(shape: OperandShape, problem: Problem, span: Span, text: Span) -> Diagnostic
+    ensures { result ≡ malformed_operand (Shapes.number shape) (Problems.number problem) span text }
+{
+    let kind = u16::from(DiagnosticKind::MalformedOperand);
+    diagnostic(kind, u16::from(shape), u16::from(problem), span, text)
 }
 
 // Writes the diagnostic record d, where it fits.
@@ -38,5 +62,5 @@ pub fn push_diagnostic(diagnostics: &mut [u16], d: u16, x: Diagnostic)
         x.related.end,
         x.has_related,
     ];
-    write(diagnostics, 10 * (d as usize), &record);
+    write(diagnostics, 10 * usize::from(d), &record);
 }

@@ -1,24 +1,35 @@
 // Spans of the line.
 ghost use Rattle.std.specs.Prelude.{◌≡◌};
-ghost use Rattle.records.specs.Spans.{span_of};
+ghost use Rattle.records.specs.Spans.{empty, span_of};
 
 use names::Token;
 
-// Byte offsets in the line, the end excluded.
-#[derive(Clone, Copy)]
+// Byte offsets in the line, the end excluded. Where a record has no span, both are 0.
+#[derive(Clone, Copy, Default)]
 pub struct Span {
     pub start: u16,
     pub end: u16,
 }
 
+impl Span {
+    // The empty span at an offset.
+    pub fn empty(at: u16) -> Span
+        ensures { result ≡ empty at }
+    {
+        Span { start: at, end: at }
+    }
+}
+
 // The span of a token.
-pub fn span_of(token: Token) -> Span
-    ensures { result ≡ span_of token }
-{
-    let first = token.start;
-    let last = token.end;
-    Span {
-        start: first,
-        end: last,
+impl From<Token> for Span {
+    ghost from_gives = { λ token s. s ≡ span_of token };
+
+    fn from(token: Token) -> Span {
+        let first = token.start;
+        let last = token.end;
+        Span {
+            start: first,
+            end: last,
+        }
     }
 }
