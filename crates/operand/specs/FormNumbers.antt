@@ -1,6 +1,7 @@
 -- The forms of operands: the Rust's `Operand`, from 1 in the enum's order.
 -- Assumes nothing.
 use Rattle.std.specs.Prelude.{ℕ}
+use Rattle.operand.specs.declared.form_numbers.Form.{Form}
 
 abbrev pub immediate : ℕ
 immediate = 1
@@ -43,3 +44,20 @@ absolute = 13
 
 abbrev pub register_list : ℕ
 register_list = 14
+
+-- the number of each
+abbrev pub number : Form → ℕ
+number Form.Immediate = immediate
+number Form.DataRegisterDirect = data_register_direct
+number Form.AddressRegisterDirect = address_register_direct
+number Form.SpecialRegister = special_register
+number Form.Indirect = indirect
+number Form.Postincrement = postincrement
+number Form.Predecrement = predecrement
+number Form.Displacement = displacement
+number Form.Index = index
+number Form.PcDisplacement = pc_displacement
+number Form.PcIndex = pc_index
+number Form.FullIndex = full_index
+number Form.Absolute = absolute
+number Form.RegisterList = register_list

@@ -1,29 +1,30 @@
-// The forms of operands: the Rust's `Operand`, from 1 in the enum's order.
-// Numbers, not an enum: a record that a caller gives may hold any form.
-pub const IMMEDIATE: u8 = 1;
+// The forms of operands: those of the Rust's `Operand`, in its order. What a given record has is a number: it may be any.
+ghost use Rattle.std.specs.Prelude.{◌≡◌};
+ghost use Rattle.operand.specs.FormNumbers;
 
-pub const DATA_REGISTER_DIRECT: u8 = 2;
+#[derive(Clone, Copy, PartialEq, Eq, Debug)]
+pub enum Form {
+    Immediate = 1,
+    DataRegisterDirect,
+    AddressRegisterDirect,
+    SpecialRegister,
+    Indirect,
+    Postincrement,
+    Predecrement,
+    Displacement,
+    Index,
+    PcDisplacement,
+    PcIndex,
+    FullIndex,
+    Absolute,
+    RegisterList,
+}
 
-pub const ADDRESS_REGISTER_DIRECT: u8 = 3;
+// The number that a record has.
+impl From<Form> for u8 {
+    ghost from_gives = { λ x n. n ≡ FormNumbers.number x };
 
-pub const SPECIAL_REGISTER: u8 = 4;
-
-pub const INDIRECT: u8 = 5;
-
-pub const POSTINCREMENT: u8 = 6;
-
-pub const PREDECREMENT: u8 = 7;
-
-pub const DISPLACEMENT: u8 = 8;
-
-pub const INDEX: u8 = 9;
-
-pub const PC_DISPLACEMENT: u8 = 10;
-
-pub const PC_INDEX: u8 = 11;
-
-pub const FULL_INDEX: u8 = 12;
-
-pub const ABSOLUTE: u8 = 13;
-
-pub const REGISTER_LIST: u8 = 14;
+    fn from(x: Form) -> u8 {
+        x as u8
+    }
+}

@@ -65,7 +65,8 @@ pub struct OperandStep {
     pub counters: Counters,
 }
 
-// A size suffix: its size, 0 for one that is not known, and its span.
+// A size suffix: its size, 0 for one that is not known, and its span. The size is the record's byte, as in `Sized` and `IndexRegister`, which take
+// it as it is: an `Option` would be made the same number in each of them.
 #[derive(Clone, Copy)]
 pub struct Suffixed {
     pub size: u8,
