@@ -2,7 +2,7 @@
 ghost use Rattle.std.specs.Prelude.{◌≡◌};
 ghost use Rattle.names.specs.Places.{text_of};
 ghost use Rattle.names.specs.Tokens.{token_at};
-ghost use Rattle.records.specs.Spans.{span};
+ghost use Rattle.records.specs.Spans.{span, span_or};
 ghost use Rattle.expressions.specs.Reader.{of_kind};
 
 use crate::reading::Setting;
@@ -48,6 +48,14 @@ impl<'a, 'b> Source<'a, 'b> {
         ensures { result ≡ of_kind kind (token_at self.now.tokens.now c.at) }
     {
         self.token_of_kind(usize::from(c.at), kind)
+    }
+
+    // The span of the token at the cursor, or the empty one where the last token ended.
+    #[tactic(auto, unfolding(records::specs::Spans::span_or))]
+    pub fn span_at(&self, c: Counters) -> Span
+        ensures { result ≡ span_or (token_at self.now.tokens.now c.at) c.end }
+    {
+        self.peek(c).map_or(Span::empty(c.end), Span::from)
     }
 
     // From where the operand starts to an offset.

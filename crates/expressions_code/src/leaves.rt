@@ -3,19 +3,16 @@ ghost use Rattle.std.specs.Prelude.{◌≡◌, ◌+◌, ◌*◌, ◌<◌};
 ghost use Rattle.names.specs.Places.{text_of};
 ghost use Rattle.names.specs.Registers.{reserved};
 ghost use Rattle.expressions.specs.Expressions.{number_term, named, leaf_term};
+ghost use Rattle.records.specs.NodeKinds;
 ghost use Rattle.records.specs.Nodes.{node_record, words};
 ghost use Rattle.records.specs.Stores.{PutAsks};
 ghost use Rattle.expressions_code.specs.Terms.{LeafAsks, LeafTold, NodeTold, ReaderBy, TokenBy};
 
-use crate::reports::{plain, report};
+use crate::reports::report;
 use crate::terms::TermError;
 use expressions::Source;
 use names::{NumberError, Token, kinds};
-use records::diagnostic_kinds::{NUMBER_TOO_LARGE, REGISTER_IN_EXPRESSION};
-use records::{Counters, Progress, Span, put_node, span_of};
-
-// No child: a number, not an `Option`, as the record's bytes have it (docs/FORMAT.md).
-pub(crate) const ABSENT: u16 = 65535;
+use records::{ABSENT, Counters, DiagnosticKind, NodeKind, Progress, Span, plain, put_node};
 
 // A name's or a literal's own span, as the last four words of its record hold it.
 pub(crate) fn own(span: Span) -> u64
@@ -28,14 +25,15 @@ pub(crate) fn own(span: Span) -> u64
 pub(crate) fn read_leaf(
     nodes: &mut [u16],
     c: &mut Counters,
-    kind: u16,
+    kind: NodeKind,
     detail: u16,
     span: Span,
     value: u64,
 ) -> Result<Span, TermError>
     requires { PutAsks nodes.old c.old.nodes }
-    ensures { LeafTold nodes.old nodes.new c.old kind detail span value result c.new }
+    ensures { LeafTold nodes.old nodes.new c.old (NodeKinds.number kind) detail span value result c.new }
 {
+    let kind = u16::from(kind);
     put_node(nodes, c.nodes, kind, detail, ABSENT, ABSENT, span, value);
     c.nodes += 1;
     Ok(span)
@@ -45,15 +43,16 @@ pub(crate) fn read_leaf(
 pub(crate) fn put_operator(
     nodes: &mut [u16],
     c: &mut Counters,
-    kind: u16,
+    kind: NodeKind,
     operator: u16,
     left: u16,
     right: u16,
     span: Span,
 )
     requires { PutAsks nodes.old c.old.nodes }
-    ensures { NodeTold nodes.old nodes.new c.old (node_record kind operator left right span (words 4 0)) c.new }
+    ensures { NodeTold nodes.old nodes.new c.old (node_record (NodeKinds.number kind) operator left right span (words 4 0)) c.new }
 {
+    let kind = u16::from(kind);
     put_node(nodes, c.nodes, kind, operator, left, right, span, 0);
     c.nodes += 1;
 }
@@ -69,15 +68,16 @@ pub(crate) fn number_leaf(
     ensures lent { out.new.diagnostics.ghost_name ≡ out.old.diagnostics.ghost_name }
     ensures told { ReaderBy (number_term token (text_of source.now.line.now token.start token.end)) nodes.old out.old nodes.new out.new result }
 {
+    let kind = NodeKind::Number;
     let detail = token.detail;
-    let span = span_of(token);
+    let span = Span::from(token);
     match names::parse_number(detail, source.text_of(token)) {
-        Ok(v) => read_leaf(nodes, &mut out.counters, 1, detail, span, v),
+        Ok(v) => read_leaf(nodes, &mut out.counters, kind, detail, span, v),
         Err(NumberError::TooLarge) => {
-            out.raise(plain(NUMBER_TOO_LARGE, span, span));
-            read_leaf(nodes, &mut out.counters, 1, detail, span, 0)
+            out.raise(plain(DiagnosticKind::NumberTooLarge, span, span));
+            read_leaf(nodes, &mut out.counters, kind, detail, span, 0)
         }
-        Err(NumberError::Invalid) => read_leaf(nodes, &mut out.counters, 1, detail, span, 0),
+        Err(NumberError::Invalid) => read_leaf(nodes, &mut out.counters, kind, detail, span, 0),
     }
 }
 
@@ -92,11 +92,18 @@ pub(crate) fn name_leaf(
     ensures lent { out.new.diagnostics.ghost_name ≡ out.old.diagnostics.ghost_name }
     ensures told { ReaderBy (named token (reserved (text_of source.now.line.now token.start token.end))) nodes.old out.old nodes.new out.new result }
 {
-    let span = span_of(token);
+    let span = Span::from(token);
     if names::is_reserved_name(source.text_of(token)) {
-        return report(out, plain(REGISTER_IN_EXPRESSION, span, span));
+        return report(out, plain(DiagnosticKind::RegisterInExpression, span, span));
     }
-    read_leaf(nodes, &mut out.counters, 3, 0, span, own(span))
+    read_leaf(
+        nodes,
+        &mut out.counters,
+        NodeKind::Symbol,
+        0,
+        span,
+        own(span),
+    )
 }
 
 // A term of one token, which stands at the cursor.
@@ -111,21 +118,35 @@ pub(crate) fn parse_leaf(
     ensures told { TokenBy leaf_term source.now token nodes.old out.old nodes.new out.new result }
 {
     let before = out.counters;
-    let span = span_of(token);
+    let span = Span::from(token);
     out.counters.step_over(token);
     match token.kind {
-        kinds::STAR => read_leaf(nodes, &mut out.counters, 4, 0, span, 0),
+        kinds::STAR => read_leaf(
+            nodes,
+            &mut out.counters,
+            NodeKind::CurrentAddress,
+            0,
+            span,
+            0,
+        ),
         kinds::NUMBER => number_leaf(source, nodes, out, token),
         kinds::STRING_LITERAL => read_leaf(
             nodes,
             &mut out.counters,
-            2,
+            NodeKind::Literal,
             token.detail,
             span,
             own(span),
         ),
         kinds::IDENTIFIER => name_leaf(source, nodes, out, token),
-        kinds::LOCAL_IDENTIFIER => read_leaf(nodes, &mut out.counters, 3, 0, span, own(span)),
+        kinds::LOCAL_IDENTIFIER => read_leaf(
+            nodes,
+            &mut out.counters,
+            NodeKind::Symbol,
+            0,
+            span,
+            own(span),
+        ),
         kinds::ERROR => Err(TermError::Reported),
         _ => {
             out.counters = before;

@@ -35,7 +35,7 @@ pub(crate) fn binary_operator(kind: u16) -> u16
 pub(crate) fn is_unary(token: Token) -> bool
     ensures { (x : List ℕ) → result ≡ is_unary token x }
 {
-    token.kind == kinds::MINUS || token.kind == kinds::TILDE
+    matches!(token.kind, kinds::MINUS | kinds::TILDE)
 }
 
 // A unary operator's number.

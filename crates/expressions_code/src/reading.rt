@@ -35,8 +35,8 @@ pub fn expression(
     if !has_room(source.tokens.len() / 4, nodes.len(), c, 0) {
         return None;
     }
-    // Here and below `as`: with `usize::from` the answer needs a step more (tried).
-    let read = parse_expression(source, nodes, out, source.setting.limit as usize);
+    let room = usize::from(source.setting.limit);
+    let read = parse_expression(source, nodes, out, room);
     let e = out.counters;
     clear_nodes(nodes, e.nodes, c.nodes + (e.at - c.at));
     Some(read)
@@ -57,7 +57,7 @@ pub fn expression_from(
         return None;
     }
     widen(nodes, c.nodes - 1, group);
-    let room = source.setting.limit as usize;
+    let room = usize::from(source.setting.limit);
     let span = parse_expression_from(source, nodes, out, group, 1, room);
     let e = out.counters;
     clear_nodes(nodes, e.nodes, c.nodes + (e.at - c.at));

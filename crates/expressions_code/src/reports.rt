@@ -1,23 +1,13 @@
 // Terms that have failed, and what is told of them.
 ghost use Rattle.std.specs.Prelude.{◌≡◌, ◌<◌};
 ghost use Rattle.records.specs.Spans.{span_of};
-ghost use Rattle.records.specs.Diagnostics.{plain, expression_expected, unclosed_parenthesis};
+ghost use Rattle.records.specs.Diagnostics.{unclosed_parenthesis};
 ghost use Rattle.expressions_code.specs.Terms.{DeepBy, DeepAt, DepthBy, with_nodes};
 
 use crate::terms::TermError;
 use expressions::Source;
 use names::Token;
-use records::diagnostic_kinds::{EXPRESSION_EXPECTED, NESTING_TOO_DEEP, UNCLOSED_PARENTHESIS};
-use records::problems::NO_PROBLEM;
-use records::shapes::NO_SHAPE;
-use records::{Diagnostic, Progress, Span, diagnostic, span_of};
-
-// A diagnostic with no shape and no problem.
-pub(crate) fn plain(kind: u16, span: Span, text: Span) -> Diagnostic
-    ensures { result ≡ plain kind span text }
-{
-    diagnostic(kind, NO_SHAPE, NO_PROBLEM, span, text)
-}
+use records::{Diagnostic, DiagnosticKind, Progress, Span, plain};
 
 // Raises a diagnostic: the term has failed and leaves no node.
 pub(crate) fn report(out: &mut Progress, x: Diagnostic) -> Result<Span, TermError>
@@ -35,28 +25,11 @@ pub(crate) fn too_deep(source: &Source, out: &mut Progress) -> Result<Span, Term
     ensures lent { out.new.diagnostics.ghost_name ≡ out.old.diagnostics.ghost_name }
     ensures told { DepthBy source.now out.old out.new result }
 {
-    let span = match source.peek(out.counters) {
-        Some(t) => span_of(t),
-        None => Span {
-            start: out.counters.end,
-            end: out.counters.end,
-        },
-    };
+    let span = source.span_at(out.counters);
     report(
         out,
-        plain(NESTING_TOO_DEEP, span, Span { start: 0, end: 0 }),
+        plain(DiagnosticKind::NestingTooDeep, span, Span::default()),
     )
-}
-
-// An expression was expected behind this token.
-pub(crate) fn expected_after(token: Token) -> Diagnostic
-    ensures { result ≡ expression_expected (span_of token) }
-{
-    let end = Span {
-        start: token.end,
-        end: token.end,
-    };
-    plain(EXPRESSION_EXPECTED, end, span_of(token))
 }
 
 // A group that is never closed: its nodes, from `first` on, are given up.
@@ -69,9 +42,9 @@ pub(crate) fn unclosed(out: &mut Progress, first: u16, token: Token) -> Result<S
     report(
         out,
         plain(
-            UNCLOSED_PARENTHESIS,
-            span_of(token),
-            Span { start: 0, end: 0 },
+            DiagnosticKind::UnclosedParenthesis,
+            Span::from(token),
+            Span::default(),
         ),
     )
 }

@@ -4,13 +4,14 @@ ghost use Rattle.names.specs.Tokens.{token_at};
 ghost use Rattle.records.specs.Rooms.{NodeRoom};
 ghost use Rattle.expressions_code.specs.Terms.{OperatedBy, PrefixBy, ExpressionBy, BehindBy, ClimbBy, CloseBy, unary_term, plus_term, group_term};
 
-use crate::leaves::{ABSENT, parse_leaf, put_operator};
+use crate::leaves::{parse_leaf, put_operator};
 use crate::levels::{binary_operator, is_unary, precedence, unary_operator};
-use crate::reports::{expected_after, plain, report, too_deep, unclosed};
+use crate::reports::{report, too_deep, unclosed};
 use expressions::Source;
 use names::{Token, kinds};
-use records::diagnostic_kinds::PLUS_IS_NOT_A_UNARY_OPERATOR;
-use records::{Progress, Span, span_of, widen};
+use records::{
+    ABSENT, DiagnosticKind, NodeKind, Progress, Span, expression_expected, plain, widen,
+};
 
 // Why a term is not read: it failed and that is told, or none stands there.
 #[derive(Clone, Copy, PartialEq, Eq)]
@@ -31,12 +32,9 @@ fn close_group(
     ensures lent { out.new.diagnostics.ghost_name ≡ out.old.diagnostics.ghost_name }
     ensures told { CloseBy source.now nodes.old out.old nodes.new out.new first token result }
 {
-    let Some(t) = source.peek(out.counters) else {
+    let Some(t) = source.peek_kind(out.counters, kinds::RIGHT_PAREN) else {
         return unclosed(out, first, token);
     };
-    if t.kind != kinds::RIGHT_PAREN {
-        return unclosed(out, first, token);
-    }
     let span = Span {
         start: token.start,
         end: t.end,
@@ -103,11 +101,20 @@ fn parse_unary(
             };
             let operator = unary_operator(token.kind);
             let operand = out.counters.nodes - 1;
-            put_operator(nodes, &mut out.counters, 5, operator, operand, ABSENT, span);
+            let kind = NodeKind::Unary;
+            put_operator(
+                nodes,
+                &mut out.counters,
+                kind,
+                operator,
+                operand,
+                ABSENT,
+                span,
+            );
             Ok(span)
         }
         Err(TermError::Reported) => Err(TermError::Reported),
-        Err(TermError::Absent) => report(out, expected_after(token)),
+        Err(TermError::Absent) => report(out, expression_expected(token)),
     }
 }
 
@@ -124,16 +131,20 @@ fn parse_plus(
     ensures lent { out.new.diagnostics.ghost_name ≡ out.old.diagnostics.ghost_name }
     ensures told { BehindBy (plus_term room token) source.now nodes.old out.old nodes.new out.new result }
 {
-    let span = span_of(token);
+    let span = Span::from(token);
     match parse_prefix(source, nodes, out, room) {
         Ok(s) => {
-            out.raise(plain(PLUS_IS_NOT_A_UNARY_OPERATOR, span, s));
+            out.raise(plain(DiagnosticKind::PlusIsNotAUnaryOperator, span, s));
             Ok(s)
         }
-        Err(_) => {
-            let none = Span { start: 0, end: 0 };
-            report(out, plain(PLUS_IS_NOT_A_UNARY_OPERATOR, span, none))
-        }
+        Err(_) => report(
+            out,
+            plain(
+                DiagnosticKind::PlusIsNotAUnaryOperator,
+                span,
+                Span::default(),
+            ),
+        ),
     }
 }
 
@@ -154,7 +165,7 @@ fn parse_group(
     match parse_expression(source, nodes, out, room) {
         Ok(_) => close_group(source, nodes, out, first, token),
         Err(TermError::Reported) => Err(TermError::Reported),
-        Err(TermError::Absent) => report(out, expected_after(token)),
+        Err(TermError::Absent) => report(out, expression_expected(token)),
     }
 }
 
@@ -230,10 +241,19 @@ fn parse_operated(
             };
             let operator = binary_operator(t.kind);
             let last = out.counters.nodes - 1;
-            put_operator(nodes, &mut out.counters, 6, operator, before, last, whole);
+            let kind = NodeKind::Binary;
+            put_operator(
+                nodes,
+                &mut out.counters,
+                kind,
+                operator,
+                before,
+                last,
+                whole,
+            );
             Ok(whole)
         }
         Err(TermError::Reported) => Err(TermError::Reported),
-        Err(TermError::Absent) => report(out, expected_after(t)),
+        Err(TermError::Absent) => report(out, expression_expected(t)),
     }
 }

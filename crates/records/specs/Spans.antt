@@ -1,6 +1,6 @@
 -- Spans, as the Rust has them.
 -- Assumes nothing.
-use Rattle.std.specs.Prelude.{ℕ}
+use Rattle.std.specs.Prelude.{ℕ, Option, Some, None}
 use Rattle.names.specs.declared.tokens.Token.{Token}
 use Rattle.records.specs.declared.spans.Span.{Span}
 
@@ -17,3 +17,8 @@ no_span = span 0 0
 
 abbrev pub span_of : Token → Span
 span_of t = span t.start t.end
+
+-- of a token, or the empty one at an offset
+unfoldable pub span_or : Option Token → ℕ → Span
+span_or (Some t) l = span_of t
+span_or None l = empty l

@@ -20,7 +20,7 @@ pub use node_kinds::NodeKind;
 pub use nodes::{ABSENT, clear_behind, clear_nodes, put_node, widen};
 pub use progress::Progress;
 pub use problems::Problem;
-pub use reports::{diagnostic, malformed, plain, push_diagnostic};
+pub use reports::{diagnostic, expression_expected, malformed, plain, push_diagnostic};
 pub use shapes::OperandShape;
 pub use spans::Span;
 pub use stores::write;

@@ -1,7 +1,8 @@
 // Diagnostics made, and their records written.
 ghost use Rattle.std.specs.Prelude.{◌≡◌, ◌*◌};
 ghost use Rattle.records.specs.DiagnosticKinds;
-ghost use Rattle.records.specs.Diagnostics.{diagnostic, diagnostic_record, plain, malformed_operand};
+ghost use Rattle.records.specs.Diagnostics.{diagnostic, diagnostic_record, plain, malformed_operand, expression_expected};
+ghost use Rattle.records.specs.Spans.{span_of};
 ghost use Rattle.records.specs.Problems;
 ghost use Rattle.records.specs.Shapes;
 ghost use Rattle.records.specs.Stores.{written};
@@ -12,6 +13,7 @@ use crate::problems::Problem;
 use crate::shapes::OperandShape;
 use crate::spans::Span;
 use crate::stores::write;
+use names::Token;
 
 // The number in a shape's or a problem's place, of a kind that has none.
 const NONE: u16 = 0;
@@ -44,6 +46,13 @@ pub fn malformed(shape: OperandShape, problem: Problem, span: Span, text: Span) 
 {
     let kind = u16::from(DiagnosticKind::MalformedOperand);
     diagnostic(kind, u16::from(shape), u16::from(problem), span, text)
+}
+
+// An expression was expected behind this token.
+pub fn expression_expected(after: Token) -> Diagnostic
+    ensures { result ≡ expression_expected (span_of after) }
+{
+    plain(DiagnosticKind::ExpressionExpected, Span::empty(after.end), Span::from(after))
 }
 
 // Writes the diagnostic record d, where it fits.
