@@ -1,5 +1,5 @@
 // Spans of the line.
-ghost use Rattle.std.specs.Prelude.{◌≡◌};
+ghost use Rattle.std.specs.Prelude.{◌≡◌, ◌+◌, ◌*◌, ◌<◌};
 ghost use Rattle.records.specs.Spans.{empty, span_of};
 
 use names::Token;
@@ -17,6 +17,13 @@ impl Span {
         ensures { result ≡ empty at }
     {
         Span { start: at, end: at }
+    }
+
+    // Both offsets in one number, as two words of a node's value hold a span.
+    pub fn packed(self) -> u64
+        ensures { (result ≡ self.start + 65536 * self.end) × (self.start < 65536) × (self.end < 65536) }
+    {
+        u64::from(self.start) + 65536 * u64::from(self.end)
     }
 }
 
