@@ -6,13 +6,15 @@ use Rattle.names.specs.Kinds
 use Rattle.names.specs.Tokens.{count, token_at}
 use Rattle.names.specs.Places.{text_of, place}
 use Rattle.names.specs.declared.tokens.Token.{Token}
-use Rattle.records.specs.Spans.{span, empty, span_of}
+use Rattle.records.specs.Spans.{span, span_of, span_or}
 use Rattle.records.specs.declared.spans.Span.{Span}
 use Rattle.records.specs.declared.progress.Progress.{Progress}
 use Rattle.expressions.specs.declared.source.Source.{Source}
 use Rattle.records.specs.declared.counters.Counters.{Counters}
 use Rattle.records.specs.Diagnostics.{register_expected_in_register_list, register_range_out_of_order}
 use Rattle.expressions.specs.Laws.{holds}
+use Rattle.records.specs.NodeKinds
+use Rattle.records.specs.declared.node_kinds.NodeKind.{NodeKind}
 use Rattle.records.specs.Nodes.{node_record}
 use Rattle.records.specs.Counters.{stepped}
 use Rattle.operand.specs.FormNumbers
@@ -28,26 +30,21 @@ use Rattle.operand.specs.declared.forms.OperandRecord.{OperandRecord}
 
 -- ---- a register behind a sign
 
--- where one was expected: at the token that stands there, or at the end of the last
-unfoldable pub expected_at : Option Token → ℕ → Span
-expected_at (Some t) l = span_of t
-expected_at None l = empty l
-
 pub data RegisterTold (L T D D' : List ℕ) (c : Counters) (sign : ℕ) (v : Option Register) (r : Counters) : Type 0 where
   found : (t : Token) (n : ℕ) → token_at T c.at ≡ Some t → reg_at t (text_of L t.start t.end) ≡ Some n
       → v ≡ Some (record { index = n; span = span_of t }) → r ≡ stepped c t → D' ≡ D → RegisterTold L T D D' c sign v r
   missing : holds a_register (place L T c.at) ≡ false
-      → v ≡ None → Raised D D' c (register_expected_in_register_list sign (expected_at (token_at T c.at) c.end)) r → RegisterTold L T D D' c sign v r
+      → v ≡ None → Raised D D' c (register_expected_in_register_list sign (span_or (token_at T c.at) c.end)) r → RegisterTold L T D D' c sign v r
 
 -- ---- an item
 
 unfoldable pub item_of : RegisterListItem → Item
-item_of (single r) = record { kind = 7; from = r; to = r; span = r.span }
-item_of (range r q s) = record { kind = 8; from = r; to = q; span = s }
+item_of (single r) = record { kind = NodeKind.Single; from = r; to = r; span = r.span }
+item_of (range r q s) = record { kind = NodeKind.Range; from = r; to = q; span = s }
 
 -- the code's item from one register to another
 abbrev pub range_item : Register → Register → Item
-range_item r q = record { kind = 8; from = r; to = q; span = span r.span.start q.span.end }
+range_item r q = record { kind = NodeKind.Range; from = r; to = q; span = span r.span.start q.span.end }
 
 pub data RangedTold (D D' : List ℕ) (c : Counters) (r q : Register) (v : Item) (s : Counters) : Type 0 where
   rising : r.index ≤ q.index → v ≡ range_item r q → s ≡ c → D' ≡ D → RangedTold D D' c r q v s
@@ -73,15 +70,10 @@ ItemTold L T D D' c r v s = Told (option_map item_of) (ItemHeld T c) (list_item 
 -- the bytes of its node
 unfoldable pub item_bytes : Item → List ℕ
 item_bytes x =
-    node_record x.kind 0 x.from.index x.to.index x.span
+    node_record (NodeKinds.number x.kind) 0 x.from.index x.to.index x.span
     (x.from.span.start ∷ x.from.span.end ∷ x.to.span.start ∷ x.to.span.end ∷ [])
 
 -- ---- the list
-
--- the slash that a token is
-unfoldable pub slashed : Option Token → Option Token
-slashed (Some t) = pick (eqb t.kind Kinds.slash) (Some t) None
-slashed None = None
 
 abbrev pub list_record : ℕ → ℕ → ℕ → OperandRecord
 list_record s l mask =

@@ -12,19 +12,19 @@ use crate::suffixes::take_size_suffix;
 use expressions::Source;
 use expressions_code::TermError;
 use names::kinds;
-use operand::{BaseRegister, OperandRecord, form_numbers};
-use records::diagnostic_kinds::{OPERAND_EXPECTED, UNEXPECTED_TOKEN_IN_OPERAND};
-use records::problems::NO_PROBLEM;
-use records::shapes::NO_SHAPE;
-use records::{Counters, Progress, Span, diagnostic, span_of};
+use operand::{BaseRegister, Form, OperandRecord};
+use records::{Counters, DiagnosticKind, Progress, Span, plain};
 
-fn absolute(c: Counters, start: u16, end: u16, size: u8) -> OperandRecord
+fn absolute(c: Counters, span: Span, size: u8) -> OperandRecord
     requires { 0 < c.nodes }
-    ensures { result ≡ absolute_record c start end size }
+    ensures { result ≡ absolute_record c span.start span.end size }
 {
-    let span = Span { start, end };
-    let base = BaseRegister::Omitted;
-    plain_operand(form_numbers::ABSOLUTE, span, last_tree(c, size), base)
+    plain_operand(
+        Form::Absolute,
+        span,
+        last_tree(c, size),
+        BaseRegister::Omitted,
+    )
 }
 
 // `finish_expression_operand`: an absolute address, and its size.
@@ -37,11 +37,11 @@ pub(crate) fn finish_expression_operand(
     ensures lent { out.new.diagnostics.ghost_name ≡ out.old.diagnostics.ghost_name }
     ensures told { TreeBy (λ e. finish_expression_operand source.now.setting e) source.now out.old out.new value result }
 {
-    let start = source.setting.start;
-    match take_size_suffix(source, out, value.start) {
-        Some(x) => Some(absolute(out.counters, start, x.span.end, x.size)),
-        None => Some(absolute(out.counters, start, value.end, 0)),
-    }
+    let (end, size) = match take_size_suffix(source, out, value.start) {
+        Some(x) => (x.span.end, x.size),
+        None => (value.end, 0),
+    };
+    Some(absolute(out.counters, source.span_to(end), size))
 }
 
 // Behind an expression: a parenthesis opens the tail of a displacement.
@@ -50,12 +50,9 @@ fn displaced_or_absolute(source: &Source, out: &mut Progress, value: Span) -> Op
     ensures lent { out.new.diagnostics.ghost_name ≡ out.old.diagnostics.ghost_name }
     ensures told { TreeBy (λ e. displaced_or_absolute source.now.setting e) source.now out.old out.new value result }
 {
-    let Some(t) = source.peek(out.counters) else {
+    let Some(t) = source.peek_kind(out.counters, kinds::LEFT_PAREN) else {
         return finish_expression_operand(source, out, value);
     };
-    if t.kind != kinds::LEFT_PAREN {
-        return finish_expression_operand(source, out, value);
-    }
     let d = last_tree(out.counters, 0);
     out.counters.step_over(t);
     parse_base_and_index(source, out, t, d)
@@ -69,22 +66,12 @@ fn no_expression(source: &Source, out: &mut Progress) -> Option<OperandRecord>
 {
     match source.peek(out.counters) {
         Some(t) => {
-            let span = span_of(t);
-            out.raise(diagnostic(
-                UNEXPECTED_TOKEN_IN_OPERAND,
-                NO_SHAPE,
-                NO_PROBLEM,
-                span,
-                span,
-            ));
+            let span = Span::from(t);
+            out.raise(plain(DiagnosticKind::UnexpectedTokenInOperand, span, span));
         }
         None => {
-            let none = Span { start: 0, end: 0 };
-            let start = Span {
-                start: source.setting.start,
-                end: source.setting.start,
-            };
-            out.raise(diagnostic(OPERAND_EXPECTED, NO_SHAPE, NO_PROBLEM, start, none));
+            let start = Span::empty(source.setting.start);
+            out.raise(plain(DiagnosticKind::OperandExpected, start, Span::default()));
         }
     }
     None

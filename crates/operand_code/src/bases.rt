@@ -2,6 +2,8 @@
 ghost use Rattle.std.specs.Prelude.{◌≡◌, true, ◌≤◌, ◌<◌};
 ghost use Rattle.names.specs.Places.{text_of};
 ghost use Rattle.records.specs.Rooms.{Room};
+ghost use Rattle.records.specs.Shapes;
+ghost use Rattle.operand.specs.FormNumbers;
 ghost use Rattle.operand.specs.Operands.{Displacement};
 ghost use Rattle.operand.specs.Operand.{base_shape, closed_base, closed_counter, parse_base_and_index, close_index, base_and_index};
 ghost use Rattle.operand.specs.Forms.{sized_of};
@@ -14,17 +16,16 @@ use crate::malformed::{expect_close, malformed, not_an_address_register, unclose
 use crate::steps::{indexed, plain_operand};
 use expressions::Source;
 use names::{Token, kinds};
-use operand::{BaseRegister, IndexRegister, OperandRecord, Register, Sized, form_numbers};
-use records::problems::{BASE_MISSING, PAREN_MISSING, THE_DISPLACEMENT_MISSING};
-use records::{Progress, Span, shapes};
+use operand::{BaseRegister, Form, IndexRegister, OperandRecord, Register, Sized};
+use records::{OperandShape, Problem, Progress};
 
 // The shape of an operand whose base is wrong, by whether it has a displacement.
-fn base_shape(d: Option<Sized>) -> u16
-    ensures { (y : Displacement) → sized_of 0 y ≡ d → result ≡ base_shape y }
+fn base_shape(d: Option<Sized>) -> OperandShape
+    ensures { (y : Displacement) → sized_of 0 y ≡ d → Shapes.number result ≡ base_shape y }
 {
     match d {
-        Some(_) => shapes::DISPLACEMENT,
-        None => shapes::INDIRECT,
+        Some(_) => OperandShape::Displacement,
+        None => OperandShape::Indirect,
     }
 }
 
@@ -33,25 +34,21 @@ fn close_index(
     source: &Source,
     out: &mut Progress,
     paren: Token,
-    shape: u16,
-    form: u8,
     d: Option<Sized>,
     base: BaseRegister,
     x: IndexRegister,
 ) -> Option<OperandRecord>
     requires { Room source.now.tokens.now out.old.counters 0 1 }
     ensures lent { out.new.diagnostics.ghost_name ≡ out.old.diagnostics.ghost_name }
-    ensures told { IndexedBy (close_index source.now.setting paren shape base x) source.now out.old out.new form d base result }
+    ensures told { IndexedBy (close_index source.now.setting paren (index_shape base) base x) source.now out.old out.new (index_form base) d base result }
 {
-    let end = expect_close(source, out, paren, shape)?;
-    let span = Span {
-        start: source.setting.start,
-        end,
+    let end = expect_close(source, out, paren, index_shape(base))?;
+    let form = if x.suppressed {
+        Form::FullIndex
+    } else {
+        index_form(base)
     };
-    if x.suppressed {
-        return Some(indexed(form_numbers::FULL_INDEX, span, d, base, Some(x)));
-    }
-    Some(indexed(form, span, d, base, Some(x)))
+    Some(indexed(form, source.span_to(end), d, base, Some(x)))
 }
 
 // Behind the comma: an index, and the parenthesis.
@@ -59,17 +56,15 @@ fn base_and_index(
     source: &Source,
     out: &mut Progress,
     paren: Token,
-    shape: u16,
-    form: u8,
     d: Option<Sized>,
     base: BaseRegister,
 ) -> Option<OperandRecord>
     requires { Room source.now.tokens.now out.old.counters 0 1 }
     ensures lent { out.new.diagnostics.ghost_name ≡ out.old.diagnostics.ghost_name }
-    ensures told { IndexedBy (base_and_index source.now.setting paren shape base) source.now out.old out.new form d base result }
+    ensures told { IndexedBy (base_and_index source.now.setting paren (index_shape base) base) source.now out.old out.new (index_form base) d base result }
 {
-    let x = parse_index_register(source, out, shape)?;
-    close_index(source, out, paren, shape, form, d, base, x)
+    let x = parse_index_register(source, out, index_shape(base))?;
+    close_index(source, out, paren, d, base, x)
 }
 
 // Behind the parenthesis that closes a base alone.
@@ -84,24 +79,16 @@ fn closed_base(
     ensures lent { out.new.diagnostics.ghost_name ≡ out.old.diagnostics.ghost_name }
     ensures told { BaseBy (λ y. closed_base source.now.setting register y close) source.now out.old out.new d (Some result) }
 {
-    let start = source.setting.start;
-    let span = Span {
-        start,
-        end: close.end,
-    };
+    let span = source.span_to(close.end);
     let base = BaseRegister::Address(register);
-    if let Some(_) = d {
-        return plain_operand(form_numbers::DISPLACEMENT, span, d, base);
+    if d.is_some() {
+        return plain_operand(Form::Displacement, span, d, base);
     }
-    let Some(t) = source.peek(out.counters) else {
-        return plain_operand(form_numbers::INDIRECT, span, d, base);
+    let Some(t) = source.peek_kind(out.counters, kinds::PLUS) else {
+        return plain_operand(Form::Indirect, span, d, base);
     };
-    if t.kind != kinds::PLUS {
-        return plain_operand(form_numbers::INDIRECT, span, d, base);
-    }
     out.counters.step_over(t);
-    let whole = Span { start, end: t.end };
-    plain_operand(form_numbers::POSTINCREMENT, whole, d, base)
+    plain_operand(Form::Postincrement, source.span_to(t.end), d, base)
 }
 
 // Behind the parenthesis that closes the program counter alone.
@@ -115,21 +102,14 @@ fn closed_counter(
     ensures lent { out.new.diagnostics.ghost_name ≡ out.old.diagnostics.ghost_name }
     ensures told { BaseBy (λ y. closed_counter source.now.setting y close) source.now out.old out.new d result }
 {
-    let Some(_) = d else {
-        malformed(
-            source,
-            out,
-            shapes::PC_DISPLACEMENT,
-            THE_DISPLACEMENT_MISSING,
-        );
+    let shape = OperandShape::PcDisplacement;
+    if d.is_none() {
+        malformed(source, out, shape, Problem::TheDisplacementMissing);
         return None;
-    };
-    let span = Span {
-        start: source.setting.start,
-        end: close.end,
-    };
+    }
+    let span = source.span_to(close.end);
     let base = BaseRegister::ProgramCounter;
-    Some(plain_operand(form_numbers::PC_DISPLACEMENT, span, d, base))
+    Some(plain_operand(Form::PcDisplacement, span, d, base))
 }
 
 // Behind the parenthesis that closes the base.
@@ -151,33 +131,33 @@ fn closed(
 }
 
 // The shape of an operand whose parenthesis never closes behind its base.
-fn open_shape(base: BaseRegister, d: Option<Sized>) -> u16
-    ensures { (y : Displacement) → sized_of 0 y ≡ d → result ≡ open_shape base y }
+fn open_shape(base: BaseRegister, d: Option<Sized>) -> OperandShape
+    ensures { (y : Displacement) → sized_of 0 y ≡ d → Shapes.number result ≡ open_shape base y }
 {
     if let BaseRegister::Address(_) = base {
         return base_shape(d);
     }
-    shapes::PC_DISPLACEMENT
+    OperandShape::PcDisplacement
 }
 
 // The shape and the form of an operand that has an index behind its base.
-fn index_shape(base: BaseRegister) -> u16
-    ensures { result ≡ index_shape base }
+fn index_shape(base: BaseRegister) -> OperandShape
+    ensures { Shapes.number result ≡ index_shape base }
 {
-    if let BaseRegister::Address(_) = base {
-        return shapes::INDEX;
+    match base {
+        BaseRegister::Address(_) => OperandShape::Index,
+        _ => OperandShape::PcIndex,
     }
-    shapes::PC_INDEX
 }
 
 // Apart from `index_shape`: together they would be a pair that is taken apart again.
-fn index_form(base: BaseRegister) -> u8
-    ensures { result ≡ index_form base }
+fn index_form(base: BaseRegister) -> Form
+    ensures { FormNumbers.number result ≡ index_form base }
 {
-    if let BaseRegister::Address(_) = base {
-        return form_numbers::INDEX;
+    match base {
+        BaseRegister::Address(_) => Form::Index,
+        _ => Form::PcIndex,
     }
-    form_numbers::PC_INDEX
 }
 
 // Behind an address register or the program counter. Both go on in one call, which the compiler then puts in place.
@@ -193,23 +173,32 @@ fn after_base(
     ensures told { BaseBy (λ y. behind_base source.now.setting paren base y) source.now out.old out.new d result }
 {
     let Some(t) = source.peek(out.counters) else {
-        unclosed(source, out, paren, open_shape(base, d), PAREN_MISSING);
+        unclosed(
+            source,
+            out,
+            paren,
+            open_shape(base, d),
+            Problem::ParenMissing,
+        );
         return None;
     };
-    let kind = t.kind;
-    match kind {
+    match t.kind {
         kinds::RIGHT_PAREN => {
             out.counters.step_over(t);
             closed(source, out, d, base, t)
         }
         kinds::COMMA => {
             out.counters.step_over(t);
-            let shape = index_shape(base);
-            let form = index_form(base);
-            base_and_index(source, out, paren, shape, form, d, base)
+            base_and_index(source, out, paren, d, base)
         }
         _ => {
-            unclosed(source, out, paren, open_shape(base, d), PAREN_MISSING);
+            unclosed(
+                source,
+                out,
+                paren,
+                open_shape(base, d),
+                Problem::ParenMissing,
+            );
             None
         }
     }
@@ -239,7 +228,7 @@ pub(crate) fn parse_base_and_index(
     ensures told { BaseBy (λ y. parse_base_and_index source.now.setting paren y) source.now out.old out.new d result }
 {
     let Some(t) = source.peek(out.counters) else {
-        unclosed(source, out, paren, base_shape(d), BASE_MISSING);
+        unclosed(source, out, paren, base_shape(d), Problem::BaseMissing);
         return None;
     };
     out.counters.step_over(t);

@@ -2,34 +2,34 @@
 ghost use Rattle.std.specs.Prelude.{◌≡◌, ◌<◌};
 ghost use Rattle.records.specs.Rooms.{Room, NodeRoom};
 ghost use Rattle.operand.specs.Operand.{parse_immediate, sized_immediate};
+ghost use Rattle.operand.specs.Records.{flag};
 ghost use Rattle.operand_code.specs.Operands.{OperandBy};
 ghost use Rattle.operand_code.specs.Absolutes.{immediate_record, TreeBy};
 
 use crate::expressed::expression_at;
-use crate::malformed::{expression_expected, malformed};
-use crate::steps::last_tree;
+use crate::malformed::malformed;
+use crate::steps::{last_tree, plain_operand};
 use crate::suffixes::take_size_suffix;
 use expressions::Source;
 use expressions_code::TermError;
-use names::Token;
-use operand::{BaseRegister, OperandRecord, form_numbers};
-use records::problems::IMMEDIATE_CARRIES_NO_SIZE;
-use records::{Counters, Progress, Span, shapes};
+use names::{SizeSuffix, Token};
+use operand::{BaseRegister, Form, OperandRecord};
+use records::{Counters, OperandShape, Problem, Progress, Span, expression_expected};
 
-fn immediate(c: Counters, start: u16, end: u16, long: u8) -> OperandRecord
+// The one size that an immediate may have, and none that is known.
+const LONG: u8 = SizeSuffix::Long as u8;
+
+const UNKNOWN: u8 = 0;
+
+fn immediate(c: Counters, start: u16, end: u16, long: bool) -> OperandRecord
     requires { 0 < c.nodes }
-    ensures { result ≡ immediate_record c start end long }
+    ensures { result ≡ immediate_record c start end (flag long) }
 {
+    let span = Span { start, end };
+    let value = last_tree(c, 0);
     OperandRecord {
-        form: form_numbers::IMMEDIATE,
-        span: Span { start, end },
-        displacement: last_tree(c, 0),
-        base: BaseRegister::Omitted,
-        index: None,
-        indirection: 0,
-        outer: None,
-        special: long,
-        mask: 0,
+        special: u8::from(long),
+        ..plain_operand(Form::Immediate, span, value, BaseRegister::Omitted)
     }
 }
 
@@ -45,14 +45,14 @@ fn immediate_size(
     ensures told { TreeBy (λ e. sized_immediate source.now.setting hash e) source.now out.old out.new value result }
 {
     let Some(x) = take_size_suffix(source, out, value.start) else {
-        return Some(immediate(out.counters, hash.start, value.end, 0));
+        return Some(immediate(out.counters, hash.start, value.end, false));
     };
-    let size = x.size;
-    match size {
-        3 => Some(immediate(out.counters, hash.start, x.span.end, 1)),
-        0 => Some(immediate(out.counters, hash.start, x.span.end, 0)),
+    match x.size {
+        LONG => Some(immediate(out.counters, hash.start, x.span.end, true)),
+        UNKNOWN => Some(immediate(out.counters, hash.start, x.span.end, false)),
         _ => {
-            malformed(source, out, shapes::IMMEDIATE, IMMEDIATE_CARRIES_NO_SIZE);
+            let shape = OperandShape::Immediate;
+            malformed(source, out, shape, Problem::ImmediateCarriesNoSize);
             None
         }
     }
@@ -73,7 +73,7 @@ pub(crate) fn parse_immediate(
         Ok(span) => immediate_size(source, out, hash, span),
         Err(TermError::Reported) => None,
         Err(TermError::Absent) => {
-            expression_expected(out, hash);
+            out.raise(expression_expected(hash));
             None
         }
     }

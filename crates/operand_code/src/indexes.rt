@@ -2,6 +2,7 @@
 ghost use Rattle.std.specs.Prelude.{◌≡◌, ◌<◌};
 ghost use Rattle.records.specs.Rooms.{Room};
 ghost use Rattle.names.specs.Places.{text_of};
+ghost use Rattle.records.specs.Shapes;
 ghost use Rattle.operand.specs.Operand.{scale_of, scaled, scale_value, index_scale, index_register, parse_index_register};
 ghost use Rattle.expressions.specs.Told.{Same};
 ghost use Rattle.operand_code.specs.Told.{Tells};
@@ -13,10 +14,7 @@ use crate::suffixes::take_size_suffix;
 use expressions::Source;
 use names::{NumberError, Token, kinds};
 use operand::{IndexRegister, Register, Suffixed};
-use records::diagnostic_kinds::NUMBER_TOO_LARGE;
-use records::problems::{BAD_SCALE, INDEX_MISSING, NO_PROBLEM};
-use records::shapes::NO_SHAPE;
-use records::{Progress, Span, diagnostic, span_of};
+use records::{DiagnosticKind, OperandShape, Problem, Progress, Span, plain};
 
 #[tactic(auto, unfolding(operand::specs::Operand::scale_of))]
 fn is_scale(value: u64) -> bool
@@ -29,17 +27,17 @@ fn is_scale(value: u64) -> bool
 fn scaled(
     source: &Source,
     out: &mut Progress,
-    shape: u16,
+    shape: OperandShape,
     x: IndexRegister,
     token: Token,
     value: u64,
 ) -> Option<IndexRegister>
     requires { out.old.counters.diagnostics < 65535 }
     ensures lent { out.new.diagnostics.ghost_name ≡ out.old.diagnostics.ghost_name }
-    ensures told { Tells (λ z. z) (Same out.old.counters.nodes) (scaled source.now.setting shape x token value) source.now out.old out.new result }
+    ensures told { Tells (λ z. z) (Same out.old.counters.nodes) (scaled source.now.setting (Shapes.number shape) x token value) source.now out.old out.new result }
 {
     if !is_scale(value) {
-        malformed(source, out, shape, BAD_SCALE);
+        malformed(source, out, shape, Problem::BadScale);
         return None;
     }
     Some(IndexRegister {
@@ -56,19 +54,19 @@ fn scaled(
 fn index_scale_value(
     source: &Source,
     out: &mut Progress,
-    shape: u16,
+    shape: OperandShape,
     x: IndexRegister,
     token: Token,
 ) -> Option<IndexRegister>
     requires { out.old.counters.diagnostics < 65534 }
     ensures lent { out.new.diagnostics.ghost_name ≡ out.old.diagnostics.ghost_name }
-    ensures told { Tells (λ z. z) (Same out.old.counters.nodes) (scale_value source.now.setting shape x token (text_of source.now.line.now token.start token.end)) source.now out.old out.new result }
+    ensures told { Tells (λ z. z) (Same out.old.counters.nodes) (scale_value source.now.setting (Shapes.number shape) x token (text_of source.now.line.now token.start token.end)) source.now out.old out.new result }
 {
     match names::parse_number(token.detail, source.text_of(token)) {
         Ok(v) => scaled(source, out, shape, x, token, v),
         Err(NumberError::TooLarge) => {
-            let span = span_of(token);
-            out.raise(diagnostic(NUMBER_TOO_LARGE, NO_SHAPE, NO_PROBLEM, span, span));
+            let span = Span::from(token);
+            out.raise(plain(DiagnosticKind::NumberTooLarge, span, span));
             scaled(source, out, shape, x, token, 0)
         }
         Err(NumberError::Invalid) => scaled(source, out, shape, x, token, 0),
@@ -78,28 +76,21 @@ fn index_scale_value(
 fn index_scale(
     source: &Source,
     out: &mut Progress,
-    shape: u16,
+    shape: OperandShape,
     x: IndexRegister,
 ) -> Option<IndexRegister>
     requires { Room source.now.tokens.now out.old.counters 0 1 }
     ensures lent { out.new.diagnostics.ghost_name ≡ out.old.diagnostics.ghost_name }
-    ensures told { Tells (λ z. z) (Same out.old.counters.nodes) (index_scale source.now.setting shape x) source.now out.old out.new result }
+    ensures told { Tells (λ z. z) (Same out.old.counters.nodes) (index_scale source.now.setting (Shapes.number shape) x) source.now out.old out.new result }
 {
-    let Some(star) = source.peek(out.counters) else {
+    let Some(star) = source.peek_kind(out.counters, kinds::STAR) else {
         return Some(x);
     };
-    if star.kind != kinds::STAR {
-        return Some(x);
-    }
     out.counters.step_over(star);
-    let Some(t) = source.peek(out.counters) else {
-        stepped_over(source, out, shape, BAD_SCALE);
+    let Some(t) = source.peek_kind(out.counters, kinds::NUMBER) else {
+        stepped_over(source, out, shape, Problem::BadScale);
         return None;
     };
-    if t.kind != kinds::NUMBER {
-        stepped_over(source, out, shape, BAD_SCALE);
-        return None;
-    }
     out.counters.step_over(t);
     index_scale_value(source, out, shape, x, t)
 }
@@ -127,13 +118,13 @@ fn sized_index(register: Register, suppressed: bool, suffix: Option<Suffixed>) -
 fn index_register(
     source: &Source,
     out: &mut Progress,
-    shape: u16,
+    shape: OperandShape,
     register: Register,
     suppressed: bool,
 ) -> Option<IndexRegister>
     requires { Room source.now.tokens.now out.old.counters 0 1 }
     ensures lent { out.new.diagnostics.ghost_name ≡ out.old.diagnostics.ghost_name }
-    ensures told { Tells (λ z. z) (Same out.old.counters.nodes) (index_register source.now.setting shape register suppressed) source.now out.old out.new result }
+    ensures told { Tells (λ z. z) (Same out.old.counters.nodes) (index_register source.now.setting (Shapes.number shape) register suppressed) source.now out.old out.new result }
 {
     let suffix = take_size_suffix(source, out, register.span.start);
     index_scale(
@@ -147,15 +138,15 @@ fn index_register(
 pub(crate) fn parse_index_register(
     source: &Source,
     out: &mut Progress,
-    shape: u16,
+    shape: OperandShape,
 ) -> Option<IndexRegister>
     requires { Room source.now.tokens.now out.old.counters 0 1 }
     ensures lent { out.new.diagnostics.ghost_name ≡ out.old.diagnostics.ghost_name }
-    ensures told { Tells (λ z. z) (Same out.old.counters.nodes) (parse_index_register source.now.setting shape) source.now out.old out.new result }
+    ensures told { Tells (λ z. z) (Same out.old.counters.nodes) (parse_index_register source.now.setting (Shapes.number shape)) source.now out.old out.new result }
 {
-    let at = out.counters.at as usize;
+    let at = usize::from(out.counters.at);
     let Some(t) = source.token_at(at) else {
-        stepped_over(source, out, shape, INDEX_MISSING);
+        stepped_over(source, out, shape, Problem::IndexMissing);
         return None;
     };
     if let Some(index) = suppressed_index_at(source, t, at) {
@@ -163,7 +154,7 @@ pub(crate) fn parse_index_register(
         return index_register(source, out, shape, register_of(index, t), true);
     }
     let Some(index) = register_at(source, t) else {
-        stepped_over(source, out, shape, INDEX_MISSING);
+        stepped_over(source, out, shape, Problem::IndexMissing);
         return None;
     };
     out.counters.step_over(t);

@@ -3,60 +3,54 @@ ghost use Rattle.std.specs.Prelude.{◌≡◌, ◌+◌, ◌-◌, ◌<◌};
 ghost use Rattle.records.specs.Rooms.{Room};
 ghost use Rattle.names.specs.Tokens.{token_at};
 ghost use Rattle.records.specs.Diagnostics.{register_expected_in_register_list};
+ghost use Rattle.records.specs.Problems;
+ghost use Rattle.records.specs.Spans.{span_or};
+ghost use Rattle.records.specs.declared.node_kinds.NodeKind.{NodeKind};
 ghost use Rattle.records.specs.Stores.{PutAsks};
 ghost use Rattle.expressions_code.specs.Terms.{NodeTold};
 ghost use Rattle.operand.specs.Operand.{parse_register_list};
 ghost use Rattle.operand.specs.Mask.{bits_from};
 ghost use Rattle.operand_code.specs.Told.{RaisedBy};
 ghost use Rattle.operand_code.specs.Operands.{OperandBy};
-ghost use Rattle.operand_code.specs.Lists.{expected_at, RegisterBy, RangedBy, ItemBy, item_bytes, slashed, list_record, ListAsks};
+ghost use Rattle.operand_code.specs.Lists.{RegisterBy, RangedBy, ItemBy, item_bytes, list_record, ListAsks};
 
 use crate::lookahead::{register_at, register_of};
+use crate::steps::plain_operand;
 use expressions::Source;
-use names::{Token, kinds};
-use operand::{BaseRegister, OperandRecord, Register, Sized, form_numbers};
-use records::diagnostic_kinds::{REGISTER_EXPECTED_IN_REGISTER_LIST, REGISTER_RANGE_OUT_OF_ORDER};
-use records::problems::{AFTER_MINUS, AFTER_SLASH, NO_PROBLEM};
-use records::shapes::NO_SHAPE;
-use records::{Counters, Progress, Span, diagnostic, put_node, span_of};
+use names::kinds;
+use operand::{BaseRegister, Form, OperandRecord, Register, Sized};
+use records::{
+    Counters, Diagnostic, DiagnosticKind, NodeKind, Problem, Progress, Span, plain, put_node,
+};
 
-// A register (kind 7) or a range (kind 8), as its node has it.
+// A register or a range, as its node has it: the kind is `Single` or `Range`.
 #[derive(Clone, Copy)]
 pub struct Item {
-    pub kind: u16,
+    pub kind: NodeKind,
     pub from: Register,
     pub to: Register,
     pub span: Span,
 }
 
 // A register was expected behind this sign: at what stands there instead, or at the end.
-fn register_expected(source: &Source, out: &mut Progress, sign: u16)
+fn register_expected(source: &Source, out: &mut Progress, sign: Problem)
     requires { out.old.counters.diagnostics < 65535 }
     ensures lent { out.new.diagnostics.ghost_name ≡ out.old.diagnostics.ghost_name }
-    ensures told { RaisedBy out.old out.new (register_expected_in_register_list sign (expected_at (token_at source.now.tokens.now out.old.counters.at) out.old.counters.end)) }
+    ensures told { RaisedBy out.old out.new (register_expected_in_register_list (Problems.number sign) (span_or (token_at source.now.tokens.now out.old.counters.at) out.old.counters.end)) }
 {
-    let span = match source.peek(out.counters) {
-        Some(t) => span_of(t),
-        None => Span {
-            start: out.counters.end,
-            end: out.counters.end,
-        },
-    };
-    let none = Span { start: 0, end: 0 };
-    out.raise(diagnostic(
-        REGISTER_EXPECTED_IN_REGISTER_LIST,
-        NO_SHAPE,
-        sign,
-        span,
-        none,
-    ));
+    let kind = DiagnosticKind::RegisterExpectedInRegisterList;
+    let span = source.span_at(out.counters);
+    out.raise(Diagnostic {
+        problem: u16::from(sign),
+        ..plain(kind, span, Span::default())
+    });
 }
 
 // The register behind this sign.
-fn expect_register(source: &Source, out: &mut Progress, sign: u16) -> Option<Register>
+fn expect_register(source: &Source, out: &mut Progress, sign: Problem) -> Option<Register>
     requires { Room source.now.tokens.now out.old.counters 0 1 }
     ensures lent { out.new.diagnostics.ghost_name ≡ out.old.diagnostics.ghost_name }
-    ensures told { RegisterBy source.now out.old out.new sign result }
+    ensures told { RegisterBy source.now out.old out.new (Problems.number sign) result }
 {
     let Some(t) = source.peek(out.counters) else {
         register_expected(source, out, sign);
@@ -81,7 +75,7 @@ fn ranged(out: &mut Progress, from: Register, to: Register) -> Item
         end: to.span.end,
     };
     let item = Item {
-        kind: 8,
+        kind: NodeKind::Range,
         from,
         to,
         span,
@@ -91,23 +85,16 @@ fn ranged(out: &mut Progress, from: Register, to: Register) -> Item
             start: u16::from(from.index),
             end: u16::from(to.index),
         };
-        out.raise(diagnostic(
-            REGISTER_RANGE_OUT_OF_ORDER,
-            NO_SHAPE,
-            NO_PROBLEM,
-            span,
-            both,
-        ));
-        return item;
+        out.raise(plain(DiagnosticKind::RegisterRangeOutOfOrder, span, both));
     }
     item
 }
 
 fn single(r: Register) -> Item
-    ensures { result ≡ record { kind = 7; from = r; to = r; span = r.span } }
+    ensures { result ≡ record { kind = NodeKind.Single; from = r; to = r; span = r.span } }
 {
     Item {
-        kind: 7,
+        kind: NodeKind::Single,
         from: r,
         to: r,
         span: r.span,
@@ -120,14 +107,11 @@ fn list_item(source: &Source, out: &mut Progress, r: Register) -> Option<Item>
     ensures lent { out.new.diagnostics.ghost_name ≡ out.old.diagnostics.ghost_name }
     ensures told { ItemBy source.now out.old out.new r result }
 {
-    let Some(t) = source.peek(out.counters) else {
+    let Some(t) = source.peek_kind(out.counters, kinds::MINUS) else {
         return Some(single(r));
     };
-    if t.kind != kinds::MINUS {
-        return Some(single(r));
-    }
     out.counters.step_over(t);
-    let to = expect_register(source, out, AFTER_MINUS)?;
+    let to = expect_register(source, out, Problem::AfterMinus)?;
     Some(ranged(out, r, to))
 }
 
@@ -143,52 +127,31 @@ fn range_bits(from: u8, to: u8) -> u16
     bits
 }
 
-// Puts the node of an item. It widens by `as`: with `from` the answer needs a step for each (tried).
+// Puts the node of an item: its ends stand in the places of the children, and their spans in that of the value.
 fn put_item(nodes: &mut [u16], c: &mut Counters, item: Item)
     requires { PutAsks nodes.old c.old.nodes }
     ensures { NodeTold nodes.old nodes.new c.old (item_bytes item) c.new }
 {
-    let from = item.from.span;
-    let to = item.to.span;
-    let ends = (to.start as u64) + 65536 * (to.end as u64);
-    let value = (from.start as u64) + 65536 * (from.end as u64) + 4294967296 * ends;
-    let left = item.from.index as u16;
-    let right = item.to.index as u16;
-    put_node(nodes, c.nodes, item.kind, 0, left, right, item.span, value);
+    let kind = u16::from(item.kind);
+    let value = item.from.span.packed() + 4294967296 * item.to.span.packed();
+    let left = u16::from(item.from.index);
+    let right = u16::from(item.to.index);
+    put_node(nodes, c.nodes, kind, 0, left, right, item.span, value);
     c.nodes += 1;
 }
 
-// The list from an offset to where its last token ended, with the mask of its items.
-fn listed(start: u16, end: u16, mask: u16) -> OperandRecord
-    ensures { result ≡ list_record start end mask }
+// The list with the mask of its items, the first of which is node 0.
+fn listed(span: Span, mask: u16) -> OperandRecord
+    ensures { result ≡ list_record span.start span.end mask }
 {
+    let first = Some(Sized { node: 0, size: 0 });
     OperandRecord {
-        form: form_numbers::REGISTER_LIST,
-        span: Span { start, end },
-        displacement: Some(Sized { node: 0, size: 0 }),
-        base: BaseRegister::Omitted,
-        index: None,
-        indirection: 0,
-        outer: None,
-        special: 0,
         mask: u32::from(mask),
+        ..plain_operand(Form::RegisterList, span, first, BaseRegister::Omitted)
     }
 }
 
-// A slash goes on, and anything else ends the list.
-fn slash_at(source: &Source, c: Counters) -> Option<Token>
-    ensures { result ≡ slashed (token_at source.now.tokens.now c.at) }
-{
-    let Some(t) = source.peek(c) else {
-        return None;
-    };
-    if t.kind != kinds::SLASH {
-        return None;
-    }
-    Some(t)
-}
-
-// The list that begins with this register.
+// The list that begins with this register. A `loop`: each turn reads on from where the last one ended, and a slash says whether another follows.
 pub(crate) fn parse_register_list(
     source: &Source,
     nodes: &mut [u16],
@@ -205,11 +168,11 @@ pub(crate) fn parse_register_list(
         let item = list_item(source, out, r)?;
         mask |= range_bits(item.from.index, item.to.index);
         put_item(nodes, &mut out.counters, item);
-        let Some(t) = slash_at(source, out.counters) else {
+        let Some(t) = source.peek_kind(out.counters, kinds::SLASH) else {
             break;
         };
         out.counters.step_over(t);
-        r = expect_register(source, out, AFTER_SLASH)?;
+        r = expect_register(source, out, Problem::AfterSlash)?;
     }
-    Some(listed(source.setting.start, out.counters.end, mask))
+    Some(listed(source.span_to(out.counters.end), mask))
 }

@@ -14,7 +14,7 @@ ghost use Rattle.operand.specs.declared.forms.BaseRegister.{BaseRegister};
 use expressions::Source;
 use names::{Suppressed, Token, kinds};
 use operand::{BaseRegister, Register};
-use records::span_of;
+use records::Span;
 
 #[tactic(auto, unfolding(crate::specs::Lookahead::reg_at))]
 pub(crate) fn register_at(source: &Source, token: Token) -> Option<u8>
@@ -39,7 +39,7 @@ pub(crate) fn register_of(index: u8, token: Token) -> Register
 {
     Register {
         index,
-        span: span_of(token),
+        span: Span::from(token),
     }
 }
 
@@ -47,13 +47,10 @@ pub(crate) fn register_of(index: u8, token: Token) -> Register
 pub(crate) fn address_register_at(source: &Source, token: Token) -> Option<u8>
     ensures { result ≡ address_of (reg_at token (text_of source.now.line.now token.start token.end)) }
 {
-    let Some(index) = register_at(source, token) else {
-        return None;
-    };
-    if 8 <= index {
-        return Some(index);
+    match register_at(source, token) {
+        Some(index) if 8 <= index => Some(index),
+        _ => None,
     }
-    None
 }
 
 #[tactic(auto, unfolding(operand::specs::Operand::a_program_counter))]
@@ -199,18 +196,9 @@ fn address_at(source: &Source, i: usize, token: Token, other: BaseRegister) -> B
     if closes_at(source, i + 1, false, false) {
         return BaseRegister::Omitted;
     }
-    match register_at(source, token) {
+    match address_register_at(source, token) {
+        Some(index) => BaseRegister::Address(register_of(index, token)),
         None => other,
-        Some(index) => {
-            if 8 <= index {
-                BaseRegister::Address(Register {
-                    index,
-                    span: span_of(token),
-                })
-            } else {
-                other
-            }
-        }
     }
 }
 

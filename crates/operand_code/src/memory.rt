@@ -8,29 +8,21 @@ ghost use Rattle.operand_code.specs.Memory.{indirect_record, ClosedBy, BehindBy}
 use crate::malformed::{expect_close, unclosed};
 use crate::memory_inner::{InnerPart, parse_inner};
 use crate::memory_outer::{OuterPart, parse_outer};
+use crate::steps::indexed;
 use expressions::Source;
 use names::{Token, kinds};
-use operand::{OperandRecord, form_numbers};
-use records::problems::BRACKET_MISSING;
-use records::{Progress, Span, shapes};
+use operand::{Form, OperandRecord};
+use records::{OperandShape, Problem, Progress, Span};
 
-// What closes the brackets.
-const CLOSE: u16 = kinds::RIGHT_BRACKET;
-
-// The operand between two offsets, of what stands within the brackets and behind them.
-fn memory_indirect(start: u16, end: u16, n: InnerPart, u: OuterPart) -> OperandRecord
-    ensures { result ≡ indirect_record start end n u }
+// The operand, of what stands within the brackets and behind them.
+fn memory_indirect(span: Span, n: InnerPart, u: OuterPart) -> OperandRecord
+    ensures { result ≡ indirect_record span.start span.end n u }
 {
+    let base = n.registers.base;
     OperandRecord {
-        form: form_numbers::FULL_INDEX,
-        span: Span { start, end },
-        displacement: n.displacement,
-        base: n.registers.base,
-        index: u.index,
         indirection: u.indirection,
         outer: u.displacement,
-        special: 0,
-        mask: 0,
+        ..indexed(Form::FullIndex, span, n.displacement, base, u.index)
     }
 }
 
@@ -46,8 +38,8 @@ fn close_indirect(
     ensures lent { out.new.diagnostics.ghost_name ≡ out.old.diagnostics.ghost_name }
     ensures told { ClosedBy source.now paren out.old out.new n u result }
 {
-    let end = expect_close(source, out, paren, shapes::MEMORY_INDIRECT)?;
-    Some(memory_indirect(source.setting.start, end, n, u))
+    let end = expect_close(source, out, paren, OperandShape::MemoryIndirect)?;
+    Some(memory_indirect(source.span_to(end), n, u))
 }
 
 // Behind the bracket that closes the inner part.
@@ -77,16 +69,12 @@ pub(crate) fn parse_memory_indirect(
     ensures lent { out.new.diagnostics.ghost_name ≡ out.old.diagnostics.ghost_name }
     ensures told { OperandBy (parse_memory_indirect source.now.setting paren) source.now out.old nodes.new out.new result }
 {
-    let shape = shapes::MEMORY_INDIRECT;
+    let shape = OperandShape::MemoryIndirect;
     let n = parse_inner(source, nodes, out)?;
-    let Some(t) = source.peek(out.counters) else {
-        unclosed(source, out, paren, shape, BRACKET_MISSING);
+    let Some(t) = source.peek_kind(out.counters, kinds::RIGHT_BRACKET) else {
+        unclosed(source, out, paren, shape, Problem::BracketMissing);
         return None;
     };
-    if t.kind != CLOSE {
-        unclosed(source, out, paren, shape, BRACKET_MISSING);
-        return None;
-    }
     out.counters.step_over(t);
     after_inner(source, nodes, out, paren, n)
 }

@@ -10,8 +10,7 @@ use crate::suffixes::take_size_suffix;
 use expressions::Source;
 use expressions_code::TermError;
 use operand::Sized;
-use records::problems::A_DISPLACEMENT_MISSING;
-use records::{Progress, shapes};
+use records::{OperandShape, Problem, Progress};
 
 // Behind the expression of a displacement: the tree that the last records hold, with its size.
 fn sized(source: &Source, out: &mut Progress, start: u16) -> Sized
@@ -40,7 +39,8 @@ pub(crate) fn parse_sized_displacement(
         Ok(span) => Some(sized(source, out, span.start)),
         Err(TermError::Reported) => None,
         Err(TermError::Absent) => {
-            stepped_over(source, out, shapes::MEMORY_INDIRECT, A_DISPLACEMENT_MISSING);
+            let shape = OperandShape::MemoryIndirect;
+            stepped_over(source, out, shape, Problem::ADisplacementMissing);
             None
         }
     }

@@ -10,7 +10,7 @@ use crate::memory_displacements::parse_sized_displacement;
 use expressions::Source;
 use names::kinds;
 use operand::{BaseRegister, Registers, Sized};
-use records::{Progress, shapes};
+use records::{OperandShape, Progress};
 
 // What stands between the brackets.
 #[derive(Clone, Copy)]
@@ -42,7 +42,7 @@ fn inner_registers(
     ensures lent { out.new.diagnostics.ghost_name ≡ out.old.diagnostics.ghost_name }
     ensures told { InnerBehindBy (with_registers source.now.setting) source.now out.old out.new displacement result }
 {
-    let registers = parse_base_and_index_registers(source, out, shapes::MEMORY_INDIRECT)?;
+    let registers = parse_base_and_index_registers(source, out, OperandShape::MemoryIndirect)?;
     Some(InnerPart {
         displacement,
         registers,
@@ -55,12 +55,9 @@ fn inner_displaced(source: &Source, out: &mut Progress, d: Option<Sized>) -> Opt
     ensures lent { out.new.diagnostics.ghost_name ≡ out.old.diagnostics.ghost_name }
     ensures told { InnerBehindBy (inner_displaced source.now.setting) source.now out.old out.new d result }
 {
-    let Some(t) = source.peek(out.counters) else {
+    let Some(t) = source.peek_kind(out.counters, kinds::COMMA) else {
         return Some(bare_inner(d));
     };
-    if t.kind != kinds::COMMA {
-        return Some(bare_inner(d));
-    }
     out.counters.step_over(t);
     inner_registers(source, out, d)
 }
@@ -84,7 +81,7 @@ pub(crate) fn parse_inner(
     ensures lent { out.new.diagnostics.ghost_name ≡ out.old.diagnostics.ghost_name }
     ensures told { InnerBy (parse_inner source.now.setting) source.now nodes.old out.old nodes.new out.new result }
 {
-    let at = out.counters.at as usize;
+    let at = usize::from(out.counters.at);
     let Some(t) = source.token_at(at) else {
         return inner_displacement(source, nodes, out);
     };

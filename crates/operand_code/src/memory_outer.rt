@@ -11,10 +11,14 @@ use crate::memory_displacements::parse_sized_displacement;
 use expressions::Source;
 use names::kinds;
 use operand::{IndexRegister, Sized};
-use records::problems::INDEX_TWICE;
-use records::{Progress, shapes};
+use records::{OperandShape, Problem, Progress};
 
-// What stands behind them. Indirection: 1 preindexed, 2 postindexed.
+// The numbers of an indirection, as the operand's record has them.
+const PREINDEXED: u8 = 1;
+
+const POSTINDEXED: u8 = 2;
+
+// What stands behind them. The indirection is the record's byte, into which alone it goes: an enum would be made the same number there.
 #[derive(Clone, Copy)]
 pub struct OuterPart {
     pub index: Option<IndexRegister>,
@@ -55,17 +59,14 @@ fn outer_indexed(
 {
     let alone = OuterPart {
         index: Some(x),
-        indirection: 2,
+        indirection: POSTINDEXED,
         displacement: None,
     };
-    let Some(t) = source.peek(out.counters) else {
+    let Some(t) = source.peek_kind(out.counters, kinds::COMMA) else {
         return Some(alone);
     };
-    if t.kind != kinds::COMMA {
-        return Some(alone);
-    }
     out.counters.step_over(t);
-    outer_displaced(source, nodes, out, Some(x), 2)
+    outer_displaced(source, nodes, out, Some(x), alone.indirection)
 }
 
 // An index goes inside the brackets or behind them, not both.
@@ -79,11 +80,12 @@ fn outer_index(
     ensures lent { out.new.diagnostics.ghost_name ≡ out.old.diagnostics.ghost_name }
     ensures told { OuterBy (outer_index source.now.setting index) source.now nodes.old out.old nodes.new out.new result }
 {
-    if let Some(_) = index {
-        stepped_over(source, out, shapes::MEMORY_INDIRECT, INDEX_TWICE);
+    let shape = OperandShape::MemoryIndirect;
+    if index.is_some() {
+        stepped_over(source, out, shape, Problem::IndexTwice);
         return None;
     }
-    let x = parse_index_register(source, out, shapes::MEMORY_INDIRECT)?;
+    let x = parse_index_register(source, out, shape)?;
     outer_indexed(source, nodes, out, x)
 }
 
@@ -100,18 +102,15 @@ pub(crate) fn parse_outer(
 {
     let alone = OuterPart {
         index,
-        indirection: 1,
+        indirection: PREINDEXED,
         displacement: None,
     };
-    let Some(t) = source.peek(out.counters) else {
+    let Some(t) = source.peek_kind(out.counters, kinds::COMMA) else {
         return Some(alone);
     };
-    if t.kind != kinds::COMMA {
-        return Some(alone);
-    }
     out.counters.step_over(t);
-    if is_an_index_at(source, out.counters.at as usize) {
+    if is_an_index_at(source, usize::from(out.counters.at)) {
         return outer_index(source, nodes, out, index);
     }
-    outer_displaced(source, nodes, out, index, 1)
+    outer_displaced(source, nodes, out, index, alone.indirection)
 }

@@ -20,11 +20,8 @@ use crate::parentheses::parse_parenthesised_operand;
 use crate::steps::plain_operand;
 use expressions::Source;
 use names::{SpecialRegister, Token, kinds};
-use operand::{BaseRegister, OperandRecord, Register, form_numbers};
-use records::diagnostic_kinds::OPERAND_EXPECTED;
-use records::problems::NO_PROBLEM;
-use records::shapes::NO_SHAPE;
-use records::{Progress, Span, diagnostic, shapes, span_of};
+use operand::{BaseRegister, Form, OperandRecord, Register};
+use records::{DiagnosticKind, OperandShape, Progress, Span, plain};
 
 // ---- predecrement
 
@@ -40,20 +37,19 @@ fn parse_predecrement(
     ensures lent { out.new.diagnostics.ghost_name ≡ out.old.diagnostics.ghost_name }
     ensures told { KeptBy undisplaced (predecrement_close source.now.setting minus paren token (register_from token (text_of source.now.line.now token.start token.end))) source.now out.old out.new result }
 {
-    let Some(index) = register_at(source, token) else {
-        return None;
-    };
+    let shape = OperandShape::Predecrement;
+    let index = register_at(source, token)?;
     if index < 8 {
-        not_an_address_register(source, out, shapes::PREDECREMENT, token);
+        not_an_address_register(source, out, shape, token);
         return None;
     }
-    let end = expect_close(source, out, paren, shapes::PREDECREMENT)?;
+    let end = expect_close(source, out, paren, shape)?;
     let span = Span {
         start: minus.start,
         end,
     };
     let base = BaseRegister::Address(register_of(index, token));
-    Some(plain_operand(form_numbers::PREDECREMENT, span, None, base))
+    Some(plain_operand(Form::Predecrement, span, None, base))
 }
 
 // ---- register operand
@@ -72,10 +68,8 @@ fn parse_register_operand(
     let Some(t) = source.peek(out.counters) else {
         return Some(register_direct(r));
     };
-    let kind = t.kind;
-    match kind {
-        kinds::MINUS => parse_register_list(source, nodes, out, r),
-        kinds::SLASH => parse_register_list(source, nodes, out, r),
+    match t.kind {
+        kinds::MINUS | kinds::SLASH => parse_register_list(source, nodes, out, r),
         _ => Some(register_direct(r)),
     }
 }
@@ -84,9 +78,9 @@ fn register_direct(r: Register) -> OperandRecord
     ensures { result ≡ record_of (register_direct r r.span) }
 {
     let form = if r.index < 8 {
-        form_numbers::DATA_REGISTER_DIRECT
+        Form::DataRegisterDirect
     } else {
-        form_numbers::ADDRESS_REGISTER_DIRECT
+        Form::AddressRegisterDirect
     };
     plain_operand(form, r.span, None, BaseRegister::Address(r))
 }
@@ -97,15 +91,8 @@ fn special_register(special: u8, span: Span) -> OperandRecord
     ensures { result ≡ record_of (O.special_register special span) }
 {
     OperandRecord {
-        form: form_numbers::SPECIAL_REGISTER,
-        span,
-        displacement: None,
-        base: BaseRegister::Omitted,
-        index: None,
-        indirection: 0,
-        outer: None,
         special,
-        mask: 0,
+        ..plain_operand(Form::SpecialRegister, span, None, BaseRegister::Omitted)
     }
 }
 
@@ -127,7 +114,7 @@ fn named_operand(
     match SpecialRegister::parse(source.text_of(token)) {
         Some(n) => {
             out.counters.step_over(token);
-            Some(special_register(n as u8, span_of(token)))
+            Some(special_register(n as u8, Span::from(token)))
         }
         None => parse_expression_operand(source, nodes, out),
     }
@@ -144,13 +131,10 @@ fn minus_operand(
     ensures lent { out.new.diagnostics.ghost_name ≡ out.old.diagnostics.ghost_name }
     ensures told { OperandBy (minus_operand source.now.setting minus) source.now out.old nodes.new out.new result }
 {
-    let at = out.counters.at as usize;
-    let Some(paren) = source.token_at(at + 1) else {
+    let at = usize::from(out.counters.at);
+    let Some(paren) = source.token_of_kind(at + 1, kinds::LEFT_PAREN) else {
         return parse_expression_operand(source, nodes, out);
     };
-    if paren.kind != kinds::LEFT_PAREN {
-        return parse_expression_operand(source, nodes, out);
-    }
     let Some(t) = source.token_at(at + 2) else {
         return parse_expression_operand(source, nodes, out);
     };
@@ -174,12 +158,10 @@ pub(crate) fn operand_from(
     ensures lent { out.new.diagnostics.ghost_name ≡ out.old.diagnostics.ghost_name }
     ensures told { OperandBy (operand_from source.now.setting) source.now out.old nodes.new out.new result }
 {
-    let kind = token.kind;
-    match kind {
+    match token.kind {
         kinds::COMMA => {
-            let none = Span { start: 0, end: 0 };
-            let span = span_of(token);
-            out.raise(diagnostic(OPERAND_EXPECTED, NO_SHAPE, NO_PROBLEM, span, none));
+            let span = Span::from(token);
+            out.raise(plain(DiagnosticKind::OperandExpected, span, Span::default()));
             None
         }
         kinds::HASH => {

@@ -11,7 +11,6 @@ use crate::bases::parse_base_and_index;
 use crate::expressed::{expression_at, expression_behind};
 use crate::full::parse_full_index;
 use crate::lookahead::{starts_a_base, starts_a_full_index};
-use crate::malformed::expression_expected;
 use crate::memory::parse_memory_indirect;
 use crate::steps::last_tree;
 use crate::suffixes::suffix_run;
@@ -19,10 +18,7 @@ use expressions::Source;
 use expressions_code::TermError;
 use names::{Token, kinds};
 use operand::{OperandRecord, Sized};
-use records::diagnostic_kinds::{UNCLOSED_PARENTHESIS, UNEXPECTED_TOKEN_IN_OPERAND};
-use records::problems::NO_PROBLEM;
-use records::shapes::NO_SHAPE;
-use records::{Progress, Span, diagnostic, span_of};
+use records::{DiagnosticKind, Progress, Span, expression_expected, plain};
 
 // The parenthesis has closed behind an expression: a displacement, or a group that goes on.
 fn grouped_operand(
@@ -35,12 +31,9 @@ fn grouped_operand(
     ensures lent { out.new.diagnostics.ghost_name ≡ out.old.diagnostics.ghost_name }
     ensures told { StandBy (λ e. Unit {0}) (λ e. grouped_operand source.now.setting paren out.old.counters.end e) source.now nodes.old out.old nodes.new out.new result }
 {
-    let Some(t) = source.peek(out.counters) else {
+    let Some(t) = source.peek_kind(out.counters, kinds::LEFT_PAREN) else {
         return grouped_expression(source, nodes, out, paren);
     };
-    if t.kind != kinds::LEFT_PAREN {
-        return grouped_expression(source, nodes, out, paren);
-    }
     let d = last_tree(out.counters, 0);
     out.counters.step_over(t);
     parse_base_and_index(source, out, t, d)
@@ -71,23 +64,16 @@ fn unexpected(source: &Source, out: &mut Progress, paren: Token) -> Option<Opera
     ensures lent { out.new.diagnostics.ghost_name ≡ out.old.diagnostics.ghost_name }
     ensures told { FailBy (unexpected paren) source.now out.old out.new result }
 {
-    let none = Span { start: 0, end: 0 };
     let Some(t) = source.peek(out.counters) else {
-        let span = span_of(paren);
-        out.raise(diagnostic(UNCLOSED_PARENTHESIS, NO_SHAPE, NO_PROBLEM, span, none));
+        let span = Span::from(paren);
+        out.raise(plain(DiagnosticKind::UnclosedParenthesis, span, Span::default()));
         return None;
     };
     if t.kind == kinds::ERROR {
         return None;
     }
-    let span = span_of(t);
-    out.raise(diagnostic(
-        UNEXPECTED_TOKEN_IN_OPERAND,
-        NO_SHAPE,
-        NO_PROBLEM,
-        span,
-        span,
-    ));
+    let span = Span::from(t);
+    out.raise(plain(DiagnosticKind::UnexpectedTokenInOperand, span, span));
     None
 }
 
@@ -102,7 +88,7 @@ fn after_comma(
     ensures lent { out.new.diagnostics.ghost_name ≡ out.old.diagnostics.ghost_name }
     ensures told { BaseBy (λ y. after_comma source.now.setting paren y) source.now out.old out.new d result }
 {
-    if starts_a_full_index(source, out.counters.at as usize) {
+    if starts_a_full_index(source, usize::from(out.counters.at)) {
         return parse_full_index(source, out, paren, d);
     }
     parse_base_and_index(source, out, paren, d)
@@ -120,13 +106,10 @@ fn sized_base(
     ensures lent { out.new.diagnostics.ghost_name ≡ out.old.diagnostics.ghost_name }
     ensures told { TreeBy (λ e. size_and_base source.now.setting paren e) source.now out.old out.new value result }
 {
-    let at = out.counters.at as usize;
-    let Some(t) = source.token_at(at + 1) else {
+    let at = usize::from(out.counters.at);
+    let Some(t) = source.token_of_kind(at + 1, kinds::COMMA) else {
         return unexpected(source, out, paren);
     };
-    if t.kind != kinds::COMMA {
-        return unexpected(source, out, paren);
-    }
     out.counters.step_over(suffix);
     let x = suffix_run(source, out, value.start, suffix);
     let d = last_tree(out.counters, x.size);
@@ -148,8 +131,7 @@ fn after_expression(
     let Some(t) = source.peek(out.counters) else {
         return unexpected(source, out, paren);
     };
-    let kind = t.kind;
-    match kind {
+    match t.kind {
         kinds::COMMA => {
             let d = last_tree(out.counters, 0);
             out.counters.step_over(t);
@@ -179,7 +161,7 @@ fn parenthesised(
         Ok(span) => after_expression(source, nodes, out, paren, span),
         Err(TermError::Reported) => None,
         Err(TermError::Absent) => {
-            expression_expected(out, paren);
+            out.raise(expression_expected(paren));
             None
         }
     }
@@ -196,7 +178,7 @@ fn unbracketed(
     ensures lent { out.new.diagnostics.ghost_name ≡ out.old.diagnostics.ghost_name }
     ensures told { OperandBy (unbracketed source.now.setting paren) source.now out.old nodes.new out.new result }
 {
-    let at = out.counters.at as usize;
+    let at = usize::from(out.counters.at);
     if starts_a_full_index(source, at) {
         return parse_full_index(source, out, paren, None);
     }
@@ -217,12 +199,9 @@ pub(crate) fn parse_parenthesised_operand(
     ensures lent { out.new.diagnostics.ghost_name ≡ out.old.diagnostics.ghost_name }
     ensures told { OperandBy (parse_parenthesised_operand source.now.setting paren) source.now out.old nodes.new out.new result }
 {
-    let Some(t) = source.peek(out.counters) else {
+    let Some(t) = source.peek_kind(out.counters, kinds::LEFT_BRACKET) else {
         return unbracketed(source, nodes, out, paren);
     };
-    if t.kind != kinds::LEFT_BRACKET {
-        return unbracketed(source, nodes, out, paren);
-    }
     out.counters.step_over(t);
     parse_memory_indirect(source, nodes, out, paren)
 }

@@ -28,42 +28,13 @@ pub fn operand_at(
     if MOST_TOKENS < count || count < start || nodes.len() < 10 * count || limit == 0 {
         return None;
     }
-    match names::token_at(tokens, start) {
-        Some(t) => {
-            let near = mark_within(mark);
-            Some(read(line, tokens, nodes, diagnostics, start, near, limit, t))
-        }
-        None => Some(nothing(nodes, first(start))),
-    }
-}
-
-// The mark, or one past every list: these are read alike.
-fn mark_within(mark: usize) -> u32
-    ensures { result ≡ min mark 1023 }
-{
-    if mark < MOST_TOKENS {
-        return mark as u32;
-    }
-    MOST_TOKENS as u32
-}
-
-// The operand whose first token is `token`.
-fn read(
-    line: &[u8],
-    tokens: &[u16],
-    nodes: &mut [u16],
-    diagnostics: &mut [u16],
-    start: usize,
-    mark: u32,
-    limit: u16,
-    token: Token,
-) -> OperandStep
-    requires { OperandAsks tokens.now nodes.old start limit × (token_at tokens.now start ≡ Some token) }
-    ensures { OperandFits (reading_of limit mark (place line.now tokens.now) start) nodes.old diagnostics.old nodes.new diagnostics.new result }
-{
+    let counters = first(start);
+    let Some(token) = names::token_at(tokens, start) else {
+        return Some(nothing(nodes, counters));
+    };
     let setting = Setting {
         limit,
-        mark,
+        mark: mark_within(mark),
         start: token.start,
     };
     let source = Source {
@@ -73,9 +44,25 @@ fn read(
     };
     let mut out = Progress {
         diagnostics,
-        counters: first(start),
+        counters,
     };
-    let found = operand_from(&source, nodes, &mut out, token);
+    Some(read(&source, nodes, &mut out, token))
+}
+
+// The mark, or one past every list: these are read alike.
+fn mark_within(mark: usize) -> u32
+    ensures { result ≡ min mark 1023 }
+{
+    mark.min(MOST_TOKENS) as u32
+}
+
+// The operand whose first token is `token`.
+fn read(source: &Source, nodes: &mut [u16], out: &mut Progress, token: Token) -> OperandStep
+    requires { OperandAsks source.now.tokens.now nodes.old out.old.counters.at source.now.setting.limit × (token_at source.now.tokens.now out.old.counters.at ≡ Some token) × (source.now.setting.start ≡ token.start) × (out.old.counters ≡ record { at = out.old.counters.at; end = 0; nodes = 0; diagnostics = 0 }) }
+    ensures lent { out.new.diagnostics.ghost_name ≡ out.old.diagnostics.ghost_name }
+    ensures told { OperandFits (reading_of source.now.setting.limit source.now.setting.mark (place source.now.line.now source.now.tokens.now) out.old.counters.at) nodes.old out.old.diagnostics.now nodes.new out.new.diagnostics.now result }
+{
+    let found = operand_from(source, nodes, out, token);
     let e = out.counters;
     match found {
         Some(_) => {
@@ -96,9 +83,7 @@ fn first(start: usize) -> Counters
 {
     Counters {
         at: start as u16,
-        end: 0,
-        nodes: 0,
-        diagnostics: 0,
+        ..Counters::default()
     }
 }
 

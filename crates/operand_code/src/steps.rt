@@ -1,33 +1,34 @@
 // Operands, put together.
 ghost use Rattle.std.specs.Prelude.{◌≡◌, ◌-◌, ◌<◌};
+ghost use Rattle.operand.specs.FormNumbers;
 ghost use Rattle.operand.specs.Forms.{form_of};
 
-use operand::{BaseRegister, IndexRegister, OperandRecord, Sized};
+use operand::{BaseRegister, Form, IndexRegister, OperandRecord, Sized};
 use records::{Counters, Span};
 
 // An operand without an index or an outer displacement.
 pub(crate) fn plain_operand(
-    form: u8,
+    form: Form,
     span: Span,
     displacement: Option<Sized>,
     base: BaseRegister,
 ) -> OperandRecord
-    ensures { result ≡ form_of form span displacement base None }
+    ensures { result ≡ form_of (FormNumbers.number form) span displacement base None }
 {
     indexed(form, span, displacement, base, None)
 }
 
 pub(crate) fn indexed(
-    form: u8,
+    form: Form,
     span: Span,
     displacement: Option<Sized>,
     base: BaseRegister,
     index: Option<IndexRegister>,
 ) -> OperandRecord
-    ensures { result ≡ form_of form span displacement base index }
+    ensures { result ≡ form_of (FormNumbers.number form) span displacement base index }
 {
     OperandRecord {
-        form,
+        form: u8::from(form),
         span,
         displacement,
         base,

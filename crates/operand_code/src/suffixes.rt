@@ -13,10 +13,7 @@ ghost use Rattle.operand_code.specs.Told.{Tells};
 use expressions::Source;
 use names::{SizeSuffix, Token, kinds};
 use operand::Suffixed;
-use records::diagnostic_kinds::{DOT_IN_NAME, UNKNOWN_SIZE_SUFFIX};
-use records::problems::NO_PROBLEM;
-use records::shapes::NO_SHAPE;
-use records::{Progress, Span, diagnostic, span_of};
+use records::{DiagnosticKind, Progress, Span, plain};
 
 // Behind the token of a size suffix. A run of two letters or more is a dot inside a name, which began at `from`.
 pub(crate) fn suffix_run(source: &Source, out: &mut Progress, from: u16, token: Token) -> Suffixed
@@ -25,13 +22,13 @@ pub(crate) fn suffix_run(source: &Source, out: &mut Progress, from: u16, token: 
     ensures told { Tells suffix_read (Same out.old.counters.nodes) (suffix_run from token (run_of (text_of source.now.line.now token.start token.end))) source.now out.old out.new (Some result) }
 {
     let run = names::suffix_run(source.text_of(token));
-    let span = span_of(token);
+    let span = Span::from(token);
     if 2 <= run.len() {
         let name = Span {
             start: from,
             end: token.end,
         };
-        out.raise(diagnostic(DOT_IN_NAME, NO_SHAPE, NO_PROBLEM, span, name));
+        out.raise(plain(DiagnosticKind::DotInName, span, name));
         return Suffixed { size: 0, span };
     }
     match SizeSuffix::from_run(run) {
@@ -41,7 +38,7 @@ pub(crate) fn suffix_run(source: &Source, out: &mut Progress, from: u16, token: 
         },
         None => {
             let text = run_span(span);
-            out.raise(diagnostic(UNKNOWN_SIZE_SUFFIX, NO_SHAPE, NO_PROBLEM, span, text));
+            out.raise(plain(DiagnosticKind::UnknownSizeSuffix, span, text));
             Suffixed { size: 0, span }
         }
     }
@@ -57,10 +54,7 @@ fn run_span(suffix: Span) -> Span
             end: suffix.end,
         };
     }
-    Span {
-        start: suffix.end,
-        end: suffix.end,
-    }
+    Span::empty(suffix.end)
 }
 
 pub(crate) fn take_size_suffix(source: &Source, out: &mut Progress, from: u16) -> Option<Suffixed>
@@ -68,12 +62,7 @@ pub(crate) fn take_size_suffix(source: &Source, out: &mut Progress, from: u16) -
     ensures lent { out.new.diagnostics.ghost_name ≡ out.old.diagnostics.ghost_name }
     ensures told { Tells suffix_read (Same out.old.counters.nodes) (take_size_suffix from) source.now out.old out.new result }
 {
-    let Some(t) = source.peek(out.counters) else {
-        return None;
-    };
-    if t.kind != kinds::SIZE_SUFFIX {
-        return None;
-    }
+    let t = source.peek_kind(out.counters, kinds::SIZE_SUFFIX)?;
     out.counters.step_over(t);
     Some(suffix_run(source, out, from, t))
 }
