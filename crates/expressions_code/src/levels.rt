@@ -32,15 +32,20 @@ pub(crate) fn binary_operator(kind: u16) -> u16
     }
 }
 
+#[tactic(auto, unfolding(expressions::specs::Expressions::is_unary))]
 pub(crate) fn is_unary(token: Token) -> bool
     ensures { (x : List ℕ) → result ≡ is_unary token x }
 {
     matches!(token.kind, kinds::MINUS | kinds::TILDE)
 }
 
-// A unary operator's number.
+// A unary operator's number, of a kind that is one: 0 and 1 are the definition's, as `binary_operator`'s are.
+#[tactic(auto, unfolding(expressions::specs::Expressions::unary_operator))]
 pub(crate) fn unary_operator(kind: u16) -> u16
     ensures { result ≡ unary_operator kind }
 {
-    if kind == kinds::MINUS { 0 } else { 1 }
+    match kind {
+        kinds::MINUS => 0,
+        _ => 1,
+    }
 }

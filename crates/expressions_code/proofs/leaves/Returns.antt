@@ -1,7 +1,7 @@
 -- What the terms of one token tell.
 -- Assumes nothing.
-use Rattle.std.specs.Prelude.{Some, None, Result, Ok, Err}
-use mathlib.Core.Path.{◌≡◌, refl, sym, ◌∙◌, ap, subst}
+use Rattle.std.specs.Prelude.{Option, Some, None, Result, Ok, Err}
+use mathlib.Core.Path.{◌≡◌, refl, sym, ◌∙◌, ap, ap₂, subst}
 use mathlib.Core.Bool.{Bool, true, false}
 use mathlib.Core.List.{List, append-nil}
 use Prim.Native.Nat.{ℕ, ◌+◌, ◌*◌, ◌/◌, ◌%◌, ◌<◌}
@@ -17,7 +17,7 @@ use Rattle.names.specs.Numbers.{number_of}
 use Rattle.names.specs.declared.tokens.Token.{Token}
 use Rattle.names.specs.declared.numbers.NumberError.{NumberError}
 use Rattle.records.specs.DiagnosticKinds
-use Rattle.records.specs.Spans.{span_of, empty, no_span}
+use Rattle.records.specs.Spans.{span, span_of, span_or, no_span}
 use Rattle.expressions.specs.Trees.{Expr, number, character_literal, symbol, current_address, span_e, size}
 use Rattle.records.specs.declared.spans.Span.{Span}
 use Rattle.records.specs.declared.diagnostics.Diagnostic.{Diagnostic}
@@ -33,6 +33,10 @@ use Rattle.records.specs.Nodes.{node_record, words, own}
 use Rattle.expressions.specs.Records.{nodes}
 use Rattle.records.specs.Counters.{stepped, counters_are}
 use Rattle.expressions_code.specs.Terms.{Parsed, parsed_of, size_t, nodes_t, Held, Said, LeafTold, DeepTold, ReaderTold, TokenTold, DepthTold, Spared}
+
+-- the span that the code has where a record has none
+pub blank : {s : Span} → (s.start ≡ 0) × (s.end ≡ 0) → s ≡ no_span
+blank h = ap₂ span h.0 h.1
 
 -- ---- a term without nodes
 
@@ -186,11 +190,11 @@ module _ (L N D : List ℕ) (c : Counters) (k : Token) where
 
 -- ---- the depth
 
-module _ {T D D' : List ℕ} {c : Counters} {v_r : Parsed} {r : Counters} {y : Diagnostic} where
-  pub deep_token : {t : Token} {s : Span} → token_at T c.at ≡ Some t → s ≡ span_of t → y ≡ plain DiagnosticKinds.nesting_too_deep s no_span → DeepTold D D' c y v_r r → DepthTold T D D' c v_r r
-  unfolding too_deep
-  deep_token {t} e f g h = record { told = λ L N. let z : y ≡ nesting_too_deep (span_of t) = g ∙ rw f in hereby (seen (sym (add-zero c.at)) e refl (report_told (rw z at h))) }
-
-  pub deep_past : token_at T c.at ≡ None → y ≡ plain DiagnosticKinds.nesting_too_deep (empty c.end) no_span → DeepTold D D' c y v_r r → DepthTold T D D' c v_r r
-  unfolding too_deep
-  deep_past e g h = record { told = λ L N. hereby (beyond (sym (add-zero c.at)) e (report_told (rw g at h))) }
+module _ {T D D' : List ℕ} {c : Counters} {v_r : Parsed} {r : Counters} {s : Span} {y : Diagnostic} where
+  pub depth_told : s ≡ span_or (token_at T c.at) c.end → y ≡ nesting_too_deep s → DeepTold D D' c y v_r r → DepthTold T D D' c v_r r
+  unfolding too_deep span_or
+  depth_told f g h = go (token_at T c.at) refl (g ∙ ap nesting_too_deep f)
+    where
+      go : (o : Option Token) → token_at T c.at ≡ o → y ≡ nesting_too_deep (span_or o c.end) → DepthTold T D D' c v_r r
+      go (Some t) e z = record { told = λ L N. hereby (seen (sym (add-zero c.at)) e refl (report_told (rw z at h))) }
+      go None e z = record { told = λ L N. hereby (beyond (sym (add-zero c.at)) e (report_told (rw z at h))) }

@@ -13,7 +13,7 @@ report-requires c =
 
 pub returns-then-is_reserved_name-clause-told : goal.returns-then-is_reserved_name-clause-told
 returns-then-is_reserved_name-clause-told c =
-    name_reserved _ _ _ _ [] (sym (c.is_reserved_name.ensures ∙ ap reserved c.text_of.ensures) ∙ c.if-is_reserved_name.true) c.span_of-span.ensures c.plain.ensures c.report.ensures.told
+    name_reserved _ _ _ _ [] (sym (c.is_reserved_name.ensures ∙ ap reserved c.text_of.ensures) ∙ c.if-is_reserved_name.true) c.from-span.ensures c.plain.ensures c.report.ensures.told
 
 pub read_leaf-requires : goal.read_leaf-requires
 read_leaf-requires c =
@@ -21,4 +21,4 @@ read_leaf-requires c =
 
 pub returns-clause-told : goal.returns-clause-told
 returns-clause-told c =
-    name_read _ _ _ _ [] (sym (c.is_reserved_name.ensures ∙ ap reserved c.text_of.ensures) ∙ c.if-is_reserved_name.false) c.span_of-span.ensures c.own.ensures c.read_leaf.ensures
+    name_read _ _ _ _ [] (sym (c.is_reserved_name.ensures ∙ ap reserved c.text_of.ensures) ∙ c.if-is_reserved_name.false) c.from-span.ensures c.own.ensures c.read_leaf.ensures

@@ -28,7 +28,7 @@ read_leaf-requires-in-1 c =
 
 pub returns-in-16-clause-told : goal.returns-in-16-clause-told
 returns-in-16-clause-told c =
-    star_told _ _ _ _ _ (over_is (omega (arith, c.requires.1)) c.step_over.ensures) c.span_of-span.ensures c.in-16.is c.read_leaf.ensures
+    star_told _ _ _ _ _ (over_is (omega (arith, c.requires.1)) c.step_over.ensures) c.from-span.ensures c.in-16.is c.read_leaf.ensures
 
 pub returns-in-2-clause-told : goal.returns-in-2-clause-told
 returns-in-2-clause-told c =
@@ -36,7 +36,7 @@ returns-in-2-clause-told c =
 
 pub returns-in-3-clause-told : goal.returns-in-3-clause-told
 returns-in-3-clause-told c =
-    string_told _ _ _ _ _ (over_is (omega (arith, c.requires.1)) c.step_over.ensures) c.span_of-span.ensures c.own.ensures c.in-3.is refl c.read_leaf-in-3.ensures
+    string_told _ _ _ _ _ (over_is (omega (arith, c.requires.1)) c.step_over.ensures) c.from-span.ensures c.own.ensures c.in-3.is refl c.read_leaf-in-3.ensures
 
 pub returns-in-0-clause-told : goal.returns-in-0-clause-told
 returns-in-0-clause-told c =
@@ -44,7 +44,7 @@ returns-in-0-clause-told c =
 
 pub returns-in-1-clause-told : goal.returns-in-1-clause-told
 returns-in-1-clause-told c =
-    local_told _ _ _ _ _ (over_is (omega (arith, c.requires.1)) c.step_over.ensures) c.span_of-span.ensures c.own-in-1.ensures c.in-1.is refl c.read_leaf-in-1.ensures
+    local_told _ _ _ _ _ (over_is (omega (arith, c.requires.1)) c.step_over.ensures) c.from-span.ensures c.own-in-1.ensures c.in-1.is refl c.read_leaf-in-1.ensures
 
 pub returns-in-29-clause-told : goal.returns-in-29-clause-told
 returns-in-29-clause-told c =

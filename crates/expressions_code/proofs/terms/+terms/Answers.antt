@@ -9,6 +9,7 @@ use Rattle.records.specs.Counters.{over_is}
 use Rattle.expressions.specs.Paths.{told_one}
 use Rattle.expressions_code.proofs.levels.Operators.{precedence_small}
 use Rattle.names.specs.Places.{live}
+use Rattle.expressions_code.proofs.leaves.Returns.{blank}
 use Rattle.expressions_code.proofs.terms.Returns.{err_given, read_some, absent_quiet, prefix_full, prefix_end, prefix_unary, prefix_plus, prefix_group, prefix_leaf, unary_reads, unary_reports, unary_absents, plus_reads, plus_fails, expression_reads, expression_fails}
 use Rattle.expressions_code.proofs.terms.Closings.{group_reports, group_absents, group_tells}
 use Rattle.expressions_code.proofs.terms.Climbs.{climb_ends, climb_lows, operated_reports, operated_absents, operated_reads}
@@ -57,7 +58,7 @@ parse_group-returns-in-Err-Reported-clause-told t c =
 
 pub parse_group-returns-in-Err-Absent-clause-told : goal.parse_group-returns-in-Err-Absent-clause-told
 parse_group-returns-in-Err-Absent-clause-told t c =
-    group_absents _ _ (omega (arith, c.requires)) (omega (arith, c.requires, c.parse_expression.ensures.told)) c.parse_expression.ensures.told (c.in-Err-Absent.is ∙ ap Err c.in-Err-Absent.field-0-is) c.expected_after.ensures c.report.ensures.told
+    group_absents _ _ (omega (arith, c.requires)) (omega (arith, c.requires, c.parse_expression.ensures.told)) c.parse_expression.ensures.told (c.in-Err-Absent.is ∙ ap Err c.in-Err-Absent.field-0-is) c.expression_expected.ensures c.report.ensures.told
 
 pub parse_operated-parse_prefix-requires : goal.parse_operated-parse_prefix-requires
 parse_operated-parse_prefix-requires t c =
@@ -89,7 +90,7 @@ parse_operated-returns-in-Err-Reported-clause-told t c =
 
 pub parse_operated-returns-in-Err-Absent-clause-told : goal.parse_operated-returns-in-Err-Absent-clause-told
 parse_operated-returns-in-Err-Absent-clause-told t c =
-    operated_absents _ _ _ _ _ _ _ _ _ _ _ _ _ c.requires.1 (over_is (omega (arith, c.requires.0)) c.step_over.ensures) c.parse_prefix.ensures.told (omega (arith, c.requires.0)) c.requires.0.room.stand (c.in-Err-Absent.is ∙ ap Err c.in-Err-Absent.field-0-is) c.expected_after.ensures c.report.ensures.told
+    operated_absents _ _ _ _ _ _ _ _ _ _ _ _ _ c.requires.1 (over_is (omega (arith, c.requires.0)) c.step_over.ensures) c.parse_prefix.ensures.told (omega (arith, c.requires.0)) c.requires.0.room.stand (c.in-Err-Absent.is ∙ ap Err c.in-Err-Absent.field-0-is) c.expression_expected.ensures c.report.ensures.told
 
 pub parse_plus-report-requires : goal.parse_plus-report-requires
 parse_plus-report-requires t c =
@@ -97,11 +98,11 @@ parse_plus-report-requires t c =
 
 pub parse_plus-returns-in-Ok-clause-told : goal.parse_plus-returns-in-Ok-clause-told
 parse_plus-returns-in-Ok-clause-told t c =
-    plus_reads _ (omega (arith, c.requires)) c.parse_prefix.ensures.told _ c.in-Ok.is c.span_of-span.ensures c.plain.ensures (told_one (omega (arith, c.requires, c.parse_prefix.ensures.told)) c.raise.ensures.told c.raise.ensures.counted)
+    plus_reads _ (omega (arith, c.requires)) c.parse_prefix.ensures.told _ c.in-Ok.is c.from-span.ensures c.plain.ensures (told_one (omega (arith, c.requires, c.parse_prefix.ensures.told)) c.raise.ensures.told c.raise.ensures.counted)
 
 pub parse_plus-returns-in-Err-clause-told : goal.parse_plus-returns-in-Err-clause-told
 parse_plus-returns-in-Err-clause-told t c =
-    plus_fails _ (omega (arith, c.requires)) c.parse_prefix.ensures.told _ _ c.in-Err.is c.span_of-span.ensures c.plain-in-Err.ensures c.report.ensures.told
+    plus_fails _ (omega (arith, c.requires)) c.parse_prefix.ensures.told _ _ c.in-Err.is c.from-span.ensures (rw (blank c.default.ensures) at c.plain-in-Err.ensures) c.report.ensures.told
 
 pub parse_prefix-too_deep-requires : goal.parse_prefix-too_deep-requires
 parse_prefix-too_deep-requires t c =
@@ -169,4 +170,4 @@ parse_unary-returns-in-Err-Reported-clause-told t c =
 
 pub parse_unary-returns-in-Err-Absent-clause-told : goal.parse_unary-returns-in-Err-Absent-clause-told
 parse_unary-returns-in-Err-Absent-clause-told t c =
-    unary_absents _ (omega (arith, c.requires)) c.parse_prefix.ensures.told _ (c.in-Err-Absent.is ∙ ap Err c.in-Err-Absent.field-0-is) c.expected_after.ensures c.report.ensures.told
+    unary_absents _ (omega (arith, c.requires)) c.parse_prefix.ensures.told _ (c.in-Err-Absent.is ∙ ap Err c.in-Err-Absent.field-0-is) c.expression_expected.ensures c.report.ensures.told
