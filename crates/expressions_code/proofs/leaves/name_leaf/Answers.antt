@@ -7,17 +7,9 @@ use Rattle.names.specs.Registers.{reserved}
 use Rattle.expressions_code.proofs.leaves.Returns.{name_reserved, name_read}
 use Rattle.expressions_code.proofs.leaves.name_leaf.Goals as goal
 
-pub report-requires : goal.report-requires
-report-requires c =
-    omega (arith, c.requires)
-
 pub returns-then-is_reserved_name-clause-told : goal.returns-then-is_reserved_name-clause-told
 returns-then-is_reserved_name-clause-told c =
     name_reserved _ _ _ _ [] (sym (c.is_reserved_name.ensures ∙ ap reserved c.text_of.ensures) ∙ c.if-is_reserved_name.true) c.from-span.ensures c.plain.ensures c.report.ensures.told
-
-pub read_leaf-requires : goal.read_leaf-requires
-read_leaf-requires c =
-    omega (arith, c.requires)
 
 pub returns-clause-told : goal.returns-clause-told
 returns-clause-told c =

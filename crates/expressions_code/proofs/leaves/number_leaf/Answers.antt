@@ -8,18 +8,6 @@ use Rattle.expressions.specs.Paths.{told_one}
 use Rattle.expressions_code.proofs.leaves.Returns.{number_value, number_large, number_invalid}
 use Rattle.expressions_code.proofs.leaves.number_leaf.Goals as goal
 
-pub read_leaf-requires : goal.read_leaf-requires
-read_leaf-requires c =
-    omega (arith, c.requires)
-
-pub read_leaf-requires-in-Err-TooLarge : goal.read_leaf-requires-in-Err-TooLarge
-read_leaf-requires-in-Err-TooLarge c =
-    omega (arith, c.requires, c.raise.ensures.counted)
-
-pub read_leaf-requires-in-Err-Invalid : goal.read_leaf-requires-in-Err-Invalid
-read_leaf-requires-in-Err-Invalid c =
-    omega (arith, c.requires)
-
 pub returns-in-Ok-clause-told : goal.returns-in-Ok-clause-told
 returns-in-Ok-clause-told c =
     number_value _ _ _ _ _ (sym (c.parse_number.ensures.number ∙ ap (number_of _) c.text_of.ensures) ∙ c.in-Ok.is) refl c.from-span.ensures c.read_leaf.ensures

@@ -6,26 +6,6 @@ use Rattle.records.specs.Counters.{over_is}
 use Rattle.expressions_code.proofs.leaves.Returns.{star_told, number_told, string_told, name_told, local_told, error_told, other_told}
 use Rattle.expressions_code.proofs.leaves.parse_leaf.Goals as goal
 
-pub read_leaf-requires : goal.read_leaf-requires
-read_leaf-requires c =
-    omega (arith, c.requires.0, c.step_over.ensures)
-
-pub number_leaf-requires : goal.number_leaf-requires
-number_leaf-requires c =
-    omega (arith, c.requires.0, c.step_over.ensures)
-
-pub read_leaf-requires-in-3 : goal.read_leaf-requires-in-3
-read_leaf-requires-in-3 c =
-    omega (arith, c.requires.0, c.step_over.ensures)
-
-pub name_leaf-requires : goal.name_leaf-requires
-name_leaf-requires c =
-    omega (arith, c.requires.0, c.step_over.ensures)
-
-pub read_leaf-requires-in-1 : goal.read_leaf-requires-in-1
-read_leaf-requires-in-1 c =
-    omega (arith, c.requires.0, c.step_over.ensures)
-
 pub returns-in-16-clause-told : goal.returns-in-16-clause-told
 returns-in-16-clause-told c =
     star_told _ _ _ _ _ (over_is (omega (arith, c.requires.1)) c.step_over.ensures) c.from-span.ensures c.in-16.is c.read_leaf.ensures

@@ -10,18 +10,6 @@ pub returns-then-not-has_room-clause-told : goal.returns-then-not-has_room-claus
 returns-then-not-has_room-clause-told c =
     unread refl (room_lacks c.has_room.ensures c.if-not-has_room.true-raw) refl refl refl
 
-pub parse_expression-read-requires : goal.parse_expression-read-requires
-parse_expression-read-requires c =
-    room_fits c.has_room.ensures c.if-not-has_room.false-raw
-
-pub overflow_sub-e : goal.overflow_sub-e
-overflow_sub-e c =
-    omega (arith, c.parse_expression-read.ensures.told)
-
-pub overflow_add-c : goal.overflow_add-c
-overflow_add-c c =
-    omega (arith, room_fits c.has_room.ensures c.if-not-has_room.false-raw, c.parse_expression-read.ensures.told)
-
 pub returns-clause-told : goal.returns-clause-told
 returns-clause-told c =
     expression_kept c.from-room.ensures (room_fits c.has_room.ensures c.if-not-has_room.false-raw) (omega (arith, c.parse_expression-read.auto)) c.parse_expression-read.ensures.told c.clear_nodes.ensures
