@@ -1,11 +1,10 @@
 -- `expressions_code::terms::close_group` meets its contract.
 -- Assumes nothing.
 use mathlib.Core.Path.{refl, sym, ◌∙◌}
-use native.Mathlib.Omega.{arith}
 use Rattle.expressions_code.specs.Terms.{closed, unclosed}
 use borrow.Author.Tests.{eqb-true}
 use Rattle.names.specs.Kinds
-use Rattle.records.specs.Counters.{over_is}
+use Rattle.expressions_code.proofs.terms.Returns.{stepped_over}
 use Rattle.expressions.specs.Paths.{kind_token, no_kind}
 use Rattle.expressions_code.proofs.terms.close_group.Goals as goal
 
@@ -16,4 +15,4 @@ returns-in_default-clause-told c =
 pub returns-clause-told : goal.returns-clause-told
 returns-clause-told c =
     let h = kind_token Kinds.right_paren _ (sym c.peek_kind.ensures ∙ c.in-Some.is) in
-    closed _ h.0 (eqb-true _ _ h.1) c.widen.ensures refl refl (over_is (omega (arith, c.requires)) c.step_over.ensures)
+    closed _ h.0 (eqb-true _ _ h.1) c.widen.ensures refl refl (stepped_over c.requires c.step_over.ensures)
