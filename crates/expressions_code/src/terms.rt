@@ -191,6 +191,7 @@ pub(crate) fn parse_expression_from(
     ensures told { ClimbBy source.now nodes.old out.old nodes.new out.new left minimum room result }
 {
     let mut span = left;
+    // No `for`: each turn reads on from where the last one ended, and the callee says whether it goes on.
     loop {
         let Some(t) = source.peek(out.counters) else {
             break;

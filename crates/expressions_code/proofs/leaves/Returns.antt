@@ -31,7 +31,7 @@ use Rattle.expressions.specs.Expressions.{Term, read, reported, absent, valued, 
 use Rattle.expressions.proofs.Costs.{size_pos}
 use Rattle.records.specs.Nodes.{node_record, words, own}
 use Rattle.expressions.specs.Records.{nodes}
-use Rattle.records.specs.Counters.{stepped, counters_are}
+use Rattle.records.specs.Counters.{stepped, Over, counters_are, over_is}
 use Rattle.expressions_code.specs.Terms.{Parsed, parsed_of, size_t, nodes_t, Held, Said, LeafTold, DeepTold, ReaderTold, TokenTold, DepthTold, Spared}
 
 -- the span that the code has where a record has none
@@ -80,18 +80,18 @@ leaf_told e h b sp one = counted h.at h.end h.seen (answered (rw sp h.what) refl
 
 -- ---- numbers and names
 
-module _ (N D : List ℕ) (c : Counters) (k : Token) (x : List ℕ) where
-  number_is : {n : Result ℕ NumberError} → number_of k.detail x ≡ n → (valued k n >>= λ v. answer (read (number k.detail v (span_of k)))) ≡ number_term k x
-  unfolding number_term
-  number_is e = rw e
+number_is : (k : Token) (x : List ℕ) {n : Result ℕ NumberError} → number_of k.detail x ≡ n → (valued k n >>= λ v. answer (read (number k.detail v (span_of k)))) ≡ number_term k x
+unfolding number_term
+number_is k x e = rw e
 
+module _ {N D : List ℕ} {c : Counters} (k : Token) (x : List ℕ) where
   module _ {N' D' : List ℕ} {v_r : Parsed} {r : Counters} {detail v d : ℕ} {s : Span} where
     -- the digits come to n, whose value is v
     number_leaf : {n : Result ℕ NumberError} → number_of k.detail x ≡ n → ((L T : List ℕ) → Told (λ z. z) (Same c.nodes) (valued k n) L T D D' c v (record { at = c.at; end = c.end; nodes = c.nodes; diagnostics = d }))
         → detail ≡ k.detail → s ≡ span_of k → LeafTold N N' (record { at = c.at; end = c.end; nodes = c.nodes; diagnostics = d }) 1 detail s v v_r r → ReaderTold (number_term k x) N D N' D' c v_r r
     unfolding nodes span_e size
     number_leaf e t f g h = record {
-      told = λ L T. renamed (number_is e) (bound_as (t L T) (leaf_told (number k.detail v (span_of k)) (rw (f, g) at h) refl refl refl));
+      told = λ L T. renamed (number_is k x e) (bound_as (t L T) (leaf_told (number k.detail v (span_of k)) (rw (f, g) at h) refl refl refl));
       stays = h.at;
       past = h.put.past;
     }
@@ -113,6 +113,7 @@ module _ (N D : List ℕ) (c : Counters) (k : Token) (x : List ℕ) where
       number_leaf e (λ L T. let z : y ≡ number_too_large (span_of k) = q ∙ rw g in raised (raised_as z (record { counters = refl; more = p.more })) (answered refl refl refl)) f g
       (subst (λ z. LeafTold N N' z 1 detail s 0 v_r r) p.counters h)
 
+module _ {N D : List ℕ} {c : Counters} (k : Token) where
   pub name_reserved : {D' : List ℕ} {v_r : Parsed} {r : Counters} {s : Span} {y : Diagnostic} {b : Bool} → b ≡ true → s ≡ span_of k → y ≡ plain DiagnosticKinds.register_in_expression s s
       → DeepTold D D' c y v_r r → ReaderTold (named k b) N D N D' c v_r r
   unfolding named
@@ -133,50 +134,53 @@ module _ (N D : List ℕ) (c : Counters) (k : Token) (x : List ℕ) where
 
 -- ---- a term of one token, by its kind
 
-module _ (L N D : List ℕ) (c : Counters) (k : Token) where
-  module _ {N' : List ℕ} {v_r : Parsed} {r : Counters} {s : Span} {q : Counters} (step : q ≡ stepped c k) (sp : s ≡ span_of k) where
-    spared : {kind detail v : ℕ} → LeafTold N N' q kind detail s v v_r r → Spared N N' c r
-    spared h j b = h.put.past j (omega (arith, b, h.at, ap (λ z. z.at) step, ap (λ z. z.nodes) step))
+stepped_leaf : {c q : Counters} {k : Token} → c.at < 1023 → Over c k q → q ≡ stepped c k
+stepped_leaf low over = over_is (omega (arith, low)) over
 
+spared : {N N' : List ℕ} {c q r : Counters} {k : Token} {v_r : Parsed} {s : Span} {kind detail v : ℕ} → c.at < 1023 → Over c k q → LeafTold N N' q kind detail s v v_r r → Spared N N' c r
+spared low over h j b = h.put.past j (omega (arith, b, h.at, low, over))
+
+token_spared : {p : Reader Term} {N D N' D' : List ℕ} {c q r : Counters} {k : Token} {v_r : Parsed} → c.at < 1023 → Over c k q → ReaderTold p N D N' D' q v_r r → Spared N N' c r
+token_spared low over h j b = h.past j (omega (arith, b, h.stays, low, over))
+
+module _ {L N D : List ℕ} {c : Counters} {k : Token} where
+  module _ {N' : List ℕ} {v_r : Parsed} {r : Counters} {s : Span} {q : Counters} (low : c.at < 1023) (over : Over c k q) (sp : s ≡ span_of k) where
     pub star_told : k.kind ≡ Kinds.star → LeafTold N N' q 4 0 s 0 v_r r → TokenTold leaf_term L k N D N' D c v_r r
     unfolding leaf_term nodes span_e size words
-    star_told e h = record { told = λ T there. hit there (rw e) refl (leaf_told (current_address (span_of k)) (rw (step, sp) at h) refl refl refl); past = spared h }
+    star_told e h = record { told = λ T there. hit there (rw e) refl (leaf_told (current_address (span_of k)) (rw (stepped_leaf low over, sp) at h) refl refl refl); past = spared low over h }
 
     module _ {v detail : ℕ} (w : (v ≡ s.start + 65536 * s.end) × (s.start < 65536) × (s.end < 65536)) where
       own_told : {T : List ℕ} (e : Expr) {kind : ℕ} → LeafTold N N' q kind detail s v v_r r → nodes c.nodes e ≡ node_record kind detail 65535 65535 (span_of k) (own (span_of k)) → span_e e ≡ span_of k → size e ≡ 1
           → Said (answer (read e)) L T N D N' D (stepped c k) v_r r
-      own_told e h b f g = let z = rw sp at w in leaf_told e (rw (step, sp) at h) (b ∙ rw (z.0, own_bytes (span_of k) z.1 z.2)) f g
+      own_told e h b f g = let z = rw sp at w in leaf_told e (rw (stepped_leaf low over, sp) at h) (b ∙ rw (z.0, own_bytes (span_of k) z.1 z.2)) f g
 
       pub string_told : k.kind ≡ Kinds.string_literal → detail ≡ k.detail → LeafTold N N' q 2 detail s v v_r r → TokenTold leaf_term L k N D N' D c v_r r
       unfolding leaf_term nodes span_e size
       string_told e f h = record {
         told = λ T there. miss there (rw e) (miss there (rw e) (hit there (rw e) refl (own_told (character_literal k.detail (span_of k) (span_of k)) h (rw f) refl refl)));
-        past = spared h;
+        past = spared low over h;
       }
 
       pub local_told : k.kind ≡ Kinds.local_identifier → detail ≡ 0 → LeafTold N N' q 3 detail s v v_r r → TokenTold leaf_term L k N D N' D c v_r r
       unfolding leaf_term nodes span_e size
       local_told e f h = record {
         told = λ T there. miss there (rw e) (miss there (rw e) (miss there (rw e) (miss there (rw e) (hit there (rw e) refl (own_told (symbol (span_of k) (span_of k)) h (rw f) refl refl)))));
-        past = spared h;
+        past = spared low over h;
       }
 
-  module _ {N' D' : List ℕ} {v_r : Parsed} {r : Counters} {q : Counters} (step : q ≡ stepped c k) where
-    token_spared : {p : Reader Term} → ReaderTold p N D N' D' q v_r r → Spared N N' c r
-    token_spared h j b = h.past j (omega (arith, b, h.stays, ap (λ z. z.at) step, ap (λ z. z.nodes) step))
-
+  module _ {N' D' : List ℕ} {v_r : Parsed} {r : Counters} {q : Counters} (low : c.at < 1023) (over : Over c k q) where
     pub number_told : k.kind ≡ Kinds.number → ReaderTold (number_term k (text_of L k.start k.end)) N D N' D' q v_r r → TokenTold leaf_term L k N D N' D' c v_r r
     unfolding leaf_term
-    number_told e h = record { told = λ T there. miss there (rw e) (hit there (rw e) refl ((rw step at h).told L T)); past = token_spared h }
+    number_told e h = record { told = λ T there. miss there (rw e) (hit there (rw e) refl ((rw (stepped_leaf low over) at h).told L T)); past = token_spared low over h }
 
     pub name_told : k.kind ≡ Kinds.identifier → ReaderTold (named k (reserved (text_of L k.start k.end))) N D N' D' q v_r r → TokenTold leaf_term L k N D N' D' c v_r r
     unfolding leaf_term
-    name_told e h = record { told = λ T there. miss there (rw e) (miss there (rw e) (miss there (rw e) (hit there (rw e) refl ((rw step at h).told L T)))); past = token_spared h }
+    name_told e h = record { told = λ T there. miss there (rw e) (miss there (rw e) (miss there (rw e) (hit there (rw e) refl ((rw (stepped_leaf low over) at h).told L T)))); past = token_spared low over h }
 
-  pub error_told : {q : Counters} → q ≡ stepped c k → k.kind ≡ Kinds.error → TokenTold leaf_term L k N D N D c (Err errors.Reported) q
+  pub error_told : {q : Counters} → c.at < 1023 → Over c k q → k.kind ≡ Kinds.error → TokenTold leaf_term L k N D N D c (Err errors.Reported) q
   unfolding leaf_term parsed_of size_t
-  error_told step e = record {
-    told = λ T there. miss there (rw e) (miss there (rw e) (miss there (rw e) (miss there (rw e) (miss there (rw e) (hit there (rw e) step (answered refl refl (held_none reported refl (ap (λ z. z.nodes) step) refl)))))));
+  error_told low over e = record {
+    told = λ T there. miss there (rw e) (miss there (rw e) (miss there (rw e) (miss there (rw e) (miss there (rw e) (hit there (rw e) (stepped_leaf low over) (answered refl refl (held_none reported refl over.nodes refl)))))));
     past = λ j b. refl;
   }
 

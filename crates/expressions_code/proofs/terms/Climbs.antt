@@ -179,24 +179,23 @@ module _ (L T N D N₁ D₁ : List ℕ) (c : Counters) (left : Span) (room : ℕ
         }
 
 -- the same, where there is room and the operator is stepped over
+behind_operator : {L T N D N₁ D₁ : List ℕ} {c next : Counters} {k : Token} (room : ℕ) {v_r : Parsed} {r : Counters} → NodeRoom T N c 1 0 0 → Over c k next → PrefixTold L T N D N₁ D₁ next room v_r r
+    → PrefixTold L T N D N₁ D₁ (stepped c k) room v_r r
+behind_operator room asks over g = rw (← stepped_over asks over) g
+
 module _ {L T N D N₁ D₁ : List ℕ} {c : Counters} {left : Span} {room : ℕ} {k : Token} {v_r : Parsed} {r next : Counters}
     (asks : NodeRoom T N c 1 0 0) (op : token_at T c.at ≡ Some k) (over : Over c k next) (term : PrefixTold L T N D N₁ D₁ next room v_r r) where
   pub operated_fails : (e : TermError) {D₂ : List ℕ} {v_s : Parsed} {q : Counters} → ExpectedTold D₁ D₂ r v_r k v_s q → v_s ≡ Err e → OperatedTold L T N D N₁ D₂ c left room k (Err e) q
-  operated_fails e x h = go e x h
-    where
-      h' : PrefixTold L T N D N₁ D₁ (stepped c k) room v_r r
-      h' = subst (λ z. PrefixTold L T N D N₁ D₁ z room v_r r) (stepped_over asks over) term
-      go : (e : TermError) {D₂ : List ℕ} {v_s : Parsed} {q : Counters} → ExpectedTold D₁ D₂ r v_r k v_s q → v_s ≡ Err e → OperatedTold L T N D N₁ D₂ c left room k (Err e) q
-      go errors.Reported (stood n w d s) h = rw (d, s) (ended refl λ min low. climb_reports L T N D N₁ D₁ c left room k v_r r op h' (omega (arith, asks)) asks.room.stand min low (sym w ∙ h))
-      go errors.Absent (stood n w d s) h = absurd (n (sym w ∙ h))
-      go e (missing w p) h = ended (sym h ∙ p.what) λ min low. climb_absents L T N D N₁ D₁ c left room k v_r r op h' (omega (arith, asks)) asks.room.stand min low w p
+  operated_fails errors.Reported (stood n w d s) h = rw (d, s) (ended refl λ min low. climb_reports L T N D N₁ D₁ c left room k v_r r op (behind_operator room asks over term) (omega (arith, asks)) asks.room.stand min low (sym w ∙ h))
+  operated_fails errors.Absent (stood n w d s) h = absurd (n (sym w ∙ h))
+  operated_fails e (missing w p) h = ended (sym h ∙ p.what) λ min low. climb_absents L T N D N₁ D₁ c left room k v_r r op (behind_operator room asks over term) (omega (arith, asks)) asks.room.stand min low w p
 
   pub operated_reads : {x : Span} {lv o : ℕ} {N₂ D₂ N₃ : List ℕ} {s_q : Span} {q : Counters} {n : Counters} → v_r ≡ Ok x → lv ≡ precedence k.kind → o ≡ binary_operator k.kind
       → ClimbTold L T N₁ D₁ N₂ D₂ r x (lv + 1) room s_q q
       → NodeTold N₂ N₃ q (node_record 6 o (c.nodes - 1) (q.nodes - 1) (span left.start s_q.end) (words 4 0)) n
       → OperatedTold L T N D N₃ D₂ c left room k (Ok (span left.start s_q.end)) n
   operated_reads {s_q = s_q} {n = n} wh hl ho hq hp =
-      let h = subst (λ z. PrefixTold L T N D N₁ D₁ z room v_r r) (stepped_over asks over) term in
+      let h = behind_operator room asks over term in
       longer (span left.start s_q.end) refl record {
         whole = λ min low N₄ D₄ v w hw. climb_reads L T N D N₁ D₁ c left room k v_r r op h (omega (arith, asks)) asks.room.stand min low wh hl ho hq hp hw;
         some = omega (arith, hp.put.next);
