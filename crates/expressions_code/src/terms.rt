@@ -44,6 +44,7 @@ fn close_group(
 
 // A term, with at most `room` terms open in it.
 #[cycle(terms)]
+#[tactic(auto, using(names::specs::Places::live))]
 fn parse_prefix(
     source: &Source,
     nodes: &mut [u16],
@@ -80,6 +81,7 @@ fn parse_prefix(
 
 // Behind a minus or a tilde.
 #[cycle(terms)]
+#[tactic(auto, using(crate::proofs::terms::Returns::read_on))]
 fn parse_unary(
     source: &Source,
     nodes: &mut [u16],
@@ -209,6 +211,7 @@ pub(crate) fn parse_expression_from(
 
 // One operator of the climb, which stands at the cursor: the longer left side; or no term is read behind the operator, and the climb ends.
 #[cycle(terms)]
+#[tactic(auto, using(names::specs::Places::live, crate::proofs::levels::Operators::precedence_small, crate::proofs::terms::Returns::read_on, crate::proofs::terms::Returns::read_on_some))]
 fn parse_operated(
     source: &Source,
     nodes: &mut [u16],

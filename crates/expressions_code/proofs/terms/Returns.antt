@@ -56,13 +56,6 @@ kept {N} {N'} {n} {v} {r} h long =
     ∙ ap (take (10 * n)) h.bytes
     ∙ take_at (take (10 * n) N) (nodes_t n v) (10 * n) (length-take-le (10 * n) N long)
 
--- a tree that was read has a node
-pub read_some : {p : Reader Term} {L T N D N' D' : List ℕ} {c : Counters} {v_r : Parsed} {r : Counters} {x : Span} → Said p L T N D N' D' c v_r r → v_r ≡ Ok x → 0 < r.nodes
-unfolding size_t
-read_some h w =
-    let y = what_read _ _ (sym h.what ∙ w) in
-    omega (arith, size_pos y.0, (held_as h y.1).total)
-
 -- ---- bounds, from the laws
 
 few_quiet : (at : ℕ → Place) (i : ℕ) (v : Term) (j e r : ℕ) → i ≤ j → Cost at 0 (all_clean at) i 0 0 j e r v → (size_t v + i ≤ j) × (e + i ≤ j + 1)
@@ -198,6 +191,16 @@ module _ {p : Reader Term} {L T N D N₁ D₁ : List ℕ} {c : Counters} {v_r : 
   pub read_on : {k : Token} {D₂ : List ℕ} {v_s : Parsed} {q : Counters} {x : Span} → ExpectedTold D₁ D₂ r v_r k v_s q → v_s ≡ Ok x → TermTold p L T N D N₁ D₂ c (Ok x) q
   read_on (stood n w d s) h = let z = sym w ∙ h in rw (d, s, ← z) g
   read_on (missing w m) h = let z = sym m.what ∙ h in let y : ◌≡◌ {A = ℕ} 0 1 = cc in absurd (omega arith)
+
+-- a tree that was read has a node
+module _ {p : Reader Term} {L T N D N₁ D₁ : List ℕ} {c : Counters} {v_r : Parsed} {r : Counters} (g : TermTold p L T N D N₁ D₁ c v_r r) where
+  pub read_some : {x : Span} → v_r ≡ Ok x → 0 < r.nodes
+  unfolding size_t
+  read_some w = let y = is_read g w in omega (arith, size_pos y.0, (held_as g.told y.1).total)
+
+  pub read_on_some : {k : Token} {D₂ : List ℕ} {v_s : Parsed} {q : Counters} {x : Span} → ExpectedTold D₁ D₂ r v_r k v_s q → v_s ≡ Ok x → 0 < q.nodes
+  read_on_some (stood n w d s) h = omega (arith, ap (λ z. z.nodes) s, read_some (sym w ∙ h))
+  read_on_some (missing w m) h = let z = sym m.what ∙ h in let y : ◌≡◌ {A = ℕ} 0 1 = cc in absurd (omega arith)
 
 -- ---- behind a minus, a tilde or a plus
 

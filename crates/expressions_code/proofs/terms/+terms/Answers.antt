@@ -8,7 +8,7 @@ use Rattle.expressions.specs.Paths.{told_one}
 use Rattle.expressions_code.proofs.levels.Operators.{precedence_small}
 use Rattle.names.specs.Places.{live}
 use Rattle.expressions_code.proofs.leaves.Returns.{blank}
-use Rattle.expressions_code.proofs.terms.Returns.{err_given, read_some, absent_quiet, read_on, prefix_full, prefix_end, prefix_unary, prefix_plus, prefix_group, prefix_leaf, unary_reads, unary_fails, plus_reads, plus_fails, expression_reads, expression_fails}
+use Rattle.expressions_code.proofs.terms.Returns.{err_given, absent_quiet, read_on, read_some, read_on_some, prefix_full, prefix_end, prefix_unary, prefix_plus, prefix_group, prefix_leaf, unary_reads, unary_fails, plus_reads, plus_fails, expression_reads, expression_fails}
 use Rattle.expressions_code.proofs.terms.Closings.{group_fails, group_tells}
 use Rattle.expressions_code.proofs.terms.Climbs.{climb_ends, climb_lows, operated_fails, operated_reads}
 use Rattle.expressions_code.proofs.terms.Turns.{again, ends}
@@ -17,10 +17,6 @@ use Rattle.expressions_code.proofs.terms.+terms.Goals as goal
 pub parse_expression-returns-in_err-term-clause-told : goal.parse_expression-returns-in_err-term-clause-told
 parse_expression-returns-in_err-term-clause-told t c =
     rw (err_given _ _ c.from_residual.ensures.1) (expression_fails _ c.requires c.parse_prefix.ensures.told _ c.in_err-term.was)
-
-pub parse_expression-parse_expression_from-requires : goal.parse_expression-parse_expression_from-requires
-parse_expression-parse_expression_from-requires t c =
-    omega (arith, read_some c.parse_prefix.ensures.told.told c.in_ok-term.was, c.requires, c.parse_prefix.ensures.told)
 
 pub parse_expression-returns-clause-told : goal.parse_expression-returns-clause-told
 parse_expression-returns-clause-told t c =
@@ -42,14 +38,6 @@ pub parse_expression_from-returns-in_default-parse_operated-clause-told : goal.p
 parse_expression_from-returns-in_default-parse_operated-clause-told t c =
     ends c.loop-t.invariant.0 (omega (arith, c.precedence.ensures, c.if-precedence-minimum.false)) c.parse_operated.ensures.told λ x p. c.in_default-parse_operated.not-Ok x p
 
-pub parse_group-expected-requires : goal.parse_group-expected-requires
-parse_group-expected-requires t c =
-    λ w. omega (arith, c.requires, c.parse_expression-read.ensures.told)
-
-pub parse_group-close_group-requires : goal.parse_group-close_group-requires
-parse_group-close_group-requires t c =
-    let g = read_on c.parse_expression-read.ensures.told c.expected.ensures.told c.in_ok-expected.was in omega (arith, read_some g.told refl, c.requires, g)
-
 pub parse_group-returns-in_err-expected-clause-told : goal.parse_group-returns-in_err-expected-clause-told
 parse_group-returns-in_err-expected-clause-told t c =
     rw (err_given _ _ c.from_residual.ensures.1) (group_fails _ _ c.requires c.parse_expression-read.ensures.told _ c.expected.ensures.told c.in_err-expected.was)
@@ -58,26 +46,6 @@ pub parse_group-returns-clause-told : goal.parse_group-returns-clause-told
 parse_group-returns-clause-told t c =
     group_tells _ _ c.requires (read_on c.parse_expression-read.ensures.told c.expected.ensures.told c.in_ok-expected.was) (omega (arith, c.parse_expression-read.auto)) refl c.close_group.ensures.told
 
-pub parse_operated-parse_prefix-read-requires : goal.parse_operated-parse_prefix-read-requires
-parse_operated-parse_prefix-read-requires t c =
-    omega (arith, live _ _ _ c.requires.1, c.requires.0, c.step_over.ensures)
-
-pub parse_operated-expected-requires : goal.parse_operated-expected-requires
-parse_operated-expected-requires t c =
-    λ w. omega (arith, c.step_over.ensures, live _ _ _ c.requires.1, c.requires.0, absent_quiet _ c.parse_prefix-read.ensures.told w)
-
-pub parse_operated-overflow_add-above : goal.parse_operated-overflow_add-above
-parse_operated-overflow_add-above t c =
-    omega (arith, precedence_small _ _ c.precedence-above.ensures)
-
-pub parse_operated-parse_expression_from-right-requires : goal.parse_operated-parse_expression_from-right-requires
-parse_operated-parse_expression_from-right-requires t c =
-    let g = read_on c.parse_prefix-read.ensures.told c.expected.ensures.told c.in_ok-term.was in omega (arith, c.step_over.ensures, live _ _ _ c.requires.1, c.requires.0, g, read_some g.told refl)
-
-pub parse_operated-put_operator-requires : goal.parse_operated-put_operator-requires
-parse_operated-put_operator-requires t c =
-    let g = read_on c.parse_prefix-read.ensures.told c.expected.ensures.told c.in_ok-term.was in omega (arith, c.step_over.ensures, live _ _ _ c.requires.1, c.requires.0, g, c.parse_expression_from-right.ensures.told)
-
 pub parse_operated-returns-in_err-term-clause-told : goal.parse_operated-returns-in_err-term-clause-told
 parse_operated-returns-in_err-term-clause-told t c =
     rw (err_given _ _ c.from_residual.ensures.1) (operated_fails c.requires.0 c.requires.1 c.step_over.ensures c.parse_prefix-read.ensures.told _ c.expected.ensures.told c.in_err-term.was)
@@ -85,10 +53,6 @@ parse_operated-returns-in_err-term-clause-told t c =
 pub parse_operated-returns-clause-told : goal.parse_operated-returns-clause-told
 parse_operated-returns-clause-told t c =
     operated_reads c.requires.0 c.requires.1 c.step_over.ensures (read_on c.parse_prefix-read.ensures.told c.expected.ensures.told c.in_ok-term.was) refl c.precedence-above.ensures c.binary_operator-operator.ensures c.parse_expression_from-right.ensures.told c.put_operator.ensures
-
-pub parse_plus-report-requires : goal.parse_plus-report-requires
-parse_plus-report-requires t c =
-    omega (arith, c.requires, c.parse_prefix.ensures.told)
 
 pub parse_plus-returns-in-Ok-clause-told : goal.parse_plus-returns-in-Ok-clause-told
 parse_plus-returns-in-Ok-clause-told t c =
@@ -106,25 +70,9 @@ pub parse_prefix-returns-in_default-clause-told : goal.parse_prefix-returns-in_d
 parse_prefix-returns-in_default-clause-told t c =
     prefix_end _ c.requires c.if-room-eq0.false (sym c.peek.ensures ∙ c.in_default.is)
 
-pub parse_prefix-parse_unary-requires : goal.parse_prefix-parse_unary-requires
-parse_prefix-parse_unary-requires t c =
-    omega (arith, live _ _ _ (sym c.peek.ensures ∙ c.in-Some.is), c.requires, c.step_over.ensures)
-
 pub parse_prefix-returns-then-is_unary-clause-told : goal.parse_prefix-returns-then-is_unary-clause-told
 parse_prefix-returns-then-is_unary-clause-told t c =
     prefix_unary _ c.requires c.if-room-eq0.false (sym c.peek.ensures ∙ c.in-Some.is) c.step_over.ensures (sym (c.is_unary.ensures _) ∙ c.if-is_unary.true) c.parse_unary.ensures.told
-
-pub parse_prefix-parse_plus-requires : goal.parse_prefix-parse_plus-requires
-parse_prefix-parse_plus-requires t c =
-    omega (arith, live _ _ _ (sym c.peek.ensures ∙ c.in-Some.is), c.requires, c.step_over-in-14.ensures)
-
-pub parse_prefix-parse_group-requires : goal.parse_prefix-parse_group-requires
-parse_prefix-parse_group-requires t c =
-    omega (arith, live _ _ _ (sym c.peek.ensures ∙ c.in-Some.is), c.requires, c.step_over-in-7.ensures)
-
-pub parse_prefix-parse_leaf-requires : goal.parse_prefix-parse_leaf-requires
-parse_prefix-parse_leaf-requires t c =
-    omega (arith, live _ _ _ (sym c.peek.ensures ∙ c.in-Some.is), c.requires)
 
 pub parse_prefix-returns-in-14-clause-told : goal.parse_prefix-returns-in-14-clause-told
 parse_prefix-returns-in-14-clause-told t c =
@@ -138,18 +86,6 @@ pub parse_prefix-returns-in_default-kind-clause-told : goal.parse_prefix-returns
 parse_prefix-returns-in_default-kind-clause-told t c =
     prefix_leaf _ c.requires c.if-room-eq0.false (sym c.peek.ensures ∙ c.in-Some.is) (sym (c.is_unary.ensures _) ∙ c.if-is_unary.false) (search) (search) c.parse_leaf.ensures.told
 
-pub parse_unary-expected-requires : goal.parse_unary-expected-requires
-parse_unary-expected-requires t c =
-    λ w. omega (arith, c.requires, c.parse_prefix-read.ensures.told)
-
-pub parse_unary-overflow_sub-operand : goal.parse_unary-overflow_sub-operand
-parse_unary-overflow_sub-operand t c =
-    omega (arith, read_some (read_on c.parse_prefix-read.ensures.told c.expected.ensures.told c.in_ok-term.was).told refl)
-
-pub parse_unary-put_operator-requires : goal.parse_unary-put_operator-requires
-parse_unary-put_operator-requires t c =
-    let g = read_on c.parse_prefix-read.ensures.told c.expected.ensures.told c.in_ok-term.was in omega (arith, read_some g.told refl, c.requires, g)
-
 pub parse_unary-returns-in_err-term-clause-told : goal.parse_unary-returns-in_err-term-clause-told
 parse_unary-returns-in_err-term-clause-told t c =
     rw (err_given _ _ c.from_residual.ensures.1) (unary_fails _ c.requires c.parse_prefix-read.ensures.told _ _ c.expected.ensures.told c.in_err-term.was)
@@ -157,3 +93,19 @@ parse_unary-returns-in_err-term-clause-told t c =
 pub parse_unary-returns-clause-told : goal.parse_unary-returns-clause-told
 parse_unary-returns-clause-told t c =
     unary_reads _ c.requires (read_on c.parse_prefix-read.ensures.told c.expected.ensures.told c.in_ok-term.was) _ refl c.unary_operator-operator.ensures c.put_operator.ensures
+
+pub parse_operated-expected-requires : goal.parse_operated-expected-requires
+parse_operated-expected-requires t c =
+    λ w. omega (arith, c.step_over.ensures, live _ _ _ c.requires.1, c.requires.0, absent_quiet _ c.parse_prefix-read.ensures.told w)
+
+pub parse_expression-parse_expression_from-requires : goal.parse_expression-parse_expression_from-requires
+parse_expression-parse_expression_from-requires t c =
+    omega (arith, c.requires, c.parse_prefix.ensures.told, read_some c.parse_prefix.ensures.told c.in_ok-term.was)
+
+pub parse_group-close_group-requires : goal.parse_group-close_group-requires
+parse_group-close_group-requires t c =
+    let g = read_on c.parse_expression-read.ensures.told c.expected.ensures.told c.in_ok-expected.was in omega (arith, c.requires, g, read_some g refl)
+
+pub parse_unary-overflow_sub-operand : goal.parse_unary-overflow_sub-operand
+parse_unary-overflow_sub-operand t c =
+    read_on_some c.parse_prefix-read.ensures.told c.expected.ensures.told c.in_ok-term.was
