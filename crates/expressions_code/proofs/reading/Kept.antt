@@ -7,6 +7,8 @@ use mathlib.Core.List.{List, [], ◌∷◌, ◌++◌}
 use Prim.Native.Nat.{ℕ, ◌+◌, ◌-◌, ◌*◌, ◌≤◌}
 use native.Mathlib.Omega.{arith}
 use lib.ListN.{length, take, drop, replicate}
+use Rattle.std.proofs.lemmas.Bool.{not-false, not-true}
+use Rattle.names.specs.Laws.{true_false}
 use Rattle.names.specs.Places.{place}
 use Rattle.expressions.specs.Trees.{span_e, with_span, size}
 use Rattle.records.specs.declared.spans.Span.{Span}
@@ -34,10 +36,10 @@ filled_is N N₁ N₂ b n i m h e p l f k = k ∙ cleared_fits N₁ (10 * n) (10
 
 pub room_fits : {T N : List ℕ} {c : Counters} {k : ℕ} {b : Bool} → RoomTold T N c k b → not b ≡ false → NodeRoom T N c k 0 1
 room_fits (enough e h) q = h
-room_fits {b = b} (lacking e h) q = let z : ◌≡◌ {A = ℕ} 0 1 = cc in absurd (omega arith)
+room_fits (lacking e h) q = absurd (true_false (sym (not-false _ q) ∙ e))
 
 pub room_lacks : {T N : List ℕ} {c : Counters} {k : ℕ} {b : Bool} → RoomTold T N c k b → not b ≡ true → NodeRoom T N c k 0 1 → ⊥
-room_lacks (enough e h) q = let z : ◌≡◌ {A = ℕ} 0 1 = cc in absurd (omega arith)
+room_lacks (enough e h) q = absurd (true_false (sym e ∙ not-true _ q))
 room_lacks (lacking e h) q = h
 
 -- ---- what is read

@@ -37,7 +37,7 @@ use Rattle.expressions.specs.Laws.{law_run}
 use Rattle.expressions.proofs.Costs.{Cost, prefix_cost, expression_cost, size_pos, all_clean}
 use Rattle.expressions.specs.Fuel.{fuel_enough}
 use Rattle.expressions.proofs.Grown.{grown_behind, climb_grows}
-use Rattle.expressions_code.specs.Answers.{what_read, what_reported, what_absent}
+use Rattle.expressions_code.specs.Answers.{apart, what_read, what_reported, what_absent}
 use Rattle.expressions_code.proofs.leaves.Returns.{held_none, deep_raised, absent_told}
 
 -- an error that is passed on
@@ -190,7 +190,7 @@ module _ {p : Reader Term} {L T N D N₁ D₁ : List ℕ} {c : Counters} {v_r : 
   -- it is read
   pub read_on : {k : Token} {D₂ : List ℕ} {v_s : Parsed} {q : Counters} {x : Span} → ExpectedTold D₁ D₂ r v_r k v_s q → v_s ≡ Ok x → TermTold p L T N D N₁ D₂ c (Ok x) q
   read_on (stood n w d s) h = let z = sym w ∙ h in rw (d, s, ← z) g
-  read_on (missing w m) h = let z = sym m.what ∙ h in let y : ◌≡◌ {A = ℕ} 0 1 = cc in absurd (omega arith)
+  read_on (missing w m) h = absurd (apart h m.what)
 
 -- a tree that was read has a node
 module _ {p : Reader Term} {L T N D N₁ D₁ : List ℕ} {c : Counters} {v_r : Parsed} {r : Counters} (g : TermTold p L T N D N₁ D₁ c v_r r) where
@@ -200,7 +200,7 @@ module _ {p : Reader Term} {L T N D N₁ D₁ : List ℕ} {c : Counters} {v_r : 
 
   pub read_on_some : {k : Token} {D₂ : List ℕ} {v_s : Parsed} {q : Counters} {x : Span} → ExpectedTold D₁ D₂ r v_r k v_s q → v_s ≡ Ok x → 0 < q.nodes
   read_on_some (stood n w d s) h = omega (arith, ap (λ z. z.nodes) s, read_some (sym w ∙ h))
-  read_on_some (missing w m) h = let z = sym m.what ∙ h in let y : ◌≡◌ {A = ℕ} 0 1 = cc in absurd (omega arith)
+  read_on_some (missing w m) h = absurd (apart h m.what)
 
 -- ---- behind a minus, a tilde or a plus
 

@@ -11,6 +11,7 @@ use Rattle.records.specs.declared.spans.Span.{Span}
 use Rattle.records.specs.declared.counters.Counters.{Counters}
 use Rattle.records.specs.Rooms.{NodeRoom}
 use Rattle.expressions.specs.Expressions.{precedence}
+use Rattle.expressions_code.specs.Answers.{apart}
 use Rattle.expressions_code.specs.Terms.{Parsed, ClimbTold, Longer, OperatedTold, longer, ended}
 
 -- before a turn from the left side s: what the rest of the climb tells, the whole tells
@@ -27,7 +28,7 @@ pub is_longer : {L T N D N' D' : List ℕ} {c : Counters} {left : Span} {room : 
     → Longer L T N D N' D' c left room t x r
 is_longer {L} {T} {N} {D} {N'} {D'} {c} {left} {room} {t} {r} {x} (longer s w h) e =
     let z : s ≡ x = cc in subst (λ y. Longer L T N D N' D' c left room t y r) z h
-is_longer (ended w h) e = let z : ◌≡◌ {A = ℕ} 0 1 = cc in absurd (omega arith)
+is_longer (ended w h) e = absurd (apart e w)
 
 module _ {L T N₀ D₀ N D N₁ D₁ : List ℕ} {c : Counters} {left : Span} {min room : ℕ} {e : Counters} {s : Span} (w : Climbing L T N₀ D₀ N D c left min room e s)
     {t : Token} {v_r : Parsed} {r : Counters} (low : min ≤ precedence t.kind) (h : OperatedTold L T N D N₁ D₁ e s room t v_r r) where
