@@ -1,6 +1,5 @@
 // The public functions: an expression at the cursor, and one that goes on from a left side.
-ghost use Rattle.std.specs.Prelude.{◌≡◌, List, ℕ, length};
-ghost use Rattle.names.specs.Tokens.{count};
+ghost use Rattle.std.specs.Prelude.{◌≡◌};
 ghost use Rattle.expressions_code.specs.Reading.{RoomTold, ExpressionPromised, FromPromised};
 
 use crate::terms::{TermError, parse_expression, parse_expression_from};

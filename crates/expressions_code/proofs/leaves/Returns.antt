@@ -16,14 +16,13 @@ use Rattle.names.specs.Places.{text_of}
 use Rattle.names.specs.Numbers.{number_of}
 use Rattle.names.specs.declared.tokens.Token.{Token}
 use Rattle.names.specs.declared.numbers.NumberError.{NumberError}
-use Rattle.records.specs.DiagnosticKinds
 use Rattle.records.specs.Spans.{span, span_of, span_or, no_span}
 use Rattle.expressions.specs.Trees.{Expr, number, character_literal, symbol, current_address, span_e, size}
 use Rattle.records.specs.declared.spans.Span.{Span}
 use Rattle.records.specs.declared.diagnostics.Diagnostic.{Diagnostic}
 use Rattle.records.specs.declared.counters.Counters.{Counters}
 use Rattle.expressions_code.specs.declared.terms.TermError.TheVariants as errors
-use Rattle.records.specs.Diagnostics.{plain, nesting_too_deep, number_too_large, register_in_expression}
+use Rattle.records.specs.Diagnostics.{nesting_too_deep, number_too_large, register_in_expression}
 use Rattle.expressions.specs.Reader.{Reader, answer, raise, ◌>>=◌}
 use Rattle.expressions.specs.Told.{Raised, Told, Same}
 use Rattle.expressions.specs.Paths.{raised_as, renamed, counted, answered, hereby, raised, bound_as, hit, miss, seen, beyond}
@@ -84,50 +83,50 @@ number_is : (k : Token) (x : List ℕ) {n : Result ℕ NumberError} → number_o
 unfolding number_term
 number_is k x e = rw e
 
-module _ {N D : List ℕ} {c : Counters} (k : Token) (x : List ℕ) where
-  module _ {N' D' : List ℕ} {v_r : Parsed} {r : Counters} {detail v d : ℕ} {s : Span} where
-    -- the digits come to n, whose value is v
-    number_leaf : {n : Result ℕ NumberError} → number_of k.detail x ≡ n → ((L T : List ℕ) → Told (λ z. z) (Same c.nodes) (valued k n) L T D D' c v (record { at = c.at; end = c.end; nodes = c.nodes; diagnostics = d }))
-        → detail ≡ k.detail → s ≡ span_of k → LeafTold N N' (record { at = c.at; end = c.end; nodes = c.nodes; diagnostics = d }) 1 detail s v v_r r → ReaderTold (number_term k x) N D N' D' c v_r r
+-- the code has the digits as n, of the text y
+module _ {N D : List ℕ} {c : Counters} (k : Token) (x : List ℕ) {n : Result ℕ NumberError} {y : List ℕ} (parsed : n ≡ number_of k.detail y) (text : y ≡ x) where
+  module _ {N' D' : List ℕ} {v_r : Parsed} {r : Counters} {v d : ℕ} {s : Span} where
+    -- they come to m, whose value is v
+    number_leaf : {m : Result ℕ NumberError} → n ≡ m → ((L T : List ℕ) → Told (λ z. z) (Same c.nodes) (valued k m) L T D D' c v (record { at = c.at; end = c.end; nodes = c.nodes; diagnostics = d }))
+        → s ≡ span_of k → LeafTold N N' (record { at = c.at; end = c.end; nodes = c.nodes; diagnostics = d }) 1 k.detail s v v_r r → ReaderTold (number_term k x) N D N' D' c v_r r
     unfolding nodes span_e size
-    number_leaf e t f g h = record {
-      told = λ L T. renamed (number_is k x e) (bound_as (t L T) (leaf_told (number k.detail v (span_of k)) (rw (f, g) at h) refl refl refl));
+    number_leaf e t g h = record {
+      told = λ L T. renamed (number_is k x (sym (parsed ∙ ap (number_of k.detail) text) ∙ e)) (bound_as (t L T) (leaf_told (number k.detail v (span_of k)) (rw g at h) refl refl refl));
       stays = h.at;
       past = h.put.past;
     }
 
-  pub number_value : {N' : List ℕ} {v_r : Parsed} {r : Counters} {detail v : ℕ} {s : Span} → number_of k.detail x ≡ Ok v → detail ≡ k.detail → s ≡ span_of k
-      → LeafTold N N' c 1 detail s v v_r r → ReaderTold (number_term k x) N D N' D c v_r r
+  pub number_value : {N' : List ℕ} {v_r : Parsed} {r : Counters} {v : ℕ} {s : Span} → n ≡ Ok v → s ≡ span_of k → LeafTold N N' c 1 k.detail s v v_r r → ReaderTold (number_term k x) N D N' D c v_r r
   unfolding valued
   number_value e = number_leaf e λ L T. answered refl refl refl
 
-  pub number_invalid : {N' : List ℕ} {v_r : Parsed} {r : Counters} {detail : ℕ} {s : Span} → number_of k.detail x ≡ Err NumberError.Invalid → detail ≡ k.detail → s ≡ span_of k
-      → LeafTold N N' c 1 detail s 0 v_r r → ReaderTold (number_term k x) N D N' D c v_r r
+  pub number_invalid : {N' : List ℕ} {v_r : Parsed} {r : Counters} {s : Span} → n ≡ Err NumberError.Invalid → s ≡ span_of k → LeafTold N N' c 1 k.detail s 0 v_r r → ReaderTold (number_term k x) N D N' D c v_r r
   unfolding valued
   number_invalid e = number_leaf e λ L T. answered refl refl refl
 
-  pub number_large : {N' D' : List ℕ} {v_r : Parsed} {r c₁ : Counters} {detail : ℕ} {s : Span} {y : Diagnostic} → number_of k.detail x ≡ Err NumberError.TooLarge → detail ≡ k.detail → s ≡ span_of k
-      → y ≡ plain DiagnosticKinds.number_too_large s s → Raised D D' c y c₁ → LeafTold N N' c₁ 1 detail s 0 v_r r → ReaderTold (number_term k x) N D N' D' c v_r r
+  pub number_large : {N' D' : List ℕ} {v_r : Parsed} {r c₁ : Counters} {s : Span} {z : Diagnostic} → n ≡ Err NumberError.TooLarge → s ≡ span_of k
+      → z ≡ number_too_large s → Raised D D' c z c₁ → LeafTold N N' c₁ 1 k.detail s 0 v_r r → ReaderTold (number_term k x) N D N' D' c v_r r
   unfolding valued
-  number_large {N'} {v_r = v_r} {r = r} {detail = detail} {s = s} {y = y} e f g q p h =
-      number_leaf e (λ L T. let z : y ≡ number_too_large (span_of k) = q ∙ rw g in raised (raised_as z (record { counters = refl; more = p.more })) (answered refl refl refl)) f g
-      (subst (λ z. LeafTold N N' z 1 detail s 0 v_r r) p.counters h)
+  number_large {N'} {v_r = v_r} {r = r} {s = s} {z = z} e g q p h =
+      number_leaf e (λ L T. raised (raised_as (q ∙ ap number_too_large g) (record { counters = refl; more = p.more })) (answered refl refl refl)) g
+      (subst (λ z. LeafTold N N' z 1 k.detail s 0 v_r r) p.counters h)
 
-module _ {N D : List ℕ} {c : Counters} (k : Token) where
-  pub name_reserved : {D' : List ℕ} {v_r : Parsed} {r : Counters} {s : Span} {y : Diagnostic} {b : Bool} → b ≡ true → s ≡ span_of k → y ≡ plain DiagnosticKinds.register_in_expression s s
-      → DeepTold D D' c y v_r r → ReaderTold (named k b) N D N D' c v_r r
+-- the code has the text as y, and finds b of it
+module _ {N D : List ℕ} {c : Counters} (k : Token) {b : Bool} {x y : List ℕ} (found : b ≡ reserved y) (text : y ≡ x) where
+  pub name_reserved : {D' : List ℕ} {v_r : Parsed} {r : Counters} {s : Span} {z : Diagnostic} → b ≡ true → s ≡ span_of k → z ≡ register_in_expression s
+      → DeepTold D D' c z v_r r → ReaderTold (named k (reserved x)) N D N D' c v_r r
   unfolding named
-  name_reserved {y = y} e g q h = record {
-    told = λ L T. let z : y ≡ register_in_expression (span_of k) = q ∙ rw g in rw e (report_told (rw z at h));
+  name_reserved {z = z} e g q h = record {
+    told = λ L T. rw (← text, ← found, e) (report_told (rw (q ∙ ap register_in_expression g) at h));
     stays = h.at;
     past = λ j b. refl;
   }
 
-  pub name_read : {N' : List ℕ} {v_r : Parsed} {r : Counters} {s : Span} {v : ℕ} {b : Bool} → b ≡ false → s ≡ span_of k → (v ≡ s.start + 65536 * s.end) × (s.start < 65536) × (s.end < 65536)
-      → LeafTold N N' c 3 0 s v v_r r → ReaderTold (named k b) N D N' D c v_r r
+  pub name_read : {N' : List ℕ} {v_r : Parsed} {r : Counters} {s : Span} {v : ℕ} → b ≡ false → s ≡ span_of k → (v ≡ s.start + 65536 * s.end) × (s.start < 65536) × (s.end < 65536)
+      → LeafTold N N' c 3 0 s v v_r r → ReaderTold (named k (reserved x)) N D N' D c v_r r
   unfolding named nodes span_e size
   name_read e g q h = record {
-    told = λ L T. let w = rw g at q in rw e (leaf_told (symbol (span_of k) (span_of k)) (rw g at h) (rw (w.0, own_bytes (span_of k) w.1 w.2)) refl refl);
+    told = λ L T. let w = rw g at q in rw (← text, ← found, e) (leaf_told (symbol (span_of k) (span_of k)) (rw g at h) (rw (w.0, own_bytes (span_of k) w.1 w.2)) refl refl);
     stays = h.at;
     past = h.put.past;
   }
@@ -149,22 +148,22 @@ module _ {L N D : List ℕ} {c : Counters} {k : Token} where
     unfolding leaf_term nodes span_e size words
     star_told e h = record { told = λ T there. hit there (rw e) refl (leaf_told (current_address (span_of k)) (rw (stepped_leaf low over, sp) at h) refl refl refl); past = spared low over h }
 
-    module _ {v detail : ℕ} (w : (v ≡ s.start + 65536 * s.end) × (s.start < 65536) × (s.end < 65536)) where
-      own_told : {T : List ℕ} (e : Expr) {kind : ℕ} → LeafTold N N' q kind detail s v v_r r → nodes c.nodes e ≡ node_record kind detail 65535 65535 (span_of k) (own (span_of k)) → span_e e ≡ span_of k → size e ≡ 1
+    module _ {v : ℕ} (w : (v ≡ s.start + 65536 * s.end) × (s.start < 65536) × (s.end < 65536)) where
+      own_told : {T : List ℕ} (e : Expr) {kind detail : ℕ} → LeafTold N N' q kind detail s v v_r r → nodes c.nodes e ≡ node_record kind detail 65535 65535 (span_of k) (own (span_of k)) → span_e e ≡ span_of k → size e ≡ 1
           → Said (answer (read e)) L T N D N' D (stepped c k) v_r r
       own_told e h b f g = let z = rw sp at w in leaf_told e (rw (stepped_leaf low over, sp) at h) (b ∙ rw (z.0, own_bytes (span_of k) z.1 z.2)) f g
 
-      pub string_told : k.kind ≡ Kinds.string_literal → detail ≡ k.detail → LeafTold N N' q 2 detail s v v_r r → TokenTold leaf_term L k N D N' D c v_r r
+      pub string_told : k.kind ≡ Kinds.string_literal → LeafTold N N' q 2 k.detail s v v_r r → TokenTold leaf_term L k N D N' D c v_r r
       unfolding leaf_term nodes span_e size
-      string_told e f h = record {
-        told = λ T there. miss there (rw e) (miss there (rw e) (hit there (rw e) refl (own_told (character_literal k.detail (span_of k) (span_of k)) h (rw f) refl refl)));
+      string_told e h = record {
+        told = λ T there. miss there (rw e) (miss there (rw e) (hit there (rw e) refl (own_told (character_literal k.detail (span_of k) (span_of k)) h refl refl refl)));
         past = spared low over h;
       }
 
-      pub local_told : k.kind ≡ Kinds.local_identifier → detail ≡ 0 → LeafTold N N' q 3 detail s v v_r r → TokenTold leaf_term L k N D N' D c v_r r
+      pub local_told : k.kind ≡ Kinds.local_identifier → LeafTold N N' q 3 0 s v v_r r → TokenTold leaf_term L k N D N' D c v_r r
       unfolding leaf_term nodes span_e size
-      local_told e f h = record {
-        told = λ T there. miss there (rw e) (miss there (rw e) (miss there (rw e) (miss there (rw e) (hit there (rw e) refl (own_told (symbol (span_of k) (span_of k)) h (rw f) refl refl)))));
+      local_told e h = record {
+        told = λ T there. miss there (rw e) (miss there (rw e) (miss there (rw e) (miss there (rw e) (hit there (rw e) refl (own_told (symbol (span_of k) (span_of k)) h refl refl refl)))));
         past = spared low over h;
       }
 

@@ -9,13 +9,11 @@ use native.Mathlib.Omega.{arith}
 use lib.ListN.{length, take, drop, replicate}
 use Rattle.std.proofs.lemmas.Bool.{not-false, not-true}
 use Rattle.names.specs.Laws.{true_false}
-use Rattle.names.specs.Places.{place}
 use Rattle.expressions.specs.Trees.{span_e, with_span, size}
 use Rattle.records.specs.declared.spans.Span.{Span}
 use Rattle.records.specs.declared.counters.Counters.{Counters}
 use Rattle.records.specs.Counters.{counters_are}
-use Rattle.expressions.specs.Reader.{run}
-use Rattle.expressions.specs.Expressions.{parse_expression, expression_from, fuel}
+use Rattle.expressions.specs.Expressions.{expression_from, fuel}
 use Rattle.records.specs.Rooms.{NodeRoom}
 use Rattle.records.specs.Stores.{cleared}
 use Rattle.records.specs.Written.{written_past, cleared_fits}

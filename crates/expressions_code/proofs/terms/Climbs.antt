@@ -1,7 +1,7 @@
 -- What the returns of the climb show.
 -- Assumes nothing.
 use Rattle.std.specs.Prelude.{Some, None, Ok, Err}
-use mathlib.Core.Path.{◌≡◌, refl, sym, ◌∙◌, ap, ap₂, subst}
+use mathlib.Core.Path.{◌≡◌, refl, sym, ◌∙◌, ap, ap₂}
 use mathlib.Core.Bool.{false}
 use mathlib.Core.List.{List, ◌++◌, append_assoc}
 use Prim.Native.Nat.{ℕ, zero, suc, ◌+◌, ◌-◌, ◌*◌, ◌<◌, ◌≤◌}
@@ -15,7 +15,6 @@ use Rattle.names.specs.declared.tokens.Token.{Token}
 use Rattle.records.specs.Spans.{span, span_of}
 use Rattle.expressions.specs.Trees.{Expr, binary, span_e, size}
 use Rattle.records.specs.declared.spans.Span.{Span}
-use Rattle.records.specs.declared.diagnostics.Diagnostic.{Diagnostic}
 use Rattle.records.specs.declared.counters.Counters.{Counters}
 use Rattle.expressions_code.specs.declared.terms.TermError.{TermError}
 use Rattle.expressions_code.specs.declared.terms.TermError.TheVariants as errors
@@ -23,7 +22,7 @@ use Rattle.records.specs.Diagnostics.{expression_expected}
 use Rattle.expressions.specs.Reader.{Reader, answer, ◌>>=◌, run}
 use Rattle.expressions.specs.Laws.{holds}
 use Rattle.expressions.specs.Told.{Told}
-use Rattle.expressions.specs.Paths.{fails, fails_end, raised_as, held_as, reheld, counted, answered, raised, bound, hit, missed}
+use Rattle.expressions.specs.Paths.{fails, fails_end, held_as, reheld, counted, answered, raised, bound, hit, missed}
 use Rattle.expressions.specs.Expressions.{Term, read, precedence, binary_operator, operator, operated, parse_prefix, parse_expression_from, fuel}
 use Rattle.records.specs.Nodes.{node_record, words, zeros}
 use Rattle.expressions.specs.Records.{nodes, length_nodes}

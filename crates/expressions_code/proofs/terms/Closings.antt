@@ -14,15 +14,14 @@ use Rattle.names.specs.Places.{place, live}
 use Rattle.names.specs.declared.tokens.Token.{Token}
 use Rattle.records.specs.Spans.{span, span_of}
 use Rattle.records.specs.declared.spans.Span.{Span}
-use Rattle.records.specs.declared.diagnostics.Diagnostic.{Diagnostic}
 use Rattle.records.specs.declared.counters.Counters.{Counters}
 use Rattle.expressions_code.specs.declared.terms.TermError.{TermError}
 use Rattle.records.specs.Rooms.{NodeRoom}
-use Rattle.records.specs.Diagnostics.{expression_expected, unclosed_parenthesis}
+use Rattle.records.specs.Diagnostics.{unclosed_parenthesis}
 use Rattle.expressions.specs.Reader.{is}
 use Rattle.expressions.specs.Laws.{holds}
 use Rattle.expressions.specs.Paths.{held_as, counted, answered, raised, bound, hit, missed}
-use Rattle.expressions.specs.Expressions.{read, reported, absent, grouped}
+use Rattle.expressions.specs.Expressions.{read, reported, grouped}
 use Rattle.records.specs.Stores.{written}
 use Rattle.records.specs.Counters.{stepped}
 use Rattle.expressions_code.specs.Terms.{Parsed, parsed_of, size_t, nodes_t, Held, DeepTold, ExpectedTold, ExpressionTold, group_term, BehindTold, with_nodes, CloseTold, closed, unclosed}

@@ -5,7 +5,6 @@
 use native.Mathlib.Omega.{arith}
 use mathlib.Core.Path.{refl, sym, ◌∙◌}
 use Rattle.expressions.specs.Paths.{told_one}
-use Rattle.expressions_code.proofs.levels.Operators.{precedence_small}
 use Rattle.names.specs.Places.{live}
 use Rattle.expressions_code.proofs.leaves.Returns.{blank}
 use Rattle.expressions_code.proofs.terms.Returns.{err_given, absent_quiet, read_on, read_some, read_on_some, prefix_full, prefix_end, prefix_unary, prefix_plus, prefix_group, prefix_leaf, unary_reads, unary_fails, plus_reads, plus_fails, expression_reads, expression_fails}
