@@ -7,6 +7,7 @@ use names::{Token, kinds};
 
 // The level of a kind of token as a binary operator, 0 for a kind that is none. No `Option`: it is compared with the least level, so that none
 // needs no case of its own.
+#[tactic(auto, unfolding(expressions::specs::Expressions::precedence))]
 pub(crate) fn precedence(kind: u16) -> u8
     ensures { result ≡ precedence kind }
 {
@@ -20,6 +21,7 @@ pub(crate) fn precedence(kind: u16) -> u8
 }
 
 // The number of a kind as a binary operator, 9 for a kind that is none: the definition's number, and asked of an operator alone.
+#[tactic(auto, unfolding(expressions::specs::Expressions::binary_operator))]
 pub(crate) fn binary_operator(kind: u16) -> u16
     ensures { result ≡ binary_operator kind }
 {

@@ -211,7 +211,7 @@ pub(crate) fn parse_expression_from(
 
 // One operator of the climb, which stands at the cursor: the longer left side; or no term is read behind the operator, and the climb ends.
 #[cycle(terms)]
-#[tactic(auto, using(names::specs::Places::live, crate::proofs::levels::Operators::precedence_small, crate::proofs::terms::Returns::read_on, crate::proofs::terms::Returns::read_on_some))]
+#[tactic(auto, using(names::specs::Places::live, expressions::specs::Levels::precedence_most, crate::proofs::terms::Returns::read_on, crate::proofs::terms::Returns::read_on_some))]
 fn parse_operated(
     source: &Source,
     nodes: &mut [u16],
