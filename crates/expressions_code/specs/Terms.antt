@@ -14,7 +14,7 @@ use Rattle.records.specs.declared.progress.Progress.{Progress}
 use Rattle.expressions.specs.declared.source.Source.{Source}
 use Rattle.expressions_code.specs.declared.terms.TermError.{TermError}
 use Rattle.expressions_code.specs.declared.terms.TermError.TheVariants as errors
-use Rattle.records.specs.Diagnostics.{unclosed_parenthesis}
+use Rattle.records.specs.Diagnostics.{expression_expected, unclosed_parenthesis}
 use Rattle.expressions.specs.Reader.{is, Reader, ◌>>=◌}
 use Rattle.expressions.specs.Laws.{holds}
 use Rattle.expressions.specs.Told.{Told}
@@ -73,6 +73,11 @@ pub record DeepTold (D D' : List ℕ) (c : Counters) (x : Diagnostic) (v_r : Par
   pub end : r.end ≡ c.end
   pub same : r.nodes ≡ c.nodes
   pub push : PushTold D D' c.diagnostics x r.diagnostics
+
+-- the answer v where a term had to stand, behind the token k: that none stands there is told, and else nothing moves
+pub data ExpectedTold (D D' : List ℕ) (c : Counters) (v : Parsed) (k : Token) (v_r : Parsed) (r : Counters) : Type 0 where
+  stood : (v ≡ Err errors.Absent → ⊥) → v_r ≡ v → D' ≡ D → r ≡ c → ExpectedTold D D' c v k v_r r
+  missing : v ≡ Err errors.Absent → DeepTold D D' c (expression_expected (span_of k)) v_r r → ExpectedTold D D' c v k v_r r
 
 -- the node record b behind those that count; nothing else moves
 pub record NodeTold (N N' : List ℕ) (c : Counters) (b : List ℕ) (r : Counters) : Type 0 where
@@ -188,6 +193,13 @@ DeepAt c o o' x v = DeepTold o.diagnostics.now o'.diagnostics.now c x v o'.count
 
 abbrev pub DeepBy : Progress → Progress → Diagnostic → Parsed → Type 0
 DeepBy o o' x v = DeepAt o.counters o o' x v
+
+-- a diagnostic is counted where no term stands
+abbrev pub ExpectedAsks : Progress → Parsed → Type 0
+ExpectedAsks o v = v ≡ Err errors.Absent → o.counters.diagnostics < 65535
+
+abbrev pub ExpectedBy : Progress → Progress → Parsed → Token → Parsed → Type 0
+ExpectedBy o o' v k v_r = ExpectedTold o.diagnostics.now o'.diagnostics.now o.counters v k v_r o'.counters
 
 abbrev pub DepthBy : Source → Progress → Progress → Parsed → Type 0
 DepthBy a o o' v = DepthTold a.tokens.now o.diagnostics.now o'.diagnostics.now o.counters v o'.counters

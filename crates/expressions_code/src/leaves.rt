@@ -21,7 +21,8 @@ pub(crate) fn own(span: Span) -> u64
     u64::from(span.start) + 65536 * u64::from(span.end)
 }
 
-// A node without children, and the term that it is.
+// A node without children, and the term that it is. No struct holds what it is given, as none holds what `put_operator` is: a node is
+// written in the call that makes it, so that a struct would be taken apart at once.
 pub(crate) fn read_leaf(
     nodes: &mut [u16],
     c: &mut Counters,

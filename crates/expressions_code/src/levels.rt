@@ -7,6 +7,7 @@ use names::{Token, kinds};
 
 // The level of a kind of token as a binary operator, 0 for a kind that is none. No `Option`: it is compared with the least level, so that none
 // needs no case of its own.
+#[tactic(auto, unfolding(expressions::specs::Expressions::precedence))]
 pub(crate) fn precedence(kind: u16) -> u8
     ensures { result ≡ precedence kind }
 {
@@ -20,6 +21,7 @@ pub(crate) fn precedence(kind: u16) -> u8
 }
 
 // The number of a kind as a binary operator, 9 for a kind that is none: the definition's number, and asked of an operator alone.
+#[tactic(auto, unfolding(expressions::specs::Expressions::binary_operator))]
 pub(crate) fn binary_operator(kind: u16) -> u16
     ensures { result ≡ binary_operator kind }
 {
@@ -32,15 +34,20 @@ pub(crate) fn binary_operator(kind: u16) -> u16
     }
 }
 
+#[tactic(auto, unfolding(expressions::specs::Expressions::is_unary))]
 pub(crate) fn is_unary(token: Token) -> bool
     ensures { (x : List ℕ) → result ≡ is_unary token x }
 {
     matches!(token.kind, kinds::MINUS | kinds::TILDE)
 }
 
-// A unary operator's number.
+// A unary operator's number, of a kind that is one: 0 and 1 are the definition's, as `binary_operator`'s are.
+#[tactic(auto, unfolding(expressions::specs::Expressions::unary_operator))]
 pub(crate) fn unary_operator(kind: u16) -> u16
     ensures { result ≡ unary_operator kind }
 {
-    if kind == kinds::MINUS { 0 } else { 1 }
+    match kind {
+        kinds::MINUS => 0,
+        _ => 1,
+    }
 }

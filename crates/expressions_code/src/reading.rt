@@ -1,24 +1,26 @@
 // The public functions: an expression at the cursor, and one that goes on from a left side.
-ghost use Rattle.std.specs.Prelude.{◌≡◌, List, ℕ, length};
-ghost use Rattle.names.specs.Tokens.{count};
+ghost use Rattle.std.specs.Prelude.{◌≡◌};
 ghost use Rattle.expressions_code.specs.Reading.{RoomTold, ExpressionPromised, FromPromised};
 
 use crate::terms::{TermError, parse_expression, parse_expression_from};
 use expressions::Source;
 use records::{Counters, MOST_COUNTED, MOST_TOKENS, Progress, Span, clear_nodes, widen};
 
-// Whether there is room for a reading of so many tokens from these counters on, in a store of so many numbers, with at least `least` nodes.
-fn has_room(tokens: usize, nodes: usize, c: Counters, least: u16) -> bool
-    ensures { (T N : List ℕ) → count T ≡ tokens → length N ≡ nodes → RoomTold T N c least result }
+// Whether there is room for a reading from these counters on, with at least `least` nodes.
+fn has_room(source: &Source, nodes: &[u16], c: Counters, least: u16) -> bool
+    ensures { RoomTold source.now.tokens.now nodes.now c least result }
 {
+    let tokens = source.tokens.len() / 4;
     let at = usize::from(c.at);
-    if MOST_TOKENS < tokens || tokens < at {
-        return false;
-    }
-    let left = tokens - at;
+    let left = tokens.saturating_sub(at);
     let most = usize::from(c.nodes) + left;
     let counted = usize::from(c.diagnostics) + left;
-    least <= c.nodes && counted < MOST_COUNTED && most <= MOST_COUNTED && 10 * most <= nodes
+    tokens <= MOST_TOKENS
+        && at <= tokens
+        && least <= c.nodes
+        && counted < MOST_COUNTED
+        && most <= MOST_COUNTED
+        && 10 * most <= nodes.len()
 }
 
 // An expression, where there is room for a reading. The records that failed terms have left behind are cleared: they are among as many as
@@ -32,7 +34,7 @@ pub fn expression(
     ensures told { ExpressionPromised source.now nodes.old out.old nodes.new out.new result }
 {
     let c = out.counters;
-    if !has_room(source.tokens.len() / 4, nodes.len(), c, 0) {
+    if !has_room(source, nodes, c, 0) {
         return None;
     }
     let room = usize::from(source.setting.limit);
@@ -53,7 +55,7 @@ pub fn expression_from(
     ensures told { FromPromised source.now nodes.old out.old nodes.new out.new group result }
 {
     let c = out.counters;
-    if !has_room(source.tokens.len() / 4, nodes.len(), c, 1) {
+    if !has_room(source, nodes, c, 1) {
         return None;
     }
     widen(nodes, c.nodes - 1, group);

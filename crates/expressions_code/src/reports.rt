@@ -2,12 +2,12 @@
 ghost use Rattle.std.specs.Prelude.{◌≡◌, ◌<◌};
 ghost use Rattle.records.specs.Spans.{span_of};
 ghost use Rattle.records.specs.Diagnostics.{unclosed_parenthesis};
-ghost use Rattle.expressions_code.specs.Terms.{DeepBy, DeepAt, DepthBy, with_nodes};
+ghost use Rattle.expressions_code.specs.Terms.{DeepBy, DeepAt, DepthBy, ExpectedAsks, ExpectedBy, with_nodes};
 
 use crate::terms::TermError;
 use expressions::Source;
 use names::Token;
-use records::{Diagnostic, DiagnosticKind, Progress, Span, plain};
+use records::{Diagnostic, DiagnosticKind, Progress, Span, expression_expected, plain};
 
 // Raises a diagnostic: the term has failed and leaves no node.
 pub(crate) fn report(out: &mut Progress, x: Diagnostic) -> Result<Span, TermError>
@@ -17,6 +17,22 @@ pub(crate) fn report(out: &mut Progress, x: Diagnostic) -> Result<Span, TermErro
 {
     out.raise(x);
     Err(TermError::Reported)
+}
+
+// What was read where a term had to stand, behind this token: that none stands there is told.
+pub(crate) fn expected(
+    out: &mut Progress,
+    read: Result<Span, TermError>,
+    token: Token,
+) -> Result<Span, TermError>
+    requires { ExpectedAsks out.old read }
+    ensures lent { out.new.diagnostics.ghost_name ≡ out.old.diagnostics.ghost_name }
+    ensures told { ExpectedBy out.old out.new read token result }
+{
+    match read {
+        Err(TermError::Absent) => report(out, expression_expected(token)),
+        _ => read,
+    }
 }
 
 // More terms are open than may be: told at the token that stands at the cursor, or at the end of the last one.

@@ -6,12 +6,10 @@ ghost use Rattle.expressions_code.specs.Terms.{OperatedBy, PrefixBy, ExpressionB
 
 use crate::leaves::{parse_leaf, put_operator};
 use crate::levels::{binary_operator, is_unary, precedence, unary_operator};
-use crate::reports::{report, too_deep, unclosed};
+use crate::reports::{expected, report, too_deep, unclosed};
 use expressions::Source;
 use names::{Token, kinds};
-use records::{
-    ABSENT, DiagnosticKind, NodeKind, Progress, Span, expression_expected, plain, widen,
-};
+use records::{ABSENT, DiagnosticKind, NodeKind, Progress, Span, plain, widen};
 
 // Why a term is not read: it failed and that is told, or none stands there.
 #[derive(Clone, Copy, PartialEq, Eq)]
@@ -46,6 +44,7 @@ fn close_group(
 
 // A term, with at most `room` terms open in it.
 #[cycle(terms)]
+#[tactic(auto, using(names::specs::Places::live))]
 fn parse_prefix(
     source: &Source,
     nodes: &mut [u16],
@@ -82,6 +81,7 @@ fn parse_prefix(
 
 // Behind a minus or a tilde.
 #[cycle(terms)]
+#[tactic(auto, using(crate::proofs::terms::Returns::read_on))]
 fn parse_unary(
     source: &Source,
     nodes: &mut [u16],
@@ -93,29 +93,24 @@ fn parse_unary(
     ensures lent { out.new.diagnostics.ghost_name ≡ out.old.diagnostics.ghost_name }
     ensures told { BehindBy (unary_term room token) source.now nodes.old out.old nodes.new out.new result }
 {
-    match parse_prefix(source, nodes, out, room) {
-        Ok(s) => {
-            let span = Span {
-                start: token.start,
-                end: s.end,
-            };
-            let operator = unary_operator(token.kind);
-            let operand = out.counters.nodes - 1;
-            let kind = NodeKind::Unary;
-            put_operator(
-                nodes,
-                &mut out.counters,
-                kind,
-                operator,
-                operand,
-                ABSENT,
-                span,
-            );
-            Ok(span)
-        }
-        Err(TermError::Reported) => Err(TermError::Reported),
-        Err(TermError::Absent) => report(out, expression_expected(token)),
-    }
+    let read = parse_prefix(source, nodes, out, room);
+    let term = expected(out, read, token)?;
+    let span = Span {
+        start: token.start,
+        end: term.end,
+    };
+    let operator = unary_operator(token.kind);
+    let operand = out.counters.nodes - 1;
+    put_operator(
+        nodes,
+        &mut out.counters,
+        NodeKind::Unary,
+        operator,
+        operand,
+        ABSENT,
+        span,
+    );
+    Ok(span)
 }
 
 // Behind a plus, which is no unary operator: the term is read all the same.
@@ -162,11 +157,9 @@ fn parse_group(
     ensures told { BehindBy (group_term room token) source.now nodes.old out.old nodes.new out.new result }
 {
     let first = out.counters.nodes;
-    match parse_expression(source, nodes, out, room) {
-        Ok(_) => close_group(source, nodes, out, first, token),
-        Err(TermError::Reported) => Err(TermError::Reported),
-        Err(TermError::Absent) => report(out, expression_expected(token)),
-    }
+    let read = parse_expression(source, nodes, out, room);
+    expected(out, read, token)?;
+    close_group(source, nodes, out, first, token)
 }
 
 // An expression: a term, and the climb from it.
@@ -200,6 +193,7 @@ pub(crate) fn parse_expression_from(
     ensures told { ClimbBy source.now nodes.old out.old nodes.new out.new left minimum room result }
 {
     let mut span = left;
+    // No `for`: each turn reads on from where the last one ended, and the callee says whether it goes on.
     loop {
         let Some(t) = source.peek(out.counters) else {
             break;
@@ -217,6 +211,7 @@ pub(crate) fn parse_expression_from(
 
 // One operator of the climb, which stands at the cursor: the longer left side; or no term is read behind the operator, and the climb ends.
 #[cycle(terms)]
+#[tactic(auto, using(names::specs::Places::live, expressions::specs::Levels::precedence_most, crate::proofs::terms::Returns::read_on, crate::proofs::terms::Returns::read_on_some))]
 fn parse_operated(
     source: &Source,
     nodes: &mut [u16],
@@ -231,29 +226,24 @@ fn parse_operated(
 {
     let before = out.counters.nodes - 1;
     out.counters.step_over(t);
-    match parse_prefix(source, nodes, out, room) {
-        Ok(s) => {
-            let above = precedence(t.kind) + 1;
-            let right = parse_expression_from(source, nodes, out, s, above, room);
-            let whole = Span {
-                start: left.start,
-                end: right.end,
-            };
-            let operator = binary_operator(t.kind);
-            let last = out.counters.nodes - 1;
-            let kind = NodeKind::Binary;
-            put_operator(
-                nodes,
-                &mut out.counters,
-                kind,
-                operator,
-                before,
-                last,
-                whole,
-            );
-            Ok(whole)
-        }
-        Err(TermError::Reported) => Err(TermError::Reported),
-        Err(TermError::Absent) => report(out, expression_expected(t)),
-    }
+    let read = parse_prefix(source, nodes, out, room);
+    let term = expected(out, read, t)?;
+    let above = precedence(t.kind) + 1;
+    let right = parse_expression_from(source, nodes, out, term, above, room);
+    let whole = Span {
+        start: left.start,
+        end: right.end,
+    };
+    let operator = binary_operator(t.kind);
+    let last = out.counters.nodes - 1;
+    put_operator(
+        nodes,
+        &mut out.counters,
+        NodeKind::Binary,
+        operator,
+        before,
+        last,
+        whole,
+    );
+    Ok(whole)
 }

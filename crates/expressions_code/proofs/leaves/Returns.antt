@@ -1,7 +1,7 @@
 -- What the terms of one token tell.
 -- Assumes nothing.
-use Rattle.std.specs.Prelude.{Some, None, Result, Ok, Err}
-use mathlib.Core.Path.{◌≡◌, refl, sym, ◌∙◌, ap, subst}
+use Rattle.std.specs.Prelude.{Option, Some, None, Result, Ok, Err}
+use mathlib.Core.Path.{◌≡◌, refl, sym, ◌∙◌, ap, ap₂, subst}
 use mathlib.Core.Bool.{Bool, true, false}
 use mathlib.Core.List.{List, append-nil}
 use Prim.Native.Nat.{ℕ, ◌+◌, ◌*◌, ◌/◌, ◌%◌, ◌<◌}
@@ -16,14 +16,13 @@ use Rattle.names.specs.Places.{text_of}
 use Rattle.names.specs.Numbers.{number_of}
 use Rattle.names.specs.declared.tokens.Token.{Token}
 use Rattle.names.specs.declared.numbers.NumberError.{NumberError}
-use Rattle.records.specs.DiagnosticKinds
-use Rattle.records.specs.Spans.{span_of, empty, no_span}
+use Rattle.records.specs.Spans.{span, span_of, span_or, no_span}
 use Rattle.expressions.specs.Trees.{Expr, number, character_literal, symbol, current_address, span_e, size}
 use Rattle.records.specs.declared.spans.Span.{Span}
 use Rattle.records.specs.declared.diagnostics.Diagnostic.{Diagnostic}
 use Rattle.records.specs.declared.counters.Counters.{Counters}
 use Rattle.expressions_code.specs.declared.terms.TermError.TheVariants as errors
-use Rattle.records.specs.Diagnostics.{plain, nesting_too_deep, number_too_large, register_in_expression}
+use Rattle.records.specs.Diagnostics.{nesting_too_deep, number_too_large, register_in_expression}
 use Rattle.expressions.specs.Reader.{Reader, answer, raise, ◌>>=◌}
 use Rattle.expressions.specs.Told.{Raised, Told, Same}
 use Rattle.expressions.specs.Paths.{raised_as, renamed, counted, answered, hereby, raised, bound_as, hit, miss, seen, beyond}
@@ -31,8 +30,12 @@ use Rattle.expressions.specs.Expressions.{Term, read, reported, absent, valued, 
 use Rattle.expressions.proofs.Costs.{size_pos}
 use Rattle.records.specs.Nodes.{node_record, words, own}
 use Rattle.expressions.specs.Records.{nodes}
-use Rattle.records.specs.Counters.{stepped, counters_are}
+use Rattle.records.specs.Counters.{stepped, Over, counters_are, over_is}
 use Rattle.expressions_code.specs.Terms.{Parsed, parsed_of, size_t, nodes_t, Held, Said, LeafTold, DeepTold, ReaderTold, TokenTold, DepthTold, Spared}
+
+-- the span that the code has where a record has none
+pub blank : {s : Span} → (s.start ≡ 0) × (s.end ≡ 0) → s ≡ no_span
+blank h = ap₂ span h.0 h.1
 
 -- ---- a term without nodes
 
@@ -76,103 +79,107 @@ leaf_told e h b sp one = counted h.at h.end h.seen (answered (rw sp h.what) refl
 
 -- ---- numbers and names
 
-module _ (N D : List ℕ) (c : Counters) (k : Token) (x : List ℕ) where
-  number_is : {n : Result ℕ NumberError} → number_of k.detail x ≡ n → (valued k n >>= λ v. answer (read (number k.detail v (span_of k)))) ≡ number_term k x
-  unfolding number_term
-  number_is e = rw e
+number_is : (k : Token) (x : List ℕ) {n : Result ℕ NumberError} → number_of k.detail x ≡ n → (valued k n >>= λ v. answer (read (number k.detail v (span_of k)))) ≡ number_term k x
+unfolding number_term
+number_is k x e = rw e
 
-  module _ {N' D' : List ℕ} {v_r : Parsed} {r : Counters} {detail v d : ℕ} {s : Span} where
-    -- the digits come to n, whose value is v
-    number_leaf : {n : Result ℕ NumberError} → number_of k.detail x ≡ n → ((L T : List ℕ) → Told (λ z. z) (Same c.nodes) (valued k n) L T D D' c v (record { at = c.at; end = c.end; nodes = c.nodes; diagnostics = d }))
-        → detail ≡ k.detail → s ≡ span_of k → LeafTold N N' (record { at = c.at; end = c.end; nodes = c.nodes; diagnostics = d }) 1 detail s v v_r r → ReaderTold (number_term k x) N D N' D' c v_r r
+-- the code has the digits as n, of the text y
+module _ {N D : List ℕ} {c : Counters} (k : Token) (x : List ℕ) {n : Result ℕ NumberError} {y : List ℕ} (parsed : n ≡ number_of k.detail y) (text : y ≡ x) where
+  module _ {N' D' : List ℕ} {v_r : Parsed} {r : Counters} {v d : ℕ} {s : Span} where
+    -- they come to m, whose value is v
+    number_leaf : {m : Result ℕ NumberError} → n ≡ m → ((L T : List ℕ) → Told (λ z. z) (Same c.nodes) (valued k m) L T D D' c v (record { at = c.at; end = c.end; nodes = c.nodes; diagnostics = d }))
+        → s ≡ span_of k → LeafTold N N' (record { at = c.at; end = c.end; nodes = c.nodes; diagnostics = d }) 1 k.detail s v v_r r → ReaderTold (number_term k x) N D N' D' c v_r r
     unfolding nodes span_e size
-    number_leaf e t f g h = record {
-      told = λ L T. renamed (number_is e) (bound_as (t L T) (leaf_told (number k.detail v (span_of k)) (rw (f, g) at h) refl refl refl));
+    number_leaf e t g h = record {
+      told = λ L T. renamed (number_is k x (sym (parsed ∙ ap (number_of k.detail) text) ∙ e)) (bound_as (t L T) (leaf_told (number k.detail v (span_of k)) (rw g at h) refl refl refl));
       stays = h.at;
       past = h.put.past;
     }
 
-  pub number_value : {N' : List ℕ} {v_r : Parsed} {r : Counters} {detail v : ℕ} {s : Span} → number_of k.detail x ≡ Ok v → detail ≡ k.detail → s ≡ span_of k
-      → LeafTold N N' c 1 detail s v v_r r → ReaderTold (number_term k x) N D N' D c v_r r
+  pub number_value : {N' : List ℕ} {v_r : Parsed} {r : Counters} {v : ℕ} {s : Span} → n ≡ Ok v → s ≡ span_of k → LeafTold N N' c 1 k.detail s v v_r r → ReaderTold (number_term k x) N D N' D c v_r r
   unfolding valued
   number_value e = number_leaf e λ L T. answered refl refl refl
 
-  pub number_invalid : {N' : List ℕ} {v_r : Parsed} {r : Counters} {detail : ℕ} {s : Span} → number_of k.detail x ≡ Err NumberError.Invalid → detail ≡ k.detail → s ≡ span_of k
-      → LeafTold N N' c 1 detail s 0 v_r r → ReaderTold (number_term k x) N D N' D c v_r r
+  pub number_invalid : {N' : List ℕ} {v_r : Parsed} {r : Counters} {s : Span} → n ≡ Err NumberError.Invalid → s ≡ span_of k → LeafTold N N' c 1 k.detail s 0 v_r r → ReaderTold (number_term k x) N D N' D c v_r r
   unfolding valued
   number_invalid e = number_leaf e λ L T. answered refl refl refl
 
-  pub number_large : {N' D' : List ℕ} {v_r : Parsed} {r c₁ : Counters} {detail : ℕ} {s : Span} {y : Diagnostic} → number_of k.detail x ≡ Err NumberError.TooLarge → detail ≡ k.detail → s ≡ span_of k
-      → y ≡ plain DiagnosticKinds.number_too_large s s → Raised D D' c y c₁ → LeafTold N N' c₁ 1 detail s 0 v_r r → ReaderTold (number_term k x) N D N' D' c v_r r
+  pub number_large : {N' D' : List ℕ} {v_r : Parsed} {r c₁ : Counters} {s : Span} {z : Diagnostic} → n ≡ Err NumberError.TooLarge → s ≡ span_of k
+      → z ≡ number_too_large s → Raised D D' c z c₁ → LeafTold N N' c₁ 1 k.detail s 0 v_r r → ReaderTold (number_term k x) N D N' D' c v_r r
   unfolding valued
-  number_large {N'} {v_r = v_r} {r = r} {detail = detail} {s = s} {y = y} e f g q p h =
-      number_leaf e (λ L T. let z : y ≡ number_too_large (span_of k) = q ∙ rw g in raised (raised_as z (record { counters = refl; more = p.more })) (answered refl refl refl)) f g
-      (subst (λ z. LeafTold N N' z 1 detail s 0 v_r r) p.counters h)
+  number_large {N'} {v_r = v_r} {r = r} {s = s} {z = z} e g q p h =
+      number_leaf e (λ L T. raised (raised_as (q ∙ ap number_too_large g) (record { counters = refl; more = p.more })) (answered refl refl refl)) g
+      (subst (λ z. LeafTold N N' z 1 k.detail s 0 v_r r) p.counters h)
 
-  pub name_reserved : {D' : List ℕ} {v_r : Parsed} {r : Counters} {s : Span} {y : Diagnostic} {b : Bool} → b ≡ true → s ≡ span_of k → y ≡ plain DiagnosticKinds.register_in_expression s s
-      → DeepTold D D' c y v_r r → ReaderTold (named k b) N D N D' c v_r r
+-- the code has the text as y, and finds b of it
+module _ {N D : List ℕ} {c : Counters} (k : Token) {b : Bool} {x y : List ℕ} (found : b ≡ reserved y) (text : y ≡ x) where
+  pub name_reserved : {D' : List ℕ} {v_r : Parsed} {r : Counters} {s : Span} {z : Diagnostic} → b ≡ true → s ≡ span_of k → z ≡ register_in_expression s
+      → DeepTold D D' c z v_r r → ReaderTold (named k (reserved x)) N D N D' c v_r r
   unfolding named
-  name_reserved {y = y} e g q h = record {
-    told = λ L T. let z : y ≡ register_in_expression (span_of k) = q ∙ rw g in rw e (report_told (rw z at h));
+  name_reserved {z = z} e g q h = record {
+    told = λ L T. rw (← text, ← found, e) (report_told (rw (q ∙ ap register_in_expression g) at h));
     stays = h.at;
     past = λ j b. refl;
   }
 
-  pub name_read : {N' : List ℕ} {v_r : Parsed} {r : Counters} {s : Span} {v : ℕ} {b : Bool} → b ≡ false → s ≡ span_of k → (v ≡ s.start + 65536 * s.end) × (s.start < 65536) × (s.end < 65536)
-      → LeafTold N N' c 3 0 s v v_r r → ReaderTold (named k b) N D N' D c v_r r
+  pub name_read : {N' : List ℕ} {v_r : Parsed} {r : Counters} {s : Span} {v : ℕ} → b ≡ false → s ≡ span_of k → (v ≡ s.start + 65536 * s.end) × (s.start < 65536) × (s.end < 65536)
+      → LeafTold N N' c 3 0 s v v_r r → ReaderTold (named k (reserved x)) N D N' D c v_r r
   unfolding named nodes span_e size
   name_read e g q h = record {
-    told = λ L T. let w = rw g at q in rw e (leaf_told (symbol (span_of k) (span_of k)) (rw g at h) (rw (w.0, own_bytes (span_of k) w.1 w.2)) refl refl);
+    told = λ L T. let w = rw g at q in rw (← text, ← found, e) (leaf_told (symbol (span_of k) (span_of k)) (rw g at h) (rw (w.0, own_bytes (span_of k) w.1 w.2)) refl refl);
     stays = h.at;
     past = h.put.past;
   }
 
 -- ---- a term of one token, by its kind
 
-module _ (L N D : List ℕ) (c : Counters) (k : Token) where
-  module _ {N' : List ℕ} {v_r : Parsed} {r : Counters} {s : Span} {q : Counters} (step : q ≡ stepped c k) (sp : s ≡ span_of k) where
-    spared : {kind detail v : ℕ} → LeafTold N N' q kind detail s v v_r r → Spared N N' c r
-    spared h j b = h.put.past j (omega (arith, b, h.at, ap (λ z. z.at) step, ap (λ z. z.nodes) step))
+stepped_leaf : {c q : Counters} {k : Token} → c.at < 1023 → Over c k q → q ≡ stepped c k
+stepped_leaf low over = over_is (omega (arith, low)) over
 
+spared : {N N' : List ℕ} {c q r : Counters} {k : Token} {v_r : Parsed} {s : Span} {kind detail v : ℕ} → c.at < 1023 → Over c k q → LeafTold N N' q kind detail s v v_r r → Spared N N' c r
+spared low over h j b = h.put.past j (omega (arith, b, h.at, low, over))
+
+token_spared : {p : Reader Term} {N D N' D' : List ℕ} {c q r : Counters} {k : Token} {v_r : Parsed} → c.at < 1023 → Over c k q → ReaderTold p N D N' D' q v_r r → Spared N N' c r
+token_spared low over h j b = h.past j (omega (arith, b, h.stays, low, over))
+
+module _ {L N D : List ℕ} {c : Counters} {k : Token} where
+  module _ {N' : List ℕ} {v_r : Parsed} {r : Counters} {s : Span} {q : Counters} (low : c.at < 1023) (over : Over c k q) (sp : s ≡ span_of k) where
     pub star_told : k.kind ≡ Kinds.star → LeafTold N N' q 4 0 s 0 v_r r → TokenTold leaf_term L k N D N' D c v_r r
     unfolding leaf_term nodes span_e size words
-    star_told e h = record { told = λ T there. hit there (rw e) refl (leaf_told (current_address (span_of k)) (rw (step, sp) at h) refl refl refl); past = spared h }
+    star_told e h = record { told = λ T there. hit there (rw e) refl (leaf_told (current_address (span_of k)) (rw (stepped_leaf low over, sp) at h) refl refl refl); past = spared low over h }
 
-    module _ {v detail : ℕ} (w : (v ≡ s.start + 65536 * s.end) × (s.start < 65536) × (s.end < 65536)) where
-      own_told : {T : List ℕ} (e : Expr) {kind : ℕ} → LeafTold N N' q kind detail s v v_r r → nodes c.nodes e ≡ node_record kind detail 65535 65535 (span_of k) (own (span_of k)) → span_e e ≡ span_of k → size e ≡ 1
+    module _ {v : ℕ} (w : (v ≡ s.start + 65536 * s.end) × (s.start < 65536) × (s.end < 65536)) where
+      own_told : {T : List ℕ} (e : Expr) {kind detail : ℕ} → LeafTold N N' q kind detail s v v_r r → nodes c.nodes e ≡ node_record kind detail 65535 65535 (span_of k) (own (span_of k)) → span_e e ≡ span_of k → size e ≡ 1
           → Said (answer (read e)) L T N D N' D (stepped c k) v_r r
-      own_told e h b f g = let z = rw sp at w in leaf_told e (rw (step, sp) at h) (b ∙ rw (z.0, own_bytes (span_of k) z.1 z.2)) f g
+      own_told e h b f g = let z = rw sp at w in leaf_told e (rw (stepped_leaf low over, sp) at h) (b ∙ rw (z.0, own_bytes (span_of k) z.1 z.2)) f g
 
-      pub string_told : k.kind ≡ Kinds.string_literal → detail ≡ k.detail → LeafTold N N' q 2 detail s v v_r r → TokenTold leaf_term L k N D N' D c v_r r
+      pub string_told : k.kind ≡ Kinds.string_literal → LeafTold N N' q 2 k.detail s v v_r r → TokenTold leaf_term L k N D N' D c v_r r
       unfolding leaf_term nodes span_e size
-      string_told e f h = record {
-        told = λ T there. miss there (rw e) (miss there (rw e) (hit there (rw e) refl (own_told (character_literal k.detail (span_of k) (span_of k)) h (rw f) refl refl)));
-        past = spared h;
+      string_told e h = record {
+        told = λ T there. miss there (rw e) (miss there (rw e) (hit there (rw e) refl (own_told (character_literal k.detail (span_of k) (span_of k)) h refl refl refl)));
+        past = spared low over h;
       }
 
-      pub local_told : k.kind ≡ Kinds.local_identifier → detail ≡ 0 → LeafTold N N' q 3 detail s v v_r r → TokenTold leaf_term L k N D N' D c v_r r
+      pub local_told : k.kind ≡ Kinds.local_identifier → LeafTold N N' q 3 0 s v v_r r → TokenTold leaf_term L k N D N' D c v_r r
       unfolding leaf_term nodes span_e size
-      local_told e f h = record {
-        told = λ T there. miss there (rw e) (miss there (rw e) (miss there (rw e) (miss there (rw e) (hit there (rw e) refl (own_told (symbol (span_of k) (span_of k)) h (rw f) refl refl)))));
-        past = spared h;
+      local_told e h = record {
+        told = λ T there. miss there (rw e) (miss there (rw e) (miss there (rw e) (miss there (rw e) (hit there (rw e) refl (own_told (symbol (span_of k) (span_of k)) h refl refl refl)))));
+        past = spared low over h;
       }
 
-  module _ {N' D' : List ℕ} {v_r : Parsed} {r : Counters} {q : Counters} (step : q ≡ stepped c k) where
-    token_spared : {p : Reader Term} → ReaderTold p N D N' D' q v_r r → Spared N N' c r
-    token_spared h j b = h.past j (omega (arith, b, h.stays, ap (λ z. z.at) step, ap (λ z. z.nodes) step))
-
+  module _ {N' D' : List ℕ} {v_r : Parsed} {r : Counters} {q : Counters} (low : c.at < 1023) (over : Over c k q) where
     pub number_told : k.kind ≡ Kinds.number → ReaderTold (number_term k (text_of L k.start k.end)) N D N' D' q v_r r → TokenTold leaf_term L k N D N' D' c v_r r
     unfolding leaf_term
-    number_told e h = record { told = λ T there. miss there (rw e) (hit there (rw e) refl ((rw step at h).told L T)); past = token_spared h }
+    number_told e h = record { told = λ T there. miss there (rw e) (hit there (rw e) refl ((rw (stepped_leaf low over) at h).told L T)); past = token_spared low over h }
 
     pub name_told : k.kind ≡ Kinds.identifier → ReaderTold (named k (reserved (text_of L k.start k.end))) N D N' D' q v_r r → TokenTold leaf_term L k N D N' D' c v_r r
     unfolding leaf_term
-    name_told e h = record { told = λ T there. miss there (rw e) (miss there (rw e) (miss there (rw e) (hit there (rw e) refl ((rw step at h).told L T)))); past = token_spared h }
+    name_told e h = record { told = λ T there. miss there (rw e) (miss there (rw e) (miss there (rw e) (hit there (rw e) refl ((rw (stepped_leaf low over) at h).told L T)))); past = token_spared low over h }
 
-  pub error_told : {q : Counters} → q ≡ stepped c k → k.kind ≡ Kinds.error → TokenTold leaf_term L k N D N D c (Err errors.Reported) q
+  pub error_told : {q : Counters} → c.at < 1023 → Over c k q → k.kind ≡ Kinds.error → TokenTold leaf_term L k N D N D c (Err errors.Reported) q
   unfolding leaf_term parsed_of size_t
-  error_told step e = record {
-    told = λ T there. miss there (rw e) (miss there (rw e) (miss there (rw e) (miss there (rw e) (miss there (rw e) (hit there (rw e) step (answered refl refl (held_none reported refl (ap (λ z. z.nodes) step) refl)))))));
+  error_told low over e = record {
+    told = λ T there. miss there (rw e) (miss there (rw e) (miss there (rw e) (miss there (rw e) (miss there (rw e) (hit there (rw e) (stepped_leaf low over) (answered refl refl (held_none reported refl over.nodes refl)))))));
     past = λ j b. refl;
   }
 
@@ -186,11 +193,11 @@ module _ (L N D : List ℕ) (c : Counters) (k : Token) where
 
 -- ---- the depth
 
-module _ {T D D' : List ℕ} {c : Counters} {v_r : Parsed} {r : Counters} {y : Diagnostic} where
-  pub deep_token : {t : Token} {s : Span} → token_at T c.at ≡ Some t → s ≡ span_of t → y ≡ plain DiagnosticKinds.nesting_too_deep s no_span → DeepTold D D' c y v_r r → DepthTold T D D' c v_r r
-  unfolding too_deep
-  deep_token {t} e f g h = record { told = λ L N. let z : y ≡ nesting_too_deep (span_of t) = g ∙ rw f in hereby (seen (sym (add-zero c.at)) e refl (report_told (rw z at h))) }
-
-  pub deep_past : token_at T c.at ≡ None → y ≡ plain DiagnosticKinds.nesting_too_deep (empty c.end) no_span → DeepTold D D' c y v_r r → DepthTold T D D' c v_r r
-  unfolding too_deep
-  deep_past e g h = record { told = λ L N. hereby (beyond (sym (add-zero c.at)) e (report_told (rw g at h))) }
+module _ {T D D' : List ℕ} {c : Counters} {v_r : Parsed} {r : Counters} {s : Span} {y : Diagnostic} where
+  pub depth_told : s ≡ span_or (token_at T c.at) c.end → y ≡ nesting_too_deep s → DeepTold D D' c y v_r r → DepthTold T D D' c v_r r
+  unfolding too_deep span_or
+  depth_told f g h = go (token_at T c.at) refl (g ∙ ap nesting_too_deep f)
+    where
+      go : (o : Option Token) → token_at T c.at ≡ o → y ≡ nesting_too_deep (span_or o c.end) → DepthTold T D D' c v_r r
+      go (Some t) e z = record { told = λ L N. hereby (seen (sym (add-zero c.at)) e refl (report_told (rw z at h))) }
+      go None e z = record { told = λ L N. hereby (beyond (sym (add-zero c.at)) e (report_told (rw z at h))) }

@@ -1,25 +1,26 @@
 -- What the public functions' returns show: the stores, cleared behind the records that count.
 -- Assumes nothing.
-use mathlib.Core.Path.{◌≡◌, sym, ◌∙◌, ap, ap₂}
+use Rattle.std.specs.Prelude.{Some}
+use mathlib.Core.Path.{◌≡◌, refl, sym, ◌∙◌, ap, ap₂}
 use mathlib.Core.Bool.{Bool, true, false, not}
 use mathlib.Core.List.{List, [], ◌∷◌, ◌++◌}
 use Prim.Native.Nat.{ℕ, ◌+◌, ◌-◌, ◌*◌, ◌≤◌}
 use native.Mathlib.Omega.{arith}
 use lib.ListN.{length, take, drop, replicate}
-use Rattle.names.specs.Places.{place}
+use Rattle.std.proofs.lemmas.Bool.{not-false, not-true}
+use Rattle.names.specs.Laws.{true_false}
 use Rattle.expressions.specs.Trees.{span_e, with_span, size}
 use Rattle.records.specs.declared.spans.Span.{Span}
 use Rattle.records.specs.declared.counters.Counters.{Counters}
 use Rattle.records.specs.Counters.{counters_are}
-use Rattle.expressions.specs.Reader.{run}
-use Rattle.expressions.specs.Expressions.{parse_expression, expression_from, fuel}
+use Rattle.expressions.specs.Expressions.{expression_from, fuel}
 use Rattle.records.specs.Rooms.{NodeRoom}
 use Rattle.records.specs.Stores.{cleared}
 use Rattle.records.specs.Written.{written_past, cleared_fits}
 use Rattle.expressions_code.specs.Terms.{Parsed, ExpressionTold, Joined, ClimbTold}
 use Rattle.expressions.specs.Told.{Told}
 use Rattle.expressions_code.specs.Roots.{rooted, span_e_with_span}
-use Rattle.expressions_code.specs.Reading.{filled, spent, RoomTold, enough, lacking, ExpressionFits, FromFits}
+use Rattle.expressions_code.specs.Reading.{filled, spent, RoomTold, enough, lacking, ExpressionPromise, FromPromise, read, climbed}
 use Rattle.expressions.specs.Fuel.{fuel_enough}
 use Rattle.expressions.proofs.Costs.{size_with_span}
 
@@ -29,53 +30,52 @@ filled_is : (N N₁ N₂ b : List ℕ) (n i m : ℕ) → take (10 * n) N₁ ≡ 
 unfolding filled
 filled_is N N₁ N₂ b n i m h e p l f k = k ∙ cleared_fits N₁ (10 * n) (10 * m) (omega arith) f ∙ ap₂ (λ x y. (x ++ replicate (10 * m - 10 * n) 0) ++ y) h p ∙ ap (λ z. (b ++ replicate (10 * m - 10 * z) 0) ++ drop (10 * m) N) e
 
-pub expression_kept : (L T N D N₁ D₁ N₂ : List ℕ) (c : Counters) (room : ℕ) (v : Parsed) (r : Counters) → ExpressionTold L T N D N₁ D₁ c room v r → 10 * spent c r ≤ length N₁
-    → N₂ ≡ cleared N₁ (10 * r.nodes) (10 * spent c r) → ExpressionFits L T N D N₂ D₁ c room v r
-expression_kept L T N D N₁ D₁ N₂ c room v r g f k =
-    let s = run (parse_expression room) (place L T) c.at c.end in
-    let h = g.told in
-    record {
-      answer = h.what;
-      counters = counters_are r _ _ _ _ h.at h.end h.held.total h.seen;
-      nodes = filled_is N N₁ N₂ _ r.nodes _ (spent c r) h.held.bytes h.held.total (g.past (spent c r) (omega (arith, g.on))) (omega (arith, g.few, g.on)) f k;
-      diagnostics = h.more;
-      on = g.on;
-      within = g.within;
-      few = g.few;
-      quiet = g.quiet;
-    }
-
 -- ---- whether there is room
 
 pub room_fits : {T N : List ℕ} {c : Counters} {k : ℕ} {b : Bool} → RoomTold T N c k b → not b ≡ false → NodeRoom T N c k 0 1
 room_fits (enough e h) q = h
-room_fits {b = b} (lacking e h) q = let z : ◌≡◌ {A = ℕ} 0 1 = cc in absurd (omega arith)
+room_fits (lacking e h) q = absurd (true_false (sym (not-false _ q) ∙ e))
 
 pub room_lacks : {T N : List ℕ} {c : Counters} {k : ℕ} {b : Bool} → RoomTold T N c k b → not b ≡ true → NodeRoom T N c k 0 1 → ⊥
-room_lacks (enough e h) q = let z : ◌≡◌ {A = ℕ} 0 1 = cc in absurd (omega arith)
+room_lacks (enough e h) q = absurd (true_false (sym e ∙ not-true _ q))
 room_lacks (lacking e h) q = h
 
--- no more diagnostics than tokens
-pub fit_climb : {T N N₁ : List ℕ} {c : Counters} → NodeRoom T N c 1 0 1 → length N₁ ≡ length N → NodeRoom T N₁ c 1 0 0
-fit_climb h e = omega (arith, h)
+-- ---- what is read
 
--- N₁: the root has got the group's span. N₂: the climb has gone on. N₃: what failed terms left is cleared
-pub from_kept : (L T N D N₁ N₂ D₂ N₃ : List ℕ) (c : Counters) (group : Span) (room : ℕ) (v : Span) (r : Counters) → NodeRoom T N c 1 0 1 → N₁ ≡ rooted N c.nodes group
-    → ClimbTold L T N₁ D N₂ D₂ c group 1 room v r → 10 * spent c r ≤ length N₂ → N₃ ≡ cleared N₂ (10 * r.nodes) (10 * spent c r) → FromFits L T N D N₃ D₂ c group room v r
-unfolding expression_from
-from_kept L T N D N₁ N₂ D₂ N₃ c group room v r asks w g f k = record {
-  told = λ b e cnt.
-      let h : Told span_e (Joined (take (10 * c.nodes) (rooted N c.nodes group)) N₂ b (size e)) (expression_from room (with_span e group)) L T D D₂ c v r
-      = rw (w, size_with_span e group) at (g.told fuel (omega (arith, fuel_enough, asks)) b (with_span e group) (cnt ∙ ap (λ z. b + z) (sym (size_with_span e group))) (sym (span_e_with_span e group))) in
-      record {
+module _ {L T N D : List ℕ} {c : Counters} {room limit : ℕ} {r : Counters} (same : room ≡ limit) where
+  -- N₂: what failed terms left is cleared
+  pub expression_kept : {N₁ N₂ D₁ : List ℕ} {v : Parsed} → NodeRoom T N c 0 0 1 → length N₁ ≡ length N → ExpressionTold L T N D N₁ D₁ c room v r
+      → N₂ ≡ cleared N₁ (10 * r.nodes) (10 * spent c r) → ExpressionPromise L T N D N₂ D₁ c limit (Some v) r
+  expression_kept {N₁} {N₂} asks long g k =
+      let h = g.told in
+      read _ refl asks (rw (← same) record {
         answer = h.what;
         counters = counters_are r _ _ _ _ h.at h.end h.held.total h.seen;
-        nodes = filled_is N N₂ N₃ _ r.nodes _ (spent c r) h.held.bytes h.held.total (g.past (spent c r) (omega (arith, g.on)) ∙ rw w (written_past N (10 * (c.nodes - 1) + 4) (group.start ∷ group.end ∷ []) (10 * spent c r) (omega (arith, asks)) (omega (arith, asks, g.on)))) (omega (arith, g.few, g.on)) f k;
+        nodes = filled_is N N₁ N₂ _ r.nodes _ (spent c r) h.held.bytes h.held.total (g.past (spent c r) (omega (arith, g.on))) (omega (arith, g.few, g.on)) (omega (arith, asks, long, g)) k;
         diagnostics = h.more;
-      };
-  some = omega (arith, g.some);
-  on = g.on;
-  within = g.within;
-  few = g.few;
-  quiet = g.quiet;
-}
+        on = g.on;
+        within = g.within;
+        few = g.few;
+        quiet = g.quiet;
+      })
+
+  -- N₁: the root has got the group's span. N₂: the climb has gone on. N₃: what failed terms left is cleared
+  pub from_kept : {N₁ N₂ N₃ D₂ : List ℕ} {group v : Span} → NodeRoom T N c 1 0 1 → length N₂ ≡ length N → N₁ ≡ rooted N c.nodes group → ClimbTold L T N₁ D N₂ D₂ c group 1 room v r
+      → N₃ ≡ cleared N₂ (10 * r.nodes) (10 * spent c r) → FromPromise L T N D N₃ D₂ c group limit (Some v) r
+  unfolding expression_from
+  from_kept {N₂ = N₂} {N₃ = N₃} {D₂ = D₂} {group = group} {v = v} asks long w g k = climbed _ refl asks (rw (← same) record {
+    told = λ b e cnt.
+        let h : Told span_e (Joined (take (10 * c.nodes) (rooted N c.nodes group)) N₂ b (size e)) (expression_from room (with_span e group)) L T D D₂ c v r
+        = rw (w, size_with_span e group) at (g.told fuel (omega (arith, fuel_enough, asks)) b (with_span e group) (cnt ∙ ap (λ z. b + z) (sym (size_with_span e group))) (sym (span_e_with_span e group))) in
+        record {
+          answer = h.what;
+          counters = counters_are r _ _ _ _ h.at h.end h.held.total h.seen;
+          nodes = filled_is N N₂ N₃ _ r.nodes _ (spent c r) h.held.bytes h.held.total (g.past (spent c r) (omega (arith, g.on)) ∙ rw w (written_past N (10 * (c.nodes - 1) + 4) (group.start ∷ group.end ∷ []) (10 * spent c r) (omega (arith, asks)) (omega (arith, asks, g.on)))) (omega (arith, g.few, g.on)) (omega (arith, asks, long, g)) k;
+          diagnostics = h.more;
+        };
+    some = omega (arith, g.some);
+    on = g.on;
+    within = g.within;
+    few = g.few;
+    quiet = g.quiet;
+  })

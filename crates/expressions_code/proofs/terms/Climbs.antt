@@ -1,7 +1,7 @@
 -- What the returns of the climb show.
 -- Assumes nothing.
 use Rattle.std.specs.Prelude.{Some, None, Ok, Err}
-use mathlib.Core.Path.{◌≡◌, refl, sym, ◌∙◌, ap, ap₂, subst}
+use mathlib.Core.Path.{◌≡◌, refl, sym, ◌∙◌, ap, ap₂}
 use mathlib.Core.Bool.{false}
 use mathlib.Core.List.{List, ◌++◌, append_assoc}
 use Prim.Native.Nat.{ℕ, zero, suc, ◌+◌, ◌-◌, ◌*◌, ◌<◌, ◌≤◌}
@@ -15,22 +15,23 @@ use Rattle.names.specs.declared.tokens.Token.{Token}
 use Rattle.records.specs.Spans.{span, span_of}
 use Rattle.expressions.specs.Trees.{Expr, binary, span_e, size}
 use Rattle.records.specs.declared.spans.Span.{Span}
-use Rattle.records.specs.declared.diagnostics.Diagnostic.{Diagnostic}
 use Rattle.records.specs.declared.counters.Counters.{Counters}
+use Rattle.expressions_code.specs.declared.terms.TermError.{TermError}
 use Rattle.expressions_code.specs.declared.terms.TermError.TheVariants as errors
 use Rattle.records.specs.Diagnostics.{expression_expected}
 use Rattle.expressions.specs.Reader.{Reader, answer, ◌>>=◌, run}
 use Rattle.expressions.specs.Laws.{holds}
 use Rattle.expressions.specs.Told.{Told}
-use Rattle.expressions.specs.Paths.{fails, fails_end, raised_as, held_as, reheld, counted, answered, raised, bound, hit, missed}
+use Rattle.expressions.specs.Paths.{fails, fails_end, held_as, reheld, counted, answered, raised, bound, hit, missed}
 use Rattle.expressions.specs.Expressions.{Term, read, precedence, binary_operator, operator, operated, parse_prefix, parse_expression_from, fuel}
 use Rattle.records.specs.Nodes.{node_record, words, zeros}
 use Rattle.expressions.specs.Records.{nodes, length_nodes}
 use Rattle.expressions.proofs.Grown.{Grown, grown_is, grown_none, grown_behind, climb_grows}
-use Rattle.records.specs.Counters.{stepped}
-use Rattle.expressions_code.specs.Terms.{Parsed, NodeTold, size_t, nodes_t, Held, DeepTold, PrefixTold, Joined, ClimbTold, OperatedTold, longer, ended}
+use Rattle.records.specs.Counters.{stepped, Over}
+use Rattle.records.specs.Rooms.{NodeRoom}
+use Rattle.expressions_code.specs.Terms.{Parsed, NodeTold, size_t, nodes_t, Held, DeepTold, ExpectedTold, stood, missing, PrefixTold, Joined, ClimbTold, OperatedTold, longer, ended}
 use Rattle.expressions_code.proofs.leaves.Returns.{deep_raised}
-use Rattle.expressions_code.proofs.terms.Returns.{kept, absent_quiet, is_read, is_reported, is_absent}
+use Rattle.expressions_code.proofs.terms.Returns.{stepped_over, kept, absent_quiet, is_read, is_reported, is_absent}
 
 -- what a climb adds to a binary node's left side: the right side's records, the node's own, and what it adds to that node's tree
 binary_added : (P : List ℕ) (b n m o : ℕ) (l r v : Expr) (s : Span) → n ≡ b + size l → m ≡ n + size r → Grown b (binary o l r s) v
@@ -62,19 +63,17 @@ module _ (L T N D : List ℕ) (c : Counters) (left : Span) (min room : ℕ) wher
     quiet = omega arith;
   }
 
-  pub climb_ends : token_at T c.at ≡ None → 0 < c.nodes → c.at ≤ count T → ClimbTold L T N D N D c left min room left c
-  climb_ends h = climb_stops (fails_end (operator min) _ (nowhere L T c.at h))
+module _ {L T N D : List ℕ} {c : Counters} {left : Span} {min room : ℕ} (asks : NodeRoom T N c 1 0 0) where
+  pub climb_ends : token_at T c.at ≡ None → ClimbTold L T N D N D c left min room left c
+  climb_ends h = climb_stops L T N D c left min room (fails_end (operator min) _ (nowhere L T c.at h)) asks.room.stand asks.room.within
 
-  pub climb_lows : (k : Token) → token_at T c.at ≡ Some k → precedence k.kind < min → 0 < c.nodes → c.at ≤ count T → ClimbTold L T N D N D c left min room left c
+  pub climb_lows : {k : Token} → token_at T c.at ≡ Some k → precedence k.kind < min → ClimbTold L T N D N D c left min room left c
   unfolding operator
-  climb_lows k h q = climb_stops (fails (operator min) _ k _ (there L T c.at k h) (lt-leb min (precedence k.kind) q))
+  climb_lows {k} h q = climb_stops L T N D c left min room (fails (operator min) _ k _ (there L T c.at k h) (lt-leb min (precedence k.kind) q)) asks.room.stand asks.room.within
 
 -- an operator k at the cursor, and a term behind it that answers r
-module _ (L T N D N₁ D₁ : List ℕ) (c : Counters) (left : Span) (room : ℕ) (k : Token) (v_r : Parsed) (r : Counters) (next : Counters)
-    (op : token_at T c.at ≡ Some k) (step : next ≡ stepped c k) (term : PrefixTold L T N D N₁ D₁ next room v_r r) (long : 10 * c.nodes ≤ length N) (some : 0 < c.nodes) where
-  h : PrefixTold L T N D N₁ D₁ (stepped c k) room v_r r
-  h = subst (λ z. PrefixTold L T N D N₁ D₁ z room v_r r) step term
-
+module _ (L T N D N₁ D₁ : List ℕ) (c : Counters) (left : Span) (room : ℕ) (k : Token) (v_r : Parsed) (r : Counters)
+    (op : token_at T c.at ≡ Some k) (h : PrefixTold L T N D N₁ D₁ (stepped c k) room v_r r) (long : 10 * c.nodes ≤ length N) (some : 0 < c.nodes) where
   -- the numbers of the records that stand
   abbrev P : List ℕ
   P = take (10 * c.nodes) N
@@ -142,14 +141,14 @@ module _ (L T N D N₁ D₁ : List ℕ) (c : Counters) (left : Span) (room : ℕ
           quiet = omega (arith, h.quiet);
         }
 
-    climb_absents : {D₂ : List ℕ} {y : Diagnostic} {v_q : Parsed} {q : Counters} → v_r ≡ Err errors.Absent → y ≡ expression_expected (span_of k) → DeepTold D₁ D₂ r y v_q q
+    climb_absents : {D₂ : List ℕ} {v_q : Parsed} {q : Counters} → v_r ≡ Err errors.Absent → DeepTold D₁ D₂ r (expression_expected (span_of k)) v_q q
         → ClimbTold L T N D N₁ D₂ c left min room left q
     unfolding operated size_t
-    climb_absents w z p =
+    climb_absents w p =
         let v = is_absent h w in
         let same : r.nodes ≡ c.nodes = omega (arith, (held_as h.told v).total) in
         record {
-          told = λ g hg b e cnt sp. turned b e cnt sp g hg λ f hf. bound h.told v (raised (raised_as z (deep_raised p)) (answered sp refl (stays b e cnt sp h.told.held (p.same ∙ same))));
+          told = λ g hg b e cnt sp. turned b e cnt sp g hg λ f hf. bound h.told v (raised (deep_raised p) (answered sp refl (stays b e cnt sp h.told.held (p.same ∙ same))));
           past = λ j b. h.past j (omega (arith, b, p.at));
           some = omega (arith, same, some, p.same);
           on = omega (arith, h.on, p.at);
@@ -178,21 +177,29 @@ module _ (L T N D N₁ D₁ : List ℕ) (c : Counters) (left : Span) (room : ℕ
           quiet = omega (arith, hw.quiet, hq.quiet, h.quiet, hp.at, hp.seen);
         }
 
-  pub operated_reports : v_r ≡ Err errors.Reported → OperatedTold L T N D N₁ D₁ c left room k (Err errors.Reported) r
-  operated_reports w = ended refl λ min low. climb_reports min low w
+-- the same, where there is room and the operator is stepped over
+behind_operator : {L T N D N₁ D₁ : List ℕ} {c next : Counters} {k : Token} (room : ℕ) {v_r : Parsed} {r : Counters} → NodeRoom T N c 1 0 0 → Over c k next → PrefixTold L T N D N₁ D₁ next room v_r r
+    → PrefixTold L T N D N₁ D₁ (stepped c k) room v_r r
+behind_operator room asks over g = rw (← stepped_over asks over) g
 
-  pub operated_absents : {D₂ : List ℕ} {y : Diagnostic} {v_q : Parsed} {q : Counters} → v_r ≡ Err errors.Absent → y ≡ expression_expected (span_of k) → DeepTold D₁ D₂ r y v_q q → OperatedTold L T N D N₁ D₂ c left room k v_q q
-  operated_absents w z p = ended p.what λ min low. climb_absents min low w z p
+module _ {L T N D N₁ D₁ : List ℕ} {c : Counters} {left : Span} {room : ℕ} {k : Token} {v_r : Parsed} {r next : Counters}
+    (asks : NodeRoom T N c 1 0 0) (op : token_at T c.at ≡ Some k) (over : Over c k next) (term : PrefixTold L T N D N₁ D₁ next room v_r r) where
+  pub operated_fails : (e : TermError) {D₂ : List ℕ} {v_s : Parsed} {q : Counters} → ExpectedTold D₁ D₂ r v_r k v_s q → v_s ≡ Err e → OperatedTold L T N D N₁ D₂ c left room k (Err e) q
+  operated_fails errors.Reported (stood n w d s) h = rw (d, s) (ended refl λ min low. climb_reports L T N D N₁ D₁ c left room k v_r r op (behind_operator room asks over term) (omega (arith, asks)) asks.room.stand min low (sym w ∙ h))
+  operated_fails errors.Absent (stood n w d s) h = absurd (n (sym w ∙ h))
+  operated_fails e (missing w p) h = ended (sym h ∙ p.what) λ min low. climb_absents L T N D N₁ D₁ c left room k v_r r op (behind_operator room asks over term) (omega (arith, asks)) asks.room.stand min low w p
 
   pub operated_reads : {x : Span} {lv o : ℕ} {N₂ D₂ N₃ : List ℕ} {s_q : Span} {q : Counters} {n : Counters} → v_r ≡ Ok x → lv ≡ precedence k.kind → o ≡ binary_operator k.kind
       → ClimbTold L T N₁ D₁ N₂ D₂ r x (lv + 1) room s_q q
       → NodeTold N₂ N₃ q (node_record 6 o (c.nodes - 1) (q.nodes - 1) (span left.start s_q.end) (words 4 0)) n
       → OperatedTold L T N D N₃ D₂ c left room k (Ok (span left.start s_q.end)) n
-  operated_reads {s_q = s_q} {n = n} wh hl ho hq hp = longer (span left.start s_q.end) refl record {
-    whole = λ min low N₄ D₄ v w hw. climb_reads min low wh hl ho hq hp hw;
-    some = omega (arith, hp.put.next);
-    on = omega (arith, hq.on, h.on, hp.at);
-    within = omega (arith, hq.within, hp.at);
-    few = omega (arith, hq.few, h.few, hp.put.next, hp.at);
-    quiet = omega (arith, hq.quiet, h.quiet, hp.at, hp.seen);
-  }
+  operated_reads {s_q = s_q} {n = n} wh hl ho hq hp =
+      let h = behind_operator room asks over term in
+      longer (span left.start s_q.end) refl record {
+        whole = λ min low N₄ D₄ v w hw. climb_reads L T N D N₁ D₁ c left room k v_r r op h (omega (arith, asks)) asks.room.stand min low wh hl ho hq hp hw;
+        some = omega (arith, hp.put.next);
+        on = omega (arith, hq.on, h.on, hp.at);
+        within = omega (arith, hq.within, hp.at);
+        few = omega (arith, hq.few, h.few, hp.put.next, hp.at);
+        quiet = omega (arith, hq.quiet, h.quiet, hp.at, hp.seen);
+      }

@@ -29,14 +29,15 @@ use Rattle.expressions.specs.Paths.{raised_here, raised_as, held_as, renamed, co
 use Rattle.expressions.specs.Expressions.{Term, read, reported, absent, unary_operator, is_unary, negated, plussed, climbed, leaf_term, parse_prefix_term, parse_prefix, parse_expression_of, parse_expression, parse_expression_from, fuel}
 use Rattle.records.specs.Nodes.{node_record, words}
 use Rattle.expressions.specs.Records.{nodes}
-use Rattle.records.specs.Counters.{stepped}
-use Rattle.expressions_code.specs.Terms.{Parsed, NodeTold, parsed_of, size_t, nodes_t, Held, Said, DeepTold, TokenTold, DepthTold, TermTold, PrefixTold, ExpressionTold, unary_term, plus_term, group_term, BehindTold, ClimbTold, Spared}
+use Rattle.records.specs.Counters.{stepped, Over, over_is}
+use Rattle.records.specs.Rooms.{NodeRoom}
+use Rattle.expressions_code.specs.Terms.{Parsed, NodeTold, parsed_of, size_t, nodes_t, Held, Said, DeepTold, TokenTold, DepthTold, ExpectedTold, stood, missing, TermTold, PrefixTold, ExpressionTold, unary_term, plus_term, group_term, BehindTold, ClimbTold, Spared}
 use Rattle.expressions.specs.Laws as laws
 use Rattle.expressions.specs.Laws.{law_run}
 use Rattle.expressions.proofs.Costs.{Cost, prefix_cost, expression_cost, size_pos, all_clean}
 use Rattle.expressions.specs.Fuel.{fuel_enough}
 use Rattle.expressions.proofs.Grown.{grown_behind, climb_grows}
-use Rattle.expressions_code.specs.Answers.{what_read, what_reported, what_absent}
+use Rattle.expressions_code.specs.Answers.{apart, what_read, what_reported, what_absent}
 use Rattle.expressions_code.proofs.leaves.Returns.{held_none, deep_raised, absent_told}
 
 -- an error that is passed on
@@ -44,19 +45,16 @@ pub err_given : {A E : Type 0} (r : Result A E) (e : E) → IsErrAnd r (λ x. x 
 err_given (Ok a) e h = absurd h
 err_given (Err x) e h = ap Err h
 
+-- behind a token, where there is room for a reading
+pub stepped_over : {T N : List ℕ} {c r : Counters} {i n d : ℕ} {k : Token} → NodeRoom T N c i n d → Over c k r → r ≡ stepped c k
+stepped_over h e = over_is (omega (arith, h)) e
+
 -- the records before a term still stand, whatever it was
 pub kept : {N N' : List ℕ} {n : ℕ} {v : Term} {r : Counters} → Held N N' n v r → 10 * n ≤ length N → take (10 * n) N' ≡ take (10 * n) N
 kept {N} {N'} {n} {v} {r} h long =
     sym (take-take (10 * n) (10 * r.nodes) N' (omega (arith, h.total)))
     ∙ ap (take (10 * n)) h.bytes
     ∙ take_at (take (10 * n) N) (nodes_t n v) (10 * n) (length-take-le (10 * n) N long)
-
--- a tree that was read has a node
-pub read_some : {p : Reader Term} {L T N D N' D' : List ℕ} {c : Counters} {v_r : Parsed} {r : Counters} {x : Span} → Said p L T N D N' D' c v_r r → v_r ≡ Ok x → 0 < r.nodes
-unfolding size_t
-read_some h w =
-    let y = what_read _ _ (sym h.what ∙ w) in
-    omega (arith, size_pos y.0, (held_as h y.1).total)
 
 -- ---- bounds, from the laws
 
@@ -96,52 +94,46 @@ absent_quiet {L} {T} {c = c} room g w =
 
 -- ---- parse_prefix
 
-module _ (L T N D : List ℕ) (c : Counters) (room : ℕ) (on : c.at ≤ count T) where
+opened : (room : ℕ) → (room ≡ 0 → ⊥) → parse_prefix_term fuel (parse_prefix fuel (room - 1)) ≡ parse_prefix fuel room
+unfolding parse_prefix
+opened zero h = absurd (h refl)
+opened (suc r) h = rw sub-one
+
+module _ {L T N D : List ℕ} {c : Counters} (room : ℕ) (asks : NodeRoom T N c 0 0 1) where
   prefix_told : {N' D' : List ℕ} {v_r : Parsed} {r : Counters} → Spared N N' c r → Said (parse_prefix fuel room) L T N D N' D' c v_r r → PrefixTold L T N D N' D' c room v_r r
-  prefix_told w h = bounded (prefix_cost (place L T) 0 (all_clean (place L T)) fuel room c.at c.end 0 0) on w h
+  prefix_told w h = bounded (prefix_cost (place L T) 0 (all_clean (place L T)) fuel room c.at c.end 0 0) asks.room.within w h
 
   pub prefix_full : {D' : List ℕ} {v_r : Parsed} {r : Counters} → room ≡ 0 → DepthTold T D D' c v_r r → PrefixTold L T N D N D' c room v_r r
   unfolding parse_prefix
   prefix_full z h = prefix_told (λ j b. refl) (rw z (h.told L N))
 
   module _ (more : room ≡ 0 → ⊥) where
-    opened : parse_prefix_term fuel (parse_prefix fuel (room - 1)) ≡ parse_prefix fuel room
-    unfolding parse_prefix
-    opened = go room more
-      where
-        go : (r : ℕ) → (r ≡ 0 → ⊥) → parse_prefix_term fuel (parse_prefix fuel (r - 1)) ≡ parse_prefix fuel r
-        go zero h = absurd (h refl)
-        go (suc r) h = rw sub-one
-
     pub prefix_end : token_at T c.at ≡ None → PrefixTold L T N D N D c room (Err errors.Absent) c
     unfolding parse_prefix_term leaf_term
-    prefix_end e = prefix_told (λ j b. refl) (renamed opened (done e (done e (done e (done e (done e (done e (done e (done e (done e absent_told))))))))))
+    prefix_end e = prefix_told (λ j b. refl) (renamed (opened room more) (done e (done e (done e (done e (done e (done e (done e (done e (done e absent_told))))))))))
 
     module _ {k : Token} (t : token_at T c.at ≡ Some k) where
-      abbrev text : List ℕ
-      text = text_of L k.start k.end
-
-      module _ {N' D' : List ℕ} {v_r : Parsed} {r : Counters} {q : Counters} (step : q ≡ stepped c k) where
+      module _ {N' D' : List ℕ} {v_r : Parsed} {r : Counters} {q : Counters} (over : Over c k q) where
         -- its first token has left room for a record
         behind_one : {p : Reader Term} → BehindTold p L T N D N' D' q v_r r → Spared N N' c r
-        behind_one h j b = h.past j (omega (arith, b, ap (λ z. z.at) step, ap (λ z. z.nodes) step))
+        behind_one h j b = h.past j (omega (arith, b, ap (λ z. z.at) (stepped_over asks over), ap (λ z. z.nodes) (stepped_over asks over)))
 
-        pub prefix_unary : is_unary k text ≡ true → BehindTold (unary_term (room - 1) k) L T N D N' D' q v_r r → PrefixTold L T N D N' D' c room v_r r
+        pub prefix_unary : is_unary k (text_of L k.start k.end) ≡ true → BehindTold (unary_term (room - 1) k) L T N D N' D' q v_r r → PrefixTold L T N D N' D' c room v_r r
         unfolding parse_prefix_term
-        prefix_unary u h = prefix_told (behind_one h) (renamed opened (hit t u refl (rw step at h).told))
+        prefix_unary u h = prefix_told (behind_one h) (renamed (opened room more) (hit t u refl (rw (stepped_over asks over) at h).told))
 
-        pub prefix_plus : is_unary k text ≡ false → k.kind ≡ Kinds.plus → BehindTold (plus_term (room - 1) k) L T N D N' D' q v_r r → PrefixTold L T N D N' D' c room v_r r
+        pub prefix_plus : is_unary k (text_of L k.start k.end) ≡ false → k.kind ≡ Kinds.plus → BehindTold (plus_term (room - 1) k) L T N D N' D' q v_r r → PrefixTold L T N D N' D' c room v_r r
         unfolding parse_prefix_term
-        prefix_plus u e h = prefix_told (behind_one h) (renamed opened (miss t u (hit t (rw e) refl (rw step at h).told)))
+        prefix_plus u e h = prefix_told (behind_one h) (renamed (opened room more) (miss t u (hit t (rw e) refl (rw (stepped_over asks over) at h).told)))
 
-        pub prefix_group : is_unary k text ≡ false → k.kind ≡ Kinds.left_paren → BehindTold (group_term (room - 1) k) L T N D N' D' q v_r r → PrefixTold L T N D N' D' c room v_r r
+        pub prefix_group : is_unary k (text_of L k.start k.end) ≡ false → k.kind ≡ Kinds.left_paren → BehindTold (group_term (room - 1) k) L T N D N' D' q v_r r → PrefixTold L T N D N' D' c room v_r r
         unfolding parse_prefix_term parse_expression
-        prefix_group u e h = prefix_told (behind_one h) (renamed opened (miss t u (miss t (rw e) (hit t (rw e) refl (rw step at h).told))))
+        prefix_group u e h = prefix_told (behind_one h) (renamed (opened room more) (miss t u (miss t (rw e) (hit t (rw e) refl (rw (stepped_over asks over) at h).told))))
 
-      pub prefix_leaf : {N' D' : List ℕ} {v_r : Parsed} {r : Counters} → is_unary k text ≡ false → (k.kind ≡ Kinds.plus → ⊥) → (k.kind ≡ Kinds.left_paren → ⊥)
+      pub prefix_leaf : {N' D' : List ℕ} {v_r : Parsed} {r : Counters} → is_unary k (text_of L k.start k.end) ≡ false → (k.kind ≡ Kinds.plus → ⊥) → (k.kind ≡ Kinds.left_paren → ⊥)
           → TokenTold leaf_term L k N D N' D' c v_r r → PrefixTold L T N D N' D' c room v_r r
       unfolding parse_prefix_term
-      prefix_leaf u e f h = prefix_told h.past (renamed opened (miss t u (miss t (ne_eqb _ _ e) (miss t (ne_eqb _ _ f) (h.told T t)))))
+      prefix_leaf u e f h = prefix_told h.past (renamed (opened room more) (miss t u (miss t (ne_eqb _ _ e) (miss t (ne_eqb _ _ f) (h.told T t)))))
 
 -- ---- behind a term or an expression: the reader p there answers r
 
@@ -175,11 +167,11 @@ module _ {p : Reader Term} {L T N D N₁ D₁ : List ℕ} {c : Counters} {v_r : 
   passed_on tail v e eq = bound g.told e (renamed eq (answered (g.told.what ∙ ap parsed_of e) refl (held_as g.told e)))
 
   -- the term has failed, and the whole with it
-  pub fails_on : (tail : Term → Reader Term) → v_r ≡ Err errors.Reported → answer reported ≡ tail reported → BehindTold (p >>= tail) L T N D N₁ D₁ c (Err errors.Reported) r
+  fails_on : (tail : Term → Reader Term) → v_r ≡ Err errors.Reported → answer reported ≡ tail reported → BehindTold (p >>= tail) L T N D N₁ D₁ c (Err errors.Reported) r
   fails_on tail w eq = subst (λ z. BehindTold (p >>= tail) L T N D N₁ D₁ c z r) w (behind (passed_on tail reported (is_reported w) eq) (λ j b. refl) refl (omega arith) (omega arith))
 
   -- it has failed or is not there, told with one diagnostic more
-  pub told_more : 10 * c.nodes ≤ length N → (tail : Term → Reader Term) {x y : Diagnostic} (v : Term) → first.value ≡ v → size_t v ≡ 0 → raise x (answer reported) ≡ tail v → y ≡ x
+  told_more : 10 * c.nodes ≤ length N → (tail : Term → Reader Term) {x y : Diagnostic} (v : Term) → first.value ≡ v → size_t v ≡ 0 → raise x (answer reported) ≡ tail v → y ≡ x
       → {D₂ : List ℕ} {v_q : Parsed} {q : Counters} → DeepTold D₁ D₂ r y v_q q → BehindTold (p >>= tail) L T N D N₁ D₂ c v_q q
   unfolding parsed_of size_t
   told_more long tail v e z eq f h =
@@ -187,13 +179,39 @@ module _ {p : Reader Term} {L T N D N₁ D₁ : List ℕ} {c : Counters} {v_r : 
       behind (bound g.told e (renamed eq (raised (raised_as f (deep_raised h)) (answered h.what refl (held_none reported refl (h.same ∙ back) (kept g.told.held long)))))) (λ j b. refl)
       h.at (omega (arith, h.same)) (omega (arith, h.push.next))
 
+  -- it has failed or is not there, where it had to stand behind the token k
+  pub fails_behind : {k : Token} → 10 * c.nodes ≤ length N → (tail : Term → Reader Term) → answer reported ≡ tail reported → raise (expression_expected (span_of k)) (answer reported) ≡ tail absent
+      → (e : TermError) {D₂ : List ℕ} {v_s : Parsed} {q : Counters} → ExpectedTold D₁ D₂ r v_r k v_s q → v_s ≡ Err e → BehindTold (p >>= tail) L T N D N₁ D₂ c (Err e) q
+  unfolding size_t
+  fails_behind long tail a b errors.Reported (stood n w d s) h = rw (d, s) (fails_on tail (sym w ∙ h) a)
+  fails_behind long tail a b errors.Absent (stood n w d s) h = absurd (n (sym w ∙ h))
+  fails_behind long tail a b e (missing w m) h = rw (← h) (told_more long tail absent (is_absent w) refl b refl m)
+
+  -- it is read
+  pub read_on : {k : Token} {D₂ : List ℕ} {v_s : Parsed} {q : Counters} {x : Span} → ExpectedTold D₁ D₂ r v_r k v_s q → v_s ≡ Ok x → TermTold p L T N D N₁ D₂ c (Ok x) q
+  read_on (stood n w d s) h = let z = sym w ∙ h in rw (d, s, ← z) g
+  read_on (missing w m) h = absurd (apart h m.what)
+
+-- a tree that was read has a node
+module _ {p : Reader Term} {L T N D N₁ D₁ : List ℕ} {c : Counters} {v_r : Parsed} {r : Counters} (g : TermTold p L T N D N₁ D₁ c v_r r) where
+  pub read_some : {x : Span} → v_r ≡ Ok x → 0 < r.nodes
+  unfolding size_t
+  read_some w = let y = is_read g w in omega (arith, size_pos y.0, (held_as g.told y.1).total)
+
+  pub read_on_some : {k : Token} {D₂ : List ℕ} {v_s : Parsed} {q : Counters} {x : Span} → ExpectedTold D₁ D₂ r v_r k v_s q → v_s ≡ Ok x → 0 < q.nodes
+  read_on_some (stood n w d s) h = omega (arith, ap (λ z. z.nodes) s, read_some (sym w ∙ h))
+  read_on_some (missing w m) h = absurd (apart h m.what)
+
 -- ---- behind a minus, a tilde or a plus
 
 stored_unary : (P : List ℕ) (n x o : ℕ) (e : Expr) (s : Span) → x ≡ n + size e → (P ++ nodes n e) ++ node_record 5 o (x - 1) 65535 s (words 4 0) ≡ P ++ nodes n (unary o e s)
 unfolding nodes words
 stored_unary P n x o e s h = rw h (simp append_assoc)
 
-module _ {L T N D N₁ D₁ : List ℕ} {c : Counters} (room : ℕ) {v_r : Parsed} {r : Counters} (long : 10 * c.nodes ≤ length N) (g : PrefixTold L T N D N₁ D₁ c room v_r r) where
+module _ {L T N D N₁ D₁ : List ℕ} {c : Counters} (room : ℕ) {i n d : ℕ} {v_r : Parsed} {r : Counters} (asks : NodeRoom T N c i n d) (g : PrefixTold L T N D N₁ D₁ c room v_r r) where
+  long : 10 * c.nodes ≤ length N
+  long = omega (arith, asks)
+
   module _ (k : Token) where
     pub unary_reads : {x : Span} {N₂ : List ℕ} {o : ℕ} {q : Counters} → v_r ≡ Ok x → o ≡ unary_operator k.kind
         → NodeTold N₁ N₂ r (node_record 5 o (r.nodes - 1) 65535 (span k.start x.end) (words 4 0)) q
@@ -213,21 +231,16 @@ module _ {L T N D N₁ D₁ : List ℕ} {c : Counters} (room : ℕ) {v_r : Parse
         })))
         p.put.past p.at (omega (arith, p.put.next)) (omega (arith, p.seen))
 
-    pub unary_reports : v_r ≡ Err errors.Reported → BehindTold (unary_term room k) L T N D N₁ D₁ c (Err errors.Reported) r
+    pub unary_fails : (e : TermError) {D₂ : List ℕ} {v_s : Parsed} {q : Counters} → ExpectedTold D₁ D₂ r v_r k v_s q → v_s ≡ Err e → BehindTold (unary_term room k) L T N D N₁ D₂ c (Err e) q
     unfolding negated
-    unary_reports w = fails_on g (negated k) w refl
+    unary_fails = fails_behind g long (negated k) refl refl
 
-    pub unary_absents : {D₂ : List ℕ} {y : Diagnostic} {v_q : Parsed} {q : Counters} → v_r ≡ Err errors.Absent → y ≡ expression_expected (span_of k) → DeepTold D₁ D₂ r y v_q q
-        → BehindTold (unary_term room k) L T N D N₁ D₂ c v_q q
-    unfolding negated size_t
-    unary_absents w f h = told_more g long (negated k) absent (is_absent g w) refl refl f h
-
-    pub plus_reports : {D₂ : List ℕ} {s : Span} {y : Diagnostic} {v_q : Parsed} {q : Counters} → v_r ≡ Err errors.Reported → s ≡ span_of k → y ≡ plain DiagnosticKinds.plus_is_not_a_unary_operator s no_span → DeepTold D₁ D₂ r y v_q q
+    plus_reports : {D₂ : List ℕ} {s : Span} {y : Diagnostic} {v_q : Parsed} {q : Counters} → v_r ≡ Err errors.Reported → s ≡ span_of k → y ≡ plain DiagnosticKinds.plus_is_not_a_unary_operator s no_span → DeepTold D₁ D₂ r y v_q q
         → BehindTold (plus_term room k) L T N D N₁ D₂ c v_q q
     unfolding plussed size_t
     plus_reports w sp f h = told_more g long (plussed k) reported (is_reported g w) refl refl (f ∙ ap (λ z. plain DiagnosticKinds.plus_is_not_a_unary_operator z no_span) sp) h
 
-    pub plus_absents : {D₂ : List ℕ} {s : Span} {y : Diagnostic} {v_q : Parsed} {q : Counters} → v_r ≡ Err errors.Absent → s ≡ span_of k → y ≡ plain DiagnosticKinds.plus_is_not_a_unary_operator s no_span → DeepTold D₁ D₂ r y v_q q
+    plus_absents : {D₂ : List ℕ} {s : Span} {y : Diagnostic} {v_q : Parsed} {q : Counters} → v_r ≡ Err errors.Absent → s ≡ span_of k → y ≡ plain DiagnosticKinds.plus_is_not_a_unary_operator s no_span → DeepTold D₁ D₂ r y v_q q
         → BehindTold (plus_term room k) L T N D N₁ D₂ c v_q q
     unfolding plussed size_t
     plus_absents w sp f h = told_more g long (plussed k) absent (is_absent g w) refl refl (f ∙ ap (λ z. plain DiagnosticKinds.plus_is_not_a_unary_operator z no_span) sp) h
@@ -251,30 +264,30 @@ module _ {L T N D N₁ D₁ : List ℕ} {c : Counters} (room : ℕ) {v_r : Parse
 
   -- ---- an expression whose first term answers r
 
-  expression_told : c.at ≤ count T → {N₂ D₂ : List ℕ} {v_q : Parsed} {q : Counters} → Spared N N₂ c q → Said (parse_prefix fuel room >>= climbed fuel (parse_prefix fuel room)) L T N D N₂ D₂ c v_q q → ExpressionTold L T N D N₂ D₂ c room v_q q
+  expression_told : {N₂ D₂ : List ℕ} {v_q : Parsed} {q : Counters} → Spared N N₂ c q → Said (parse_prefix fuel room >>= climbed fuel (parse_prefix fuel room)) L T N D N₂ D₂ c v_q q → ExpressionTold L T N D N₂ D₂ c room v_q q
   unfolding parse_expression parse_expression_of
-  expression_told on w h = bounded (expression_cost (place L T) 0 (all_clean (place L T)) room c.at c.end 0 0) on w h
+  expression_told w h = bounded (expression_cost (place L T) 0 (all_clean (place L T)) room c.at c.end 0 0) asks.room.within w h
 
-  pub expression_reports : c.at ≤ count T → v_r ≡ Err errors.Reported → ExpressionTold L T N D N₁ D₁ c room v_r r
+  expression_reports : v_r ≡ Err errors.Reported → ExpressionTold L T N D N₁ D₁ c room v_r r
   unfolding climbed
-  expression_reports on w = expression_told on g.past (passed_on g (climbed fuel (parse_prefix fuel room)) reported (is_reported g w) refl)
+  expression_reports w = expression_told g.past (passed_on g (climbed fuel (parse_prefix fuel room)) reported (is_reported g w) refl)
 
-  pub expression_absents : c.at ≤ count T → v_r ≡ Err errors.Absent → ExpressionTold L T N D N₁ D₁ c room v_r r
+  expression_absents : v_r ≡ Err errors.Absent → ExpressionTold L T N D N₁ D₁ c room v_r r
   unfolding climbed
-  expression_absents on w = expression_told on g.past (passed_on g (climbed fuel (parse_prefix fuel room)) absent (is_absent g w) refl)
+  expression_absents w = expression_told g.past (passed_on g (climbed fuel (parse_prefix fuel room)) absent (is_absent g w) refl)
 
-  pub expression_fails : (e : TermError) → c.at ≤ count T → v_r ≡ Err e → ExpressionTold L T N D N₁ D₁ c room (Err e) r
-  expression_fails errors.Reported on w = subst (λ z. ExpressionTold L T N D N₁ D₁ c room z r) w (expression_reports on w)
-  expression_fails errors.Absent on w = subst (λ z. ExpressionTold L T N D N₁ D₁ c room z r) w (expression_absents on w)
+  pub expression_fails : (e : TermError) → v_r ≡ Err e → ExpressionTold L T N D N₁ D₁ c room (Err e) r
+  expression_fails errors.Reported w = subst (λ z. ExpressionTold L T N D N₁ D₁ c room z r) w (expression_reports w)
+  expression_fails errors.Absent w = subst (λ z. ExpressionTold L T N D N₁ D₁ c room z r) w (expression_absents w)
 
-  pub expression_reads : {x : Span} {N₂ D₂ : List ℕ} {s_q : Span} {q : Counters} → c.at ≤ count T → count T ≤ 1023 → v_r ≡ Ok x → ClimbTold L T N₁ D₁ N₂ D₂ r x 1 room s_q q
+  pub expression_reads : {x : Span} {N₂ D₂ : List ℕ} {s_q : Span} {q : Counters} → v_r ≡ Ok x → ClimbTold L T N₁ D₁ N₂ D₂ r x 1 room s_q q
       → ExpressionTold L T N D N₂ D₂ c room (Ok s_q) q
   unfolding climbed parsed_of size_t nodes_t
-  expression_reads on few w h =
+  expression_reads w h =
       let y = is_read g w in
       let t : Held N N₁ c.nodes (read y.0) r = held_as g.told y.1 in
-      let s = h.told fuel (omega (arith, fuel_enough)) c.nodes y.0 t.total y.2 in
-      expression_told on (λ j b. h.past j (omega (arith, b, g.few)) ∙ g.past j (omega (arith, b, h.on)))
+      let s = h.told fuel (omega (arith, fuel_enough, asks)) c.nodes y.0 t.total y.2 in
+      expression_told (λ j b. h.past j (omega (arith, b, g.few)) ∙ g.past j (omega (arith, b, h.on)))
       (bound g.told y.1 (bound s refl (answered (ap Ok s.what) refl record {
         total = s.held.total;
         bytes = s.held.bytes

@@ -1,33 +1,20 @@
 -- `expressions_code::leaves::number_leaf` meets its contract.
 -- Assumes nothing.
 use Rattle.std.proofs.Common.{Err}
-use mathlib.Core.Path.{refl, sym, ◌∙◌, ap}
+use mathlib.Core.Path.{◌∙◌, ap}
 use native.Mathlib.Omega.{arith}
-use Rattle.names.specs.Numbers.{number_of}
 use Rattle.expressions.specs.Paths.{told_one}
 use Rattle.expressions_code.proofs.leaves.Returns.{number_value, number_large, number_invalid}
 use Rattle.expressions_code.proofs.leaves.number_leaf.Goals as goal
 
-pub read_leaf-requires : goal.read_leaf-requires
-read_leaf-requires c =
-    omega (arith, c.requires)
-
-pub read_leaf-requires-in-Err-TooLarge : goal.read_leaf-requires-in-Err-TooLarge
-read_leaf-requires-in-Err-TooLarge c =
-    omega (arith, c.requires, c.raise.ensures.counted)
-
-pub read_leaf-requires-in-Err-Invalid : goal.read_leaf-requires-in-Err-Invalid
-read_leaf-requires-in-Err-Invalid c =
-    omega (arith, c.requires)
-
 pub returns-in-Ok-clause-told : goal.returns-in-Ok-clause-told
 returns-in-Ok-clause-told c =
-    number_value _ _ _ _ _ (sym (c.parse_number.ensures.number ∙ ap (number_of _) c.text_of.ensures) ∙ c.in-Ok.is) refl c.span_of-span.ensures c.read_leaf.ensures
+    number_value _ _ c.parse_number.ensures.number c.text_of.ensures c.in-Ok.is c.from-span.ensures c.read_leaf.ensures
 
 pub returns-in-Err-TooLarge-clause-told : goal.returns-in-Err-TooLarge-clause-told
 returns-in-Err-TooLarge-clause-told c =
-    number_large _ _ _ _ _ (sym (c.parse_number.ensures.number ∙ ap (number_of _) c.text_of.ensures) ∙ (c.in-Err-TooLarge.is ∙ ap Err c.in-Err-TooLarge.field-0-is)) refl c.span_of-span.ensures c.plain.ensures (told_one (omega (arith, c.requires)) c.raise.ensures.told c.raise.ensures.counted) c.read_leaf-in-Err-TooLarge.ensures
+    number_large _ _ c.parse_number.ensures.number c.text_of.ensures (c.in-Err-TooLarge.is ∙ ap Err c.in-Err-TooLarge.field-0-is) c.from-span.ensures c.plain.ensures (told_one (omega (arith, c.requires)) c.raise.ensures.told c.raise.ensures.counted) c.read_leaf-in-Err-TooLarge.ensures
 
 pub returns-in-Err-Invalid-clause-told : goal.returns-in-Err-Invalid-clause-told
 returns-in-Err-Invalid-clause-told c =
-    number_invalid _ _ _ _ _ (sym (c.parse_number.ensures.number ∙ ap (number_of _) c.text_of.ensures) ∙ (c.in-Err-Invalid.is ∙ ap Err c.in-Err-Invalid.field-0-is)) refl c.span_of-span.ensures c.read_leaf-in-Err-Invalid.ensures
+    number_invalid _ _ c.parse_number.ensures.number c.text_of.ensures (c.in-Err-Invalid.is ∙ ap Err c.in-Err-Invalid.field-0-is) c.from-span.ensures c.read_leaf-in-Err-Invalid.ensures

@@ -1,55 +1,32 @@
 -- `expressions_code::leaves::parse_leaf` meets its contract.
 -- Assumes nothing.
-use mathlib.Core.Path.{refl}
-use native.Mathlib.Omega.{arith}
-use Rattle.records.specs.Counters.{over_is}
 use Rattle.expressions_code.proofs.leaves.Returns.{star_told, number_told, string_told, name_told, local_told, error_told, other_told}
 use Rattle.expressions_code.proofs.leaves.parse_leaf.Goals as goal
 
-pub read_leaf-requires : goal.read_leaf-requires
-read_leaf-requires c =
-    omega (arith, c.requires.0, c.step_over.ensures)
-
-pub number_leaf-requires : goal.number_leaf-requires
-number_leaf-requires c =
-    omega (arith, c.requires.0, c.step_over.ensures)
-
-pub read_leaf-requires-in-3 : goal.read_leaf-requires-in-3
-read_leaf-requires-in-3 c =
-    omega (arith, c.requires.0, c.step_over.ensures)
-
-pub name_leaf-requires : goal.name_leaf-requires
-name_leaf-requires c =
-    omega (arith, c.requires.0, c.step_over.ensures)
-
-pub read_leaf-requires-in-1 : goal.read_leaf-requires-in-1
-read_leaf-requires-in-1 c =
-    omega (arith, c.requires.0, c.step_over.ensures)
-
 pub returns-in-16-clause-told : goal.returns-in-16-clause-told
 returns-in-16-clause-told c =
-    star_told _ _ _ _ _ (over_is (omega (arith, c.requires.1)) c.step_over.ensures) c.span_of-span.ensures c.in-16.is c.read_leaf.ensures
+    star_told c.requires.1 c.step_over.ensures c.from-span.ensures c.in-16.is c.read_leaf.ensures
 
 pub returns-in-2-clause-told : goal.returns-in-2-clause-told
 returns-in-2-clause-told c =
-    number_told _ _ _ _ _ (over_is (omega (arith, c.requires.1)) c.step_over.ensures) c.in-2.is c.number_leaf.ensures.told
+    number_told c.requires.1 c.step_over.ensures c.in-2.is c.number_leaf.ensures.told
 
 pub returns-in-3-clause-told : goal.returns-in-3-clause-told
 returns-in-3-clause-told c =
-    string_told _ _ _ _ _ (over_is (omega (arith, c.requires.1)) c.step_over.ensures) c.span_of-span.ensures c.own.ensures c.in-3.is refl c.read_leaf-in-3.ensures
+    string_told c.requires.1 c.step_over.ensures c.from-span.ensures c.own.ensures c.in-3.is c.read_leaf-in-3.ensures
 
 pub returns-in-0-clause-told : goal.returns-in-0-clause-told
 returns-in-0-clause-told c =
-    name_told _ _ _ _ _ (over_is (omega (arith, c.requires.1)) c.step_over.ensures) c.in-0.is c.name_leaf.ensures.told
+    name_told c.requires.1 c.step_over.ensures c.in-0.is c.name_leaf.ensures.told
 
 pub returns-in-1-clause-told : goal.returns-in-1-clause-told
 returns-in-1-clause-told c =
-    local_told _ _ _ _ _ (over_is (omega (arith, c.requires.1)) c.step_over.ensures) c.span_of-span.ensures c.own-in-1.ensures c.in-1.is refl c.read_leaf-in-1.ensures
+    local_told c.requires.1 c.step_over.ensures c.from-span.ensures c.own-in-1.ensures c.in-1.is c.read_leaf-in-1.ensures
 
 pub returns-in-29-clause-told : goal.returns-in-29-clause-told
 returns-in-29-clause-told c =
-    error_told _ _ _ _ _ (over_is (omega (arith, c.requires.1)) c.step_over.ensures) c.in-29.is
+    error_told c.requires.1 c.step_over.ensures c.in-29.is
 
 pub returns-in_default-clause-told : goal.returns-in_default-clause-told
 returns-in_default-clause-told c =
-    other_told _ _ _ _ _ c.in_default.in_default-own.rest.0.0.0.0.0.1 c.in_default.in_default-own.rest.0.0.0.0.1 c.in_default.in_default-own.rest.0.0.0.1 c.in_default.in_default-own.rest.0.0.1 c.in_default.in_default-own.rest.0.1 c.in_default.in_default-own.rest.1
+    other_told (search) (search) (search) (search) (search) (search)

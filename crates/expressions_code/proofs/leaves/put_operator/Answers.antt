@@ -8,4 +8,4 @@ use Rattle.expressions_code.proofs.leaves.put_operator.Goals as goal
 pub returns : goal.returns
 unfolding words
 returns c =
-    record { at = refl; end = refl; seen = refl; put = put_told _ _ _ _ c.requires refl c.put_node.ensures }
+    record { at = refl; end = refl; seen = refl; put = rw (← c.from-kind.ensures) (put_told _ _ _ _ c.requires refl c.put_node.ensures) }

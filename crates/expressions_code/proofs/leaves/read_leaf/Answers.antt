@@ -8,4 +8,4 @@ use Rattle.expressions_code.proofs.leaves.read_leaf.Goals as goal
 pub returns : goal.returns
 unfolding words
 returns c =
-    record { what = refl; at = refl; end = refl; seen = refl; put = put_told _ _ _ _ c.requires refl c.put_node.ensures }
+    record { what = refl; at = refl; end = refl; seen = refl; put = rw (← c.from-kind.ensures) (put_told _ _ _ _ c.requires refl c.put_node.ensures) }

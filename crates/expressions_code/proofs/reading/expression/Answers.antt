@@ -2,26 +2,14 @@
 -- Assumes nothing.
 use mathlib.Core.Path.{refl}
 use native.Mathlib.Omega.{arith}
-use Rattle.expressions_code.specs.Reading.{read, unread}
+use Rattle.expressions_code.specs.Reading.{unread}
 use Rattle.expressions_code.proofs.reading.Kept.{expression_kept, room_fits, room_lacks}
 use Rattle.expressions_code.proofs.reading.expression.Goals as goal
 
 pub returns-then-not-has_room-clause-told : goal.returns-then-not-has_room-clause-told
 returns-then-not-has_room-clause-told c =
-    unread refl (room_lacks (c.has_room.ensures c.args.source.now.tokens.now c.args.nodes.now refl refl) c.if-not-has_room.true-raw) refl refl refl
-
-pub parse_expression-read-requires : goal.parse_expression-read-requires
-parse_expression-read-requires c =
-    (room_fits (c.has_room.ensures c.args.source.now.tokens.now c.args.nodes.now refl refl) c.if-not-has_room.false-raw)
-
-pub overflow_sub-e : goal.overflow_sub-e
-overflow_sub-e c =
-    omega (arith, (room_fits (c.has_room.ensures c.args.source.now.tokens.now c.args.nodes.now refl refl) c.if-not-has_room.false-raw), c.parse_expression-read.ensures.told)
-
-pub overflow_add-c : goal.overflow_add-c
-overflow_add-c c =
-    omega (arith, (room_fits (c.has_room.ensures c.args.source.now.tokens.now c.args.nodes.now refl refl) c.if-not-has_room.false-raw), c.parse_expression-read.ensures.told)
+    unread refl (room_lacks c.has_room.ensures c.if-not-has_room.true-raw) refl refl refl
 
 pub returns-clause-told : goal.returns-clause-told
 returns-clause-told c =
-    read _ refl (room_fits (c.has_room.ensures c.args.source.now.tokens.now c.args.nodes.now refl refl) c.if-not-has_room.false-raw) (expression_kept _ _ _ _ _ _ _ _ _ _ _ c.parse_expression-read.ensures.told (omega (arith, (room_fits (c.has_room.ensures c.args.source.now.tokens.now c.args.nodes.now refl refl) c.if-not-has_room.false-raw), c.parse_expression-read.ensures.told, c.parse_expression-read.auto)) c.clear_nodes.ensures)
+    expression_kept c.from-room.ensures (room_fits c.has_room.ensures c.if-not-has_room.false-raw) (omega (arith, c.parse_expression-read.auto)) c.parse_expression-read.ensures.told c.clear_nodes.ensures

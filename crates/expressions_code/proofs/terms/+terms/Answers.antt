@@ -2,30 +2,24 @@
 -- The measure is four times the tokens left, and up to 3 more for one that calls another at the same place.
 -- The loop's invariant: what the rest of the climb tells, the whole tells (`Climbing`).
 -- Assumes nothing.
-use Rattle.std.specs.Prelude.{Err}
 use native.Mathlib.Omega.{arith}
-use mathlib.Core.Path.{sym, ◌∙◌, ap}
-use Rattle.records.specs.Counters.{over_is}
+use mathlib.Core.Path.{refl, sym, ◌∙◌}
 use Rattle.expressions.specs.Paths.{told_one}
-use Rattle.expressions_code.proofs.levels.Operators.{precedence_small}
 use Rattle.names.specs.Places.{live}
-use Rattle.expressions_code.proofs.terms.Returns.{err_given, read_some, absent_quiet, prefix_full, prefix_end, prefix_unary, prefix_plus, prefix_group, prefix_leaf, unary_reads, unary_reports, unary_absents, plus_reads, plus_fails, expression_reads, expression_fails}
-use Rattle.expressions_code.proofs.terms.Closings.{group_reports, group_absents, group_tells}
-use Rattle.expressions_code.proofs.terms.Climbs.{climb_ends, climb_lows, operated_reports, operated_absents, operated_reads}
+use Rattle.expressions_code.proofs.leaves.Returns.{blank}
+use Rattle.expressions_code.proofs.terms.Returns.{err_given, absent_quiet, read_on, read_some, read_on_some, prefix_full, prefix_end, prefix_unary, prefix_plus, prefix_group, prefix_leaf, unary_reads, unary_fails, plus_reads, plus_fails, expression_reads, expression_fails}
+use Rattle.expressions_code.proofs.terms.Closings.{group_fails, group_tells}
+use Rattle.expressions_code.proofs.terms.Climbs.{climb_ends, climb_lows, operated_fails, operated_reads}
 use Rattle.expressions_code.proofs.terms.Turns.{again, ends}
 use Rattle.expressions_code.proofs.terms.+terms.Goals as goal
 
 pub parse_expression-returns-in_err-term-clause-told : goal.parse_expression-returns-in_err-term-clause-told
 parse_expression-returns-in_err-term-clause-told t c =
-    rw (err_given _ _ c.from_residual.ensures.1) (expression_fails _ (omega (arith, c.requires)) c.parse_prefix.ensures.told _ c.requires.room.within (c.in_err-term.was))
-
-pub parse_expression-parse_expression_from-requires : goal.parse_expression-parse_expression_from-requires
-parse_expression-parse_expression_from-requires t c =
-    omega (arith, read_some c.parse_prefix.ensures.told.told (c.in_ok-term.was), c.requires, c.parse_prefix.ensures.told)
+    rw (err_given _ _ c.from_residual.ensures.1) (expression_fails _ c.requires c.parse_prefix.ensures.told _ c.in_err-term.was)
 
 pub parse_expression-returns-clause-told : goal.parse_expression-returns-clause-told
 parse_expression-returns-clause-told t c =
-    expression_reads _ (omega (arith, c.requires)) c.parse_prefix.ensures.told c.requires.room.within c.requires.room.few (c.in_ok-term.was) c.parse_expression_from.ensures.told
+    expression_reads _ c.requires c.parse_prefix.ensures.told c.in_ok-term.was c.parse_expression_from.ensures.told
 
 pub parse_expression_from-loop-t-preserved : goal.parse_expression_from-loop-t-preserved
 parse_expression_from-loop-t-preserved t c =
@@ -33,140 +27,84 @@ parse_expression_from-loop-t-preserved t c =
 
 pub parse_expression_from-returns-in_default-clause-told : goal.parse_expression_from-returns-in_default-clause-told
 parse_expression_from-returns-in_default-clause-told t c =
-    c.loop-t.invariant.0.whole _ _ _ _ (climb_ends _ _ _ _ _ _ _ _ (sym c.peek.ensures ∙ c.in_default.is) c.loop-t.invariant.0.free.room.stand c.loop-t.invariant.0.free.room.within)
+    c.loop-t.invariant.0.whole _ _ _ _ (climb_ends c.loop-t.invariant.0.free (sym c.peek.ensures ∙ c.in_default.is))
 
 pub parse_expression_from-returns-then-precedence-minimum-clause-told : goal.parse_expression_from-returns-then-precedence-minimum-clause-told
 parse_expression_from-returns-then-precedence-minimum-clause-told t c =
-    c.loop-t.invariant.0.whole _ _ _ _ (climb_lows _ _ _ _ _ _ _ _ _ (sym c.peek.ensures ∙ c.in-Some.is) (omega (arith, c.precedence.ensures, c.if-precedence-minimum.true)) c.loop-t.invariant.0.free.room.stand c.loop-t.invariant.0.free.room.within)
+    c.loop-t.invariant.0.whole _ _ _ _ (climb_lows c.loop-t.invariant.0.free (sym c.peek.ensures ∙ c.in-Some.is) (omega (arith, c.precedence.ensures, c.if-precedence-minimum.true)))
 
 pub parse_expression_from-returns-in_default-parse_operated-clause-told : goal.parse_expression_from-returns-in_default-parse_operated-clause-told
 parse_expression_from-returns-in_default-parse_operated-clause-told t c =
     ends c.loop-t.invariant.0 (omega (arith, c.precedence.ensures, c.if-precedence-minimum.false)) c.parse_operated.ensures.told λ x p. c.in_default-parse_operated.not-Ok x p
 
-pub parse_group-close_group-requires : goal.parse_group-close_group-requires
-parse_group-close_group-requires t c =
-    omega (arith, read_some c.parse_expression.ensures.told.told c.in-Ok.is, c.requires, c.parse_expression.ensures.told)
+pub parse_group-returns-in_err-expected-clause-told : goal.parse_group-returns-in_err-expected-clause-told
+parse_group-returns-in_err-expected-clause-told t c =
+    rw (err_given _ _ c.from_residual.ensures.1) (group_fails _ _ c.requires c.parse_expression-read.ensures.told _ c.expected.ensures.told c.in_err-expected.was)
 
-pub parse_group-returns-in-Ok-clause-told : goal.parse_group-returns-in-Ok-clause-told
-parse_group-returns-in-Ok-clause-told t c =
-    group_tells _ _ (omega (arith, c.requires)) (omega (arith, c.requires, c.parse_expression.ensures.told)) c.parse_expression.ensures.told c.in-Ok.is c.close_group.ensures.told
+pub parse_group-returns-clause-told : goal.parse_group-returns-clause-told
+parse_group-returns-clause-told t c =
+    group_tells _ _ c.requires (read_on c.parse_expression-read.ensures.told c.expected.ensures.told c.in_ok-expected.was) (omega (arith, c.parse_expression-read.auto)) refl c.close_group.ensures.told
 
-pub parse_group-returns-in-Err-Reported-clause-told : goal.parse_group-returns-in-Err-Reported-clause-told
-parse_group-returns-in-Err-Reported-clause-told t c =
-    group_reports _ _ (omega (arith, c.requires)) (omega (arith, c.requires, c.parse_expression.ensures.told)) c.parse_expression.ensures.told (c.in-Err-Reported.is ∙ ap Err c.in-Err-Reported.field-0-is)
+pub parse_operated-returns-in_err-term-clause-told : goal.parse_operated-returns-in_err-term-clause-told
+parse_operated-returns-in_err-term-clause-told t c =
+    rw (err_given _ _ c.from_residual.ensures.1) (operated_fails c.requires.0 c.requires.1 c.step_over.ensures c.parse_prefix-read.ensures.told _ c.expected.ensures.told c.in_err-term.was)
 
-pub parse_group-returns-in-Err-Absent-clause-told : goal.parse_group-returns-in-Err-Absent-clause-told
-parse_group-returns-in-Err-Absent-clause-told t c =
-    group_absents _ _ (omega (arith, c.requires)) (omega (arith, c.requires, c.parse_expression.ensures.told)) c.parse_expression.ensures.told (c.in-Err-Absent.is ∙ ap Err c.in-Err-Absent.field-0-is) c.expected_after.ensures c.report.ensures.told
-
-pub parse_operated-parse_prefix-requires : goal.parse_operated-parse_prefix-requires
-parse_operated-parse_prefix-requires t c =
-    omega (arith, live _ _ _ c.requires.1, c.requires.0, c.step_over.ensures)
-
-pub parse_operated-overflow_add-above : goal.parse_operated-overflow_add-above
-parse_operated-overflow_add-above t c =
-    omega (arith, precedence_small _ _ c.precedence-above.ensures)
-
-pub parse_operated-parse_expression_from-right-requires : goal.parse_operated-parse_expression_from-right-requires
-parse_operated-parse_expression_from-right-requires t c =
-    omega (arith, c.step_over.ensures, live _ _ _ c.requires.1, c.requires.0, c.parse_prefix.ensures.told, read_some c.parse_prefix.ensures.told.told c.in-Ok.is)
-
-pub parse_operated-put_operator-requires : goal.parse_operated-put_operator-requires
-parse_operated-put_operator-requires t c =
-    omega (arith, c.step_over.ensures, live _ _ _ c.requires.1, c.requires.0, c.parse_prefix.ensures.told, c.parse_expression_from-right.ensures.told)
-
-pub parse_operated-report-requires : goal.parse_operated-report-requires
-parse_operated-report-requires t c =
-    omega (arith, c.step_over.ensures, live _ _ _ c.requires.1, c.requires.0, c.parse_prefix.ensures.told, absent_quiet _ c.parse_prefix.ensures.told (c.in-Err-Absent.is ∙ ap Err c.in-Err-Absent.field-0-is))
-
-pub parse_operated-returns-in-Ok-clause-told : goal.parse_operated-returns-in-Ok-clause-told
-parse_operated-returns-in-Ok-clause-told t c =
-    operated_reads _ _ _ _ _ _ _ _ _ _ _ _ _ c.requires.1 (over_is (omega (arith, c.requires.0)) c.step_over.ensures) c.parse_prefix.ensures.told (omega (arith, c.requires.0)) c.requires.0.room.stand c.in-Ok.is c.precedence-above.ensures c.binary_operator-operator.ensures c.parse_expression_from-right.ensures.told c.put_operator.ensures
-
-pub parse_operated-returns-in-Err-Reported-clause-told : goal.parse_operated-returns-in-Err-Reported-clause-told
-parse_operated-returns-in-Err-Reported-clause-told t c =
-    operated_reports _ _ _ _ _ _ _ _ _ _ _ _ _ c.requires.1 (over_is (omega (arith, c.requires.0)) c.step_over.ensures) c.parse_prefix.ensures.told (omega (arith, c.requires.0)) c.requires.0.room.stand (c.in-Err-Reported.is ∙ ap Err c.in-Err-Reported.field-0-is)
-
-pub parse_operated-returns-in-Err-Absent-clause-told : goal.parse_operated-returns-in-Err-Absent-clause-told
-parse_operated-returns-in-Err-Absent-clause-told t c =
-    operated_absents _ _ _ _ _ _ _ _ _ _ _ _ _ c.requires.1 (over_is (omega (arith, c.requires.0)) c.step_over.ensures) c.parse_prefix.ensures.told (omega (arith, c.requires.0)) c.requires.0.room.stand (c.in-Err-Absent.is ∙ ap Err c.in-Err-Absent.field-0-is) c.expected_after.ensures c.report.ensures.told
-
-pub parse_plus-report-requires : goal.parse_plus-report-requires
-parse_plus-report-requires t c =
-    omega (arith, c.requires, c.parse_prefix.ensures.told)
+pub parse_operated-returns-clause-told : goal.parse_operated-returns-clause-told
+parse_operated-returns-clause-told t c =
+    operated_reads c.requires.0 c.requires.1 c.step_over.ensures (read_on c.parse_prefix-read.ensures.told c.expected.ensures.told c.in_ok-term.was) refl c.precedence-above.ensures c.binary_operator-operator.ensures c.parse_expression_from-right.ensures.told c.put_operator.ensures
 
 pub parse_plus-returns-in-Ok-clause-told : goal.parse_plus-returns-in-Ok-clause-told
 parse_plus-returns-in-Ok-clause-told t c =
-    plus_reads _ (omega (arith, c.requires)) c.parse_prefix.ensures.told _ c.in-Ok.is c.span_of-span.ensures c.plain.ensures (told_one (omega (arith, c.requires, c.parse_prefix.ensures.told)) c.raise.ensures.told c.raise.ensures.counted)
+    plus_reads _ c.requires c.parse_prefix.ensures.told _ c.in-Ok.is c.from-span.ensures c.plain.ensures (told_one (omega (arith, c.requires, c.parse_prefix.ensures.told)) c.raise.ensures.told c.raise.ensures.counted)
 
 pub parse_plus-returns-in-Err-clause-told : goal.parse_plus-returns-in-Err-clause-told
 parse_plus-returns-in-Err-clause-told t c =
-    plus_fails _ (omega (arith, c.requires)) c.parse_prefix.ensures.told _ _ c.in-Err.is c.span_of-span.ensures c.plain-in-Err.ensures c.report.ensures.told
-
-pub parse_prefix-too_deep-requires : goal.parse_prefix-too_deep-requires
-parse_prefix-too_deep-requires t c =
-    omega (arith, c.requires)
+    plus_fails _ c.requires c.parse_prefix.ensures.told _ _ c.in-Err.is c.from-span.ensures (rw (blank c.default.ensures) at c.plain-in-Err.ensures) c.report.ensures.told
 
 pub parse_prefix-returns-then-room-eq0-clause-told : goal.parse_prefix-returns-then-room-eq0-clause-told
 parse_prefix-returns-then-room-eq0-clause-told t c =
-    prefix_full _ _ _ _ _ _ c.requires.room.within c.if-room-eq0.true c.too_deep.ensures.told
+    prefix_full _ c.requires c.if-room-eq0.true c.too_deep.ensures.told
 
 pub parse_prefix-returns-in_default-clause-told : goal.parse_prefix-returns-in_default-clause-told
 parse_prefix-returns-in_default-clause-told t c =
-    prefix_end _ _ _ _ _ _ c.requires.room.within c.if-room-eq0.false (sym c.peek.ensures ∙ c.in_default.is)
-
-pub parse_prefix-parse_unary-requires : goal.parse_prefix-parse_unary-requires
-parse_prefix-parse_unary-requires t c =
-    omega (arith, live _ _ _ (sym c.peek.ensures ∙ c.in-Some.is), c.requires, c.step_over.ensures)
+    prefix_end _ c.requires c.if-room-eq0.false (sym c.peek.ensures ∙ c.in_default.is)
 
 pub parse_prefix-returns-then-is_unary-clause-told : goal.parse_prefix-returns-then-is_unary-clause-told
 parse_prefix-returns-then-is_unary-clause-told t c =
-    prefix_unary _ _ _ _ _ _ c.requires.room.within c.if-room-eq0.false (sym c.peek.ensures ∙ c.in-Some.is) (over_is (omega (arith, c.requires)) c.step_over.ensures) (sym (c.is_unary.ensures _) ∙ c.if-is_unary.true) c.parse_unary.ensures.told
-
-pub parse_prefix-parse_plus-requires : goal.parse_prefix-parse_plus-requires
-parse_prefix-parse_plus-requires t c =
-    omega (arith, live _ _ _ (sym c.peek.ensures ∙ c.in-Some.is), c.requires, c.step_over-in-14.ensures)
-
-pub parse_prefix-parse_group-requires : goal.parse_prefix-parse_group-requires
-parse_prefix-parse_group-requires t c =
-    omega (arith, live _ _ _ (sym c.peek.ensures ∙ c.in-Some.is), c.requires, c.step_over-in-7.ensures)
-
-pub parse_prefix-parse_leaf-requires : goal.parse_prefix-parse_leaf-requires
-parse_prefix-parse_leaf-requires t c =
-    omega (arith, live _ _ _ (sym c.peek.ensures ∙ c.in-Some.is), c.requires)
+    prefix_unary _ c.requires c.if-room-eq0.false (sym c.peek.ensures ∙ c.in-Some.is) c.step_over.ensures (sym (c.is_unary.ensures _) ∙ c.if-is_unary.true) c.parse_unary.ensures.told
 
 pub parse_prefix-returns-in-14-clause-told : goal.parse_prefix-returns-in-14-clause-told
 parse_prefix-returns-in-14-clause-told t c =
-    prefix_plus _ _ _ _ _ _ c.requires.room.within c.if-room-eq0.false (sym c.peek.ensures ∙ c.in-Some.is) (over_is (omega (arith, c.requires)) c.step_over-in-14.ensures) (sym (c.is_unary.ensures _) ∙ c.if-is_unary.false) c.in-14.is c.parse_plus.ensures.told
+    prefix_plus _ c.requires c.if-room-eq0.false (sym c.peek.ensures ∙ c.in-Some.is) c.step_over-in-14.ensures (sym (c.is_unary.ensures _) ∙ c.if-is_unary.false) c.in-14.is c.parse_plus.ensures.told
 
 pub parse_prefix-returns-in-7-clause-told : goal.parse_prefix-returns-in-7-clause-told
 parse_prefix-returns-in-7-clause-told t c =
-    prefix_group _ _ _ _ _ _ c.requires.room.within c.if-room-eq0.false (sym c.peek.ensures ∙ c.in-Some.is) (over_is (omega (arith, c.requires)) c.step_over-in-7.ensures) (sym (c.is_unary.ensures _) ∙ c.if-is_unary.false) c.in-7.is c.parse_group.ensures.told
+    prefix_group _ c.requires c.if-room-eq0.false (sym c.peek.ensures ∙ c.in-Some.is) c.step_over-in-7.ensures (sym (c.is_unary.ensures _) ∙ c.if-is_unary.false) c.in-7.is c.parse_group.ensures.told
 
 pub parse_prefix-returns-in_default-kind-clause-told : goal.parse_prefix-returns-in_default-kind-clause-told
 parse_prefix-returns-in_default-kind-clause-told t c =
-    prefix_leaf _ _ _ _ _ _ c.requires.room.within c.if-room-eq0.false (sym c.peek.ensures ∙ c.in-Some.is) (sym (c.is_unary.ensures _) ∙ c.if-is_unary.false) c.in_default-kind.in_default-kind-own.rest.0.1 c.in_default-kind.in_default-kind-own.rest.1 c.parse_leaf.ensures.told
+    prefix_leaf _ c.requires c.if-room-eq0.false (sym c.peek.ensures ∙ c.in-Some.is) (sym (c.is_unary.ensures _) ∙ c.if-is_unary.false) (search) (search) c.parse_leaf.ensures.told
+
+pub parse_unary-returns-in_err-term-clause-told : goal.parse_unary-returns-in_err-term-clause-told
+parse_unary-returns-in_err-term-clause-told t c =
+    rw (err_given _ _ c.from_residual.ensures.1) (unary_fails _ c.requires c.parse_prefix-read.ensures.told _ _ c.expected.ensures.told c.in_err-term.was)
+
+pub parse_unary-returns-clause-told : goal.parse_unary-returns-clause-told
+parse_unary-returns-clause-told t c =
+    unary_reads _ c.requires (read_on c.parse_prefix-read.ensures.told c.expected.ensures.told c.in_ok-term.was) _ refl c.unary_operator-operator.ensures c.put_operator.ensures
+
+pub parse_operated-expected-requires : goal.parse_operated-expected-requires
+parse_operated-expected-requires t c =
+    λ w. omega (arith, c.step_over.ensures, live _ _ _ c.requires.1, c.requires.0, absent_quiet _ c.parse_prefix-read.ensures.told w)
+
+pub parse_expression-parse_expression_from-requires : goal.parse_expression-parse_expression_from-requires
+parse_expression-parse_expression_from-requires t c =
+    omega (arith, c.requires, c.parse_prefix.ensures.told, read_some c.parse_prefix.ensures.told c.in_ok-term.was)
+
+pub parse_group-close_group-requires : goal.parse_group-close_group-requires
+parse_group-close_group-requires t c =
+    let g = read_on c.parse_expression-read.ensures.told c.expected.ensures.told c.in_ok-expected.was in omega (arith, c.requires, g, read_some g refl)
 
 pub parse_unary-overflow_sub-operand : goal.parse_unary-overflow_sub-operand
 parse_unary-overflow_sub-operand t c =
-    omega (arith, read_some c.parse_prefix.ensures.told.told c.in-Ok.is)
-
-pub parse_unary-put_operator-requires : goal.parse_unary-put_operator-requires
-parse_unary-put_operator-requires t c =
-    omega (arith, read_some c.parse_prefix.ensures.told.told c.in-Ok.is, c.requires, c.parse_prefix.ensures.told)
-
-pub parse_unary-report-requires : goal.parse_unary-report-requires
-parse_unary-report-requires t c =
-    omega (arith, c.requires, c.parse_prefix.ensures.told)
-
-pub parse_unary-returns-in-Ok-clause-told : goal.parse_unary-returns-in-Ok-clause-told
-parse_unary-returns-in-Ok-clause-told t c =
-    unary_reads _ (omega (arith, c.requires)) c.parse_prefix.ensures.told _ c.in-Ok.is c.unary_operator-operator.ensures c.put_operator.ensures
-
-pub parse_unary-returns-in-Err-Reported-clause-told : goal.parse_unary-returns-in-Err-Reported-clause-told
-parse_unary-returns-in-Err-Reported-clause-told t c =
-    unary_reports _ (omega (arith, c.requires)) c.parse_prefix.ensures.told _ (c.in-Err-Reported.is ∙ ap Err c.in-Err-Reported.field-0-is)
-
-pub parse_unary-returns-in-Err-Absent-clause-told : goal.parse_unary-returns-in-Err-Absent-clause-told
-parse_unary-returns-in-Err-Absent-clause-told t c =
-    unary_absents _ (omega (arith, c.requires)) c.parse_prefix.ensures.told _ (c.in-Err-Absent.is ∙ ap Err c.in-Err-Absent.field-0-is) c.expected_after.ensures c.report.ensures.told
+    read_on_some c.parse_prefix-read.ensures.told c.expected.ensures.told c.in_ok-term.was

@@ -1,2 +1,0 @@
--- What the proofs of levels.rt share.
-pub mod Operators
