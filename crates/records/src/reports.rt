@@ -52,7 +52,11 @@ pub fn malformed(shape: OperandShape, problem: Problem, span: Span, text: Span) 
 pub fn expression_expected(after: Token) -> Diagnostic
     ensures { result ≡ expression_expected (span_of after) }
 {
-    plain(DiagnosticKind::ExpressionExpected, Span::empty(after.end), Span::from(after))
+    plain(
+        DiagnosticKind::ExpressionExpected,
+        Span::empty(after.end),
+        Span::from(after),
+    )
 }
 
 // Writes the diagnostic record d, where it fits.
