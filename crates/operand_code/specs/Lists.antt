@@ -1,13 +1,10 @@
 -- What the functions of register lists ask and tell, and the code's values (lists.rt) for those of the definition.
 -- Assumes nothing.
-use Rattle.std.specs.Prelude.{◌≡◌, false, List, [], ◌∷◌, ℕ, ◌+◌, ◌*◌, ◌≤◌, ◌<◌, eqb, length, Option, Some, None, option_map}
-use Rattle.names.specs.Choice.{pick}
-use Rattle.names.specs.Kinds
+use Rattle.std.specs.Prelude.{◌≡◌, false, List, [], ◌∷◌, ℕ, ◌+◌, ◌*◌, ◌≤◌, ◌<◌, length, Option, Some, None, option_map}
 use Rattle.names.specs.Tokens.{count, token_at}
 use Rattle.names.specs.Places.{text_of, place}
 use Rattle.names.specs.declared.tokens.Token.{Token}
 use Rattle.records.specs.Spans.{span, span_of, span_or}
-use Rattle.records.specs.declared.spans.Span.{Span}
 use Rattle.records.specs.declared.progress.Progress.{Progress}
 use Rattle.expressions.specs.declared.source.Source.{Source}
 use Rattle.records.specs.declared.counters.Counters.{Counters}

@@ -23,7 +23,8 @@ fn is_scale(value: u64) -> bool
     matches!(value, 1 | 2 | 4 | 8)
 }
 
-// The index with its scale, once the scale's value is known.
+// The index with its scale, once the scale's value is known. `as` loses nothing: a scale is 8 at most.
+#[tactic(auto, using(crate::proofs::indexes::Returns::scale_small))]
 fn scaled(
     source: &Source,
     out: &mut Progress,
@@ -62,15 +63,16 @@ fn index_scale_value(
     ensures lent { out.new.diagnostics.ghost_name ≡ out.old.diagnostics.ghost_name }
     ensures told { Tells (λ z. z) (Same out.old.counters.nodes) (scale_value source.now.setting (Shapes.number shape) x token (text_of source.now.line.now token.start token.end)) source.now out.old out.new result }
 {
-    match names::parse_number(token.detail, source.text_of(token)) {
-        Ok(v) => scaled(source, out, shape, x, token, v),
+    let value = match names::parse_number(token.detail, source.text_of(token)) {
+        Ok(v) => v,
         Err(NumberError::TooLarge) => {
             let span = Span::from(token);
             out.raise(plain(DiagnosticKind::NumberTooLarge, span, span));
-            scaled(source, out, shape, x, token, 0)
+            0
         }
-        Err(NumberError::Invalid) => scaled(source, out, shape, x, token, 0),
-    }
+        Err(NumberError::Invalid) => 0,
+    };
+    scaled(source, out, shape, x, token, value)
 }
 
 fn index_scale(
@@ -101,10 +103,7 @@ fn sized_index(register: Register, suppressed: bool, suffix: Option<Suffixed>) -
     ensures { result ≡ sized_index register suppressed suffix }
 {
     let start = register.span.start;
-    let (size, end) = match suffix {
-        Some(x) => (x.size, x.span.end),
-        None => (0, register.span.end),
-    };
+    let (size, end) = suffix.map_or((0, register.span.end), |x| (x.size, x.span.end));
     IndexRegister {
         register,
         size,
@@ -135,6 +134,7 @@ fn index_register(
     )
 }
 
+// An index register, or what stands there is stepped over. It is told in two places, as in `expect_register` (lists.rt).
 pub(crate) fn parse_index_register(
     source: &Source,
     out: &mut Progress,
@@ -144,11 +144,11 @@ pub(crate) fn parse_index_register(
     ensures lent { out.new.diagnostics.ghost_name ≡ out.old.diagnostics.ghost_name }
     ensures told { Tells (λ z. z) (Same out.old.counters.nodes) (parse_index_register source.now.setting (Shapes.number shape)) source.now out.old out.new result }
 {
-    let at = usize::from(out.counters.at);
-    let Some(t) = source.token_at(at) else {
+    let Some(t) = source.peek(out.counters) else {
         stepped_over(source, out, shape, Problem::IndexMissing);
         return None;
     };
+    let at = usize::from(out.counters.at);
     if let Some(index) = suppressed_index_at(source, t, at) {
         out.counters.step_over(t);
         return index_register(source, out, shape, register_of(index, t), true);

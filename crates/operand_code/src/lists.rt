@@ -46,7 +46,7 @@ fn register_expected(source: &Source, out: &mut Progress, sign: Problem)
     });
 }
 
-// The register behind this sign.
+// The register behind this sign. Not one `if let .. && let ..`: behind it a proof can't name that no token stood there (tried).
 fn expect_register(source: &Source, out: &mut Progress, sign: Problem) -> Option<Register>
     requires { Room source.now.tokens.now out.old.counters 0 1 }
     ensures lent { out.new.diagnostics.ghost_name ≡ out.old.diagnostics.ghost_name }
@@ -116,6 +116,7 @@ fn list_item(source: &Source, out: &mut Progress, r: Register) -> Option<Item>
 }
 
 // The bits of the registers from one through another.
+#[tactic(auto, using(crate::proofs::lists::Ranges::bits_on, crate::proofs::lists::Ranges::bits_end))]
 fn range_bits(from: u8, to: u8) -> u16
     requires { to < 16 }
     ensures { result ≡ bits_from from (to + 1 - from) }
@@ -162,7 +163,7 @@ pub(crate) fn parse_register_list(
     ensures lent { out.new.diagnostics.ghost_name ≡ out.old.diagnostics.ghost_name }
     ensures told { OperandBy (parse_register_list source.now.setting first) source.now out.old nodes.new out.new result }
 {
-    let mut mask: u16 = 0;
+    let mut mask = 0;
     let mut r = first;
     loop {
         let item = list_item(source, out, r)?;

@@ -47,10 +47,7 @@ pub(crate) fn register_of(index: u8, token: Token) -> Register
 pub(crate) fn address_register_at(source: &Source, token: Token) -> Option<u8>
     ensures { result ≡ address_of (reg_at token (text_of source.now.line.now token.start token.end)) }
 {
-    match register_at(source, token) {
-        Some(index) if 8 <= index => Some(index),
-        _ => None,
-    }
+    register_at(source, token).filter(|&index| 8 <= index)
 }
 
 #[tactic(auto, unfolding(operand::specs::Operand::a_program_counter))]
@@ -58,13 +55,6 @@ pub(crate) fn program_counter_at(source: &Source, token: Token) -> bool
     ensures { result ≡ a_program_counter token (text_of source.now.line.now token.start token.end) }
 {
     token.kind == kinds::IDENTIFIER && names::is_program_counter(source.text_of(token))
-}
-
-// A register or the program counter. A function of its own: as a part of a longer test each proof would take its two cases apart (tried).
-fn is_register_or_counter_at(source: &Source, token: Token) -> bool
-    ensures { result ≡ either (a_register token (text_of source.now.line.now token.start token.end)) (a_program_counter token (text_of source.now.line.now token.start token.end)) }
-{
-    is_register_at(source, token) || program_counter_at(source, token)
 }
 
 // The mark may turn the place i into a symbol. It is a `u32`, of which there is no `usize::from`.
@@ -89,86 +79,95 @@ pub(crate) fn suppressed_index_at(source: &Source, token: Token, i: usize) -> Op
     }
 }
 
-// `is_an_index_at`
+// `is_an_index_at`. A `match` here and below: at `is_some_and` a closure that calls other functions needs their contract written once more (tried).
+#[tactic(auto, using(crate::proofs::lookahead::Names::an_index_lem), unfolding(expressions::specs::Laws::holds, names::specs::Places::place, names::specs::Places::placed))]
 pub(crate) fn is_an_index_at(source: &Source, i: usize) -> bool
     ensures { result ≡ holds (an_index source.now.setting i) (place source.now.line.now source.now.tokens.now i) }
 {
-    let Some(t) = source.token_at(i) else {
-        return false;
-    };
-    is_register_at(source, t) || suppressed_index_at(source, t, i).is_some()
+    match source.token_at(i) {
+        Some(t) => is_register_at(source, t) || suppressed_index_at(source, t, i).is_some(),
+        None => false,
+    }
 }
 
 // `is_a_base_or_an_index`
+#[tactic(auto, using(crate::proofs::lookahead::Names::a_base_or_an_index_lem))]
 pub(crate) fn is_a_base_or_an_index(source: &Source, token: Token, i: usize) -> bool
     ensures { result ≡ a_base_or_an_index source.now.setting i token (text_of source.now.line.now token.start token.end) }
 {
-    is_register_or_counter_at(source, token) || suppressed_register_at(source, token, i).is_some()
+    program_counter_at(source, token)
+        || is_register_at(source, token)
+        || suppressed_register_at(source, token, i).is_some()
 }
 
 // Whether the place holds a size or a scale, or a parenthesis or a comma where these may follow.
+#[tactic(auto, unfolding(operand::specs::Operand::closes, operand::specs::Operand::size_or_scale, expressions::specs::Laws::holds, names::specs::Places::place, names::specs::Places::placed))]
 pub(crate) fn closes_at(source: &Source, i: usize, paren: bool, comma: bool) -> bool
     ensures { result ≡ holds (closes paren comma) (place source.now.line.now source.now.tokens.now i) }
 {
-    let Some(t) = source.token_at(i) else {
-        return false;
-    };
-    match t.kind {
+    source.token_at(i).is_some_and(|t| match t.kind {
         kinds::SIZE_SUFFIX | kinds::STAR => true,
         kinds::RIGHT_PAREN => paren,
         kinds::COMMA => comma,
         _ => false,
-    }
+    })
 }
 
 // A suppressed register, a data register that is no base, or an address register with a size or a scale. Here and below `i ≤ 1023` keeps
-// i + 1 in range: `i.saturating_add(1)` is the contracts' i + 1 only under such a bound, so that each goal would have a step more.
+// i + 1 in range: without it `i.saturating_add(1)` is not the contracts' i + 1 at every i (tried).
+#[tactic(auto, using(crate::proofs::lookahead::Names::unmarked_is, crate::proofs::lookahead::Names::suppressed_asked), unfolding(crate::specs::Lookahead::full_index_starts, operand::specs::Operand::is_suppressed, expressions::specs::Laws::holds, names::specs::Places::place, names::specs::Places::placed))]
 pub(crate) fn starts_a_full_index(source: &Source, i: usize) -> bool
     requires { i ≤ 1023 }
     ensures { result ≡ full_index_starts source.now.setting (place source.now.line.now source.now.tokens.now) i }
 {
-    let Some(t) = source.token_at(i) else {
-        return false;
-    };
-    match suppressed_register_at(source, t, i) {
-        None => register_starts(source, i, t),
-        Some(_) => closes_at(source, i + 1, true, true),
+    match source.token_at(i) {
+        Some(t) => match suppressed_register_at(source, t, i) {
+            Some(_) => closes_at(source, i + 1, true, true),
+            None => register_starts(source, i, t),
+        },
+        None => false,
     }
 }
 
 // A register that a full index begins with, by what follows it.
+#[tactic(auto, using(crate::proofs::lookahead::Names::reg_not, crate::proofs::lookahead::Names::address_none, crate::proofs::lookahead::Starts::register_starts))]
 fn register_starts(source: &Source, i: usize, token: Token) -> bool
     requires { i ≤ 1023 }
     ensures { result ≡ pick (an_address_register token (text_of source.now.line.now token.start token.end)) (holds (closes false false) (place source.now.line.now source.now.tokens.now (i + 1))) (both (a_register token (text_of source.now.line.now token.start token.end)) (holds (closes true false) (place source.now.line.now source.now.tokens.now (i + 1)))) }
 {
     match register_at(source, token) {
-        None => false,
         Some(index) => closes_at(source, i + 1, index < 8, false),
+        None => false,
     }
 }
 
 // A register or the program counter, and then a parenthesis, a comma or the end.
+#[tactic(auto, unfolding(crate::specs::Lookahead::base_starts, expressions::specs::Laws::holds, names::specs::Places::place, names::specs::Places::placed))]
 pub(crate) fn starts_a_base(source: &Source, i: usize) -> bool
     requires { i ≤ 1023 }
     ensures { result ≡ base_starts (place source.now.line.now source.now.tokens.now) i }
 {
-    let Some(t) = source.token_at(i) else {
-        return false;
-    };
-    is_register_or_counter_at(source, t) && ends_a_base(source, i + 1)
+    match source.token_at(i) {
+        Some(t) => {
+            (is_register_at(source, t) || program_counter_at(source, t))
+                && ends_a_base(source, i + 1)
+        }
+        None => false,
+    }
 }
 
 // A parenthesis, a comma or the end.
+#[tactic(auto, unfolding(expressions::specs::Laws::holds, names::specs::Places::place, names::specs::Places::placed))]
 fn ends_a_base(source: &Source, i: usize) -> bool
     ensures { result ≡ either (not (holds any (place source.now.line.now source.now.tokens.now i))) (holds (λ t x. either (eqb t.kind Kinds.right_paren) (eqb t.kind Kinds.comma)) (place source.now.line.now source.now.tokens.now i)) }
 {
-    let Some(t) = source.token_at(i) else {
-        return true;
-    };
-    t.kind == kinds::RIGHT_PAREN || t.kind == kinds::COMMA
+    source
+        .token_at(i)
+        .is_none_or(|t| matches!(t.kind, kinds::RIGHT_PAREN | kinds::COMMA))
 }
 
 // The base that the token at the place i is, if it is one: a size or a scale makes an address register an index.
+#[tactic(auto, unfolding(crate::specs::Lookahead::base_at, crate::specs::Lookahead::is_counter, crate::specs::Lookahead::suppressed_base))]
 pub(crate) fn base_at(source: &Source, i: usize, token: Token) -> BaseRegister
     requires { i ≤ 1023 }
     ensures { result ≡ base_at source.now.setting (place source.now.line.now source.now.tokens.now) i token (text_of source.now.line.now token.start token.end) }
@@ -189,6 +188,7 @@ pub(crate) fn base_at(source: &Source, i: usize, token: Token) -> BaseRegister
 }
 
 // An address register, or else the other base; none with a size or a scale.
+#[tactic(auto, using(crate::proofs::lookahead::Starts::closes_neither), unfolding(crate::specs::Lookahead::address_base, crate::specs::Lookahead::address_of))]
 fn address_at(source: &Source, i: usize, token: Token, other: BaseRegister) -> BaseRegister
     requires { i ≤ 1023 }
     ensures { result ≡ pick (holds size_or_scale (place source.now.line.now source.now.tokens.now (i + 1))) BaseRegister.Omitted (address_base (reg_at token (text_of source.now.line.now token.start token.end)) token other) }
@@ -207,10 +207,9 @@ fn address_at(source: &Source, i: usize, token: Token, other: BaseRegister) -> B
 fn suppressed_address(index: u8) -> BaseRegister
     ensures { result ≡ suppressed_base (Some (Suppressed.Register index)) }
 {
-    if index < 8 {
-        return BaseRegister::Omitted;
-    }
-    BaseRegister::SuppressedAddress(index - 8)
+    index
+        .checked_sub(8)
+        .map_or(BaseRegister::Omitted, BaseRegister::SuppressedAddress)
 }
 
 #[tactic(auto, unfolding(crate::specs::Lookahead::is_base))]

@@ -40,7 +40,7 @@ pub(crate) fn indexed(
     }
 }
 
-// The tree that the last records hold, with this size.
+// The tree that the last records hold, with this size: an `Option`, since that is what a displacement is.
 pub(crate) fn last_tree(c: Counters, size: u8) -> Option<Sized>
     requires { 0 < c.nodes }
     ensures { result ≡ Some (record { node = c.nodes - 1; size = size }) }

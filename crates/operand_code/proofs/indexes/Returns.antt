@@ -12,9 +12,8 @@ use Rattle.names.specs.Kinds
 use Rattle.names.specs.Places.{text_of}
 use Rattle.names.specs.Tokens.{token_at}
 use Rattle.records.specs.DiagnosticKinds
-use Rattle.records.specs.Problems
-use Rattle.records.specs.Shapes
-use Rattle.records.specs.Counters.{stepped}
+use Rattle.records.specs.Counters.{stepped, Over, over_is}
+use Rattle.records.specs.Rooms.{Room}
 use Rattle.names.specs.Cases.{size_number}
 use Rattle.names.specs.Sizes.{run_of, size_of}
 use Rattle.names.specs.Numbers.{number_of}
@@ -22,22 +21,42 @@ use Rattle.names.specs.declared.numbers.NumberError.{NumberError}
 use Rattle.names.specs.declared.sizes.SizeSuffix.{SizeSuffix}
 use Rattle.names.specs.declared.tokens.Token.{Token}
 use Rattle.records.specs.Spans.{span, span_of}
-use Rattle.records.specs.Diagnostics.{diagnostic, run_start, number_too_large}
+use Rattle.records.specs.Diagnostics.{plain, run_start, number_too_large}
 use Rattle.expressions.specs.Expressions.{Suffix, suffixed, bare, known, suffix_run, take_size_suffix, valued}
 use Rattle.expressions.specs.declared.reading.Setting.{Setting}
-use Rattle.expressions.specs.Reader.{raise, answer}
+use Rattle.expressions.specs.Reader.{Reader, of_kind, is, raise, answer, bump}
 use Rattle.records.specs.declared.spans.Span.{Span}
 use Rattle.records.specs.declared.diagnostics.Diagnostic.{Diagnostic}
 use Rattle.records.specs.declared.counters.Counters.{Counters}
 use Rattle.operand.specs.Forms.{suffix_read}
-use Rattle.operand.specs.Operand.{scale_of, index_scale, index_size}
+use Rattle.operand.specs.Operand.{scale_of, scaled, scale_value, index_scale, index_size}
 use Rattle.operand.specs.declared.forms.Register.{Register}
+use Rattle.operand.specs.declared.forms.IndexRegister.{IndexRegister}
 use Rattle.names.specs.Choice.{either}
 use Rattle.expressions.specs.Told.{Raised, Told, Same}
 use Rattle.operand_code.specs.Lookahead.{sized_index}
-use Rattle.expressions.specs.Paths.{answered, raised, raised_as, raised_same, chosen, unchosen, hit_same}
+use Rattle.expressions.specs.Paths.{answered, raised, raised_as, raised_same, chosen, unchosen, hit_same, kind_token, bound_as, same}
+use Rattle.operand_code.proofs.Rooms.{room_step}
 use Rattle.std.specs.Prelude.{None, Ok, Err, Option, Some}
 use Rattle.operand.specs.declared.forms.Suffixed.{Suffixed}
+
+-- ---- a token is stepped over
+
+module _ {T : List ℕ} {c c₁ : Counters} {k : Token} {n : ℕ} (h : Room T c n 1) (o : Over c k c₁) where
+  pub over_room : c₁ ≡ stepped c k
+  over_room = over_is (omega (arith, h)) o
+
+  pub room_over : token_at T c.at ≡ Some k → Room T c₁ n 1
+  room_over t = room_step h t over_room
+
+  pub room_over_kind : (kind : ℕ) → of_kind kind (token_at T c.at) ≡ Some k → Room T c₁ n 1
+  room_over_kind kind t = room_over (kind_token kind _ t).0
+
+-- one of a kind, and no node is written
+pub hit_kind_same : {A E : Type 0} {f : A → E} {L T D D' : List ℕ} {c : Counters} {v : E} {r : Counters} (kind : ℕ) {y : Token → List ℕ → Reader A} {n : Unit {0} → Reader A} {k : Token} {c₁ : Counters}
+    → of_kind kind (token_at T c.at) ≡ Some k → c₁ ≡ stepped c k
+    → Told f (Same c₁.nodes) (y k (text_of L k.start k.end)) L T D D' c₁ v r → Told f (Same c.nodes) (bump (is kind) y n) L T D D' c v r
+hit_kind_same kind h e g = let t = kind_token kind _ h in hit_same t.0 t.1 e g
 
 -- ---- a size suffix
 
@@ -48,7 +67,7 @@ unfolding suffix_read
 unknown_told t e w h = raised (raised_as w h) (answered (rw e) refl (ap (λ z. z.nodes) h.counters))
 
 module _ (L T D D' : List ℕ) (c : Counters) (from : ℕ) (t : Token) {run : List ℕ} {s : Span} (e : run ≡ run_of (text_of L t.start t.end)) where
-  pub suffix_dotted : 2 ≤ length run → s ≡ span_of t → {x : Diagnostic} {m : Counters} → x ≡ diagnostic DiagnosticKinds.dot_in_name Shapes.no_shape Problems.no_problem s (span from t.end) → Raised D D' c x m
+  pub suffix_dotted : 2 ≤ length run → s ≡ span_of t → {x : Diagnostic} {m : Counters} → x ≡ plain DiagnosticKinds.dot_in_name s (span from t.end) → Raised D D' c x m
       → Told suffix_read (Same c.nodes) (suffix_run from t (run_of (text_of L t.start t.end))) L T D D' c (Some (record { size = 0; span = s })) m
   unfolding suffix_run
   suffix_dotted n h w g = chosen (leb 2 (length (run_of (text_of L t.start t.end)))) _ (rw (sym e) (le-leb 2 (length run) n)) (unknown_told t h (w ∙ rw h) g)
@@ -60,7 +79,7 @@ module _ (L T D D' : List ℕ) (c : Counters) (from : ℕ) (t : Token) {run : Li
       unchosen (leb 2 (length (run_of (text_of L t.start t.end)))) _ (rw (sym e) (lt-leb 2 (length run) n))
       (rw (z, f) (answered (rw h) refl refl))
 
-  pub suffix_unknown : length run < 2 → s ≡ span_of t → size_of (run_of (text_of L t.start t.end)) ≡ None → {x : Diagnostic} {m : Counters} → {w : Span} → w ≡ span (run_start s) s.end → x ≡ diagnostic DiagnosticKinds.unknown_size_suffix Shapes.no_shape Problems.no_problem s w → Raised D D' c x m
+  pub suffix_unknown : length run < 2 → s ≡ span_of t → size_of (run_of (text_of L t.start t.end)) ≡ None → {x : Diagnostic} {m : Counters} → {w : Span} → w ≡ span (run_start s) s.end → x ≡ plain DiagnosticKinds.unknown_size_suffix s w → Raised D D' c x m
       → Told suffix_read (Same c.nodes) (suffix_run from t (run_of (text_of L t.start t.end))) L T D D' c (Some (record { size = 0; span = s })) m
   unfolding suffix_run known
   suffix_unknown n h z q w g =
@@ -95,6 +114,11 @@ module _ (t : Token) (x L T D : List ℕ) (c : Counters) where
       → Told (λ z. z) (Same c.nodes) (valued t (number_of t.detail x)) L T D D' c 0 m
   unfolding valued
   value_large e w h = rw e (raised (raised_as w h) (answered refl refl (raised_same h)))
+
+-- a scale behind its value
+pub value_scaled : (s : Setting) (shape : ℕ) (i : IndexRegister) (t : Token) (x : List ℕ) {L T D D₁ D₂ : List ℕ} {c c₁ : Counters} {n : ℕ} {v : Option IndexRegister} {r : Counters} → Told (λ z. z) (Same c₁.nodes) (scaled s shape i t n) L T D₁ D₂ c₁ v r
+    → Told (λ z. z) (Same c.nodes) (valued t (number_of t.detail x)) L T D D₁ c n c₁ → Told (λ z. z) (Same c.nodes) (scale_value s shape i t x) L T D D₂ c v r
+value_scaled s shape i t x k h = bound_as h (same h.held k)
 
 -- behind the token of a suffix
 pub suffix_taken : (from : ℕ) {L T D D' : List ℕ} {c c₁ : Counters} {v : Option Suffixed} {r : Counters} {k : Token} → token_at T c.at ≡ Some k → k.kind ≡ Kinds.size_suffix → c₁ ≡ stepped c k

@@ -1,41 +1,43 @@
 -- Register lists: a register behind a sign, an item, its bits and its node, and a turn of the list's loop.
 -- Assumes nothing.
 use mathlib.Core.Path.{◌≡◌, refl, sym, ◌∙◌, ap, ap₂, subst}
-use mathlib.Core.Bool.{Bool, true, false}
+use mathlib.Core.Bool.{true}
 use mathlib.Core.List.{List, [], ◌∷◌}
 use Prim.Native.Nat.{ℕ, zero, suc, ◌+◌, ◌-◌, ◌*◌, ◌/◌, ◌%◌, ◌^◌, ◌≤◌, ◌<◌, max}
 use native.Mathlib.Omega.{arith}
 use native.Mathlib.Numerals.{add-one}
-use borrow.Author.Tests.{eq-eqb, ne_eqb, lt-ltb, le-ltb}
+use borrow.Author.Tests.{lt-ltb, le-ltb}
 use lib.Bits.{bit_or, or_step, or_zero_l, or_zero_r}
-use lib.Dec.{eqb, ltb}
+use lib.Dec.{ltb}
 use lib.Pow.{pow-lt}
-use Rattle.names.specs.Choice.{pick}
 use Rattle.names.specs.Kinds
-use Rattle.names.specs.Registers.{register_of}
 use Rattle.names.specs.Tokens.{count, token_at}
-use Rattle.names.specs.Places.{text_of, place, there, nowhere, live}
+use Rattle.names.specs.Places.{text_of, live}
 use Rattle.names.specs.declared.tokens.Token.{Token}
 use Rattle.records.specs.Problems
-use Rattle.records.specs.Spans.{span_of}
+use Rattle.records.specs.Spans.{span_of, span_or}
 use Rattle.records.specs.declared.counters.Counters.{Counters}
 use Rattle.records.specs.Diagnostics.{register_expected_in_register_list}
-use Rattle.expressions.specs.Laws.{holds}
+use Rattle.expressions.specs.Reader.{of_kind}
+use Rattle.records.specs.NodeKinds
+use Rattle.records.specs.declared.node_kinds.NodeKind.{NodeKind}
+use Rattle.records.specs.declared.spans.Span.{Span}
 use Rattle.records.specs.Nodes.{node_record, words}
 use Rattle.records.specs.Stores.{PutTold}
 use Rattle.records.specs.Counters.{stepped}
 use Rattle.expressions_code.specs.Terms.{NodeTold}
 use Rattle.operand.specs.Operands.{single}
-use Rattle.operand.specs.Operand.{a_register, index_of, register_from, register_expected, ranged, list_item}
+use Rattle.operand.specs.Operand.{a_register, register_from, register_expected, ranged, list_item}
 use Rattle.operand.specs.Mask.{bits_from}
 use Rattle.records.specs.Rooms.{Room}
 use Rattle.expressions.specs.Told.{Raised, Told}
 use Rattle.operand_code.specs.Lookahead.{reg_at}
-use Rattle.operand_code.specs.Lists.{expected_at, RegisterTold, found, missing, item_of, RangedTold, rising, falling, ItemHeld, ItemTold, item_bytes}
+use Rattle.operand_code.specs.Lists.{RegisterTold, found, missing, item_of, RangedTold, rising, falling, ItemHeld, ItemTold, item_bytes}
 use Rattle.operand.specs.declared.forms.Register.{Register}
 use Rattle.operand_code.specs.declared.lists.Item.{Item}
-use Rattle.operand_code.proofs.lookahead.Names.{reg_small}
-use Rattle.expressions.specs.Paths.{answered, hereby, raised, hit, missed, miss, done, seen, beyond, chosen, unchosen}
+use Rattle.operand_code.proofs.lookahead.Names.{reg_is, reg_from, reg_small}
+use Rattle.expressions.specs.Paths.{answered, hereby, raised, hit, missed, hit_kind, miss_kind, seen, beyond, chosen, unchosen}
+use Rattle.std.proofs.lemmas.Option.{none-some}
 use Rattle.std.specs.Prelude.{Option, Some, None, option_map}
 
 -- ---- a register at a place
@@ -47,38 +49,13 @@ pub record IsRegister (t : Token) (x : List ℕ) (n : ℕ) : Type 0 where
   pub small : n < 16
 
 pub is_register_lem : (t : Token) (x : List ℕ) (n : ℕ) → reg_at t x ≡ Some n → IsRegister t x n
-unfolding reg_at a_register register_from index_of
-is_register_lem t x n h = go (eqb t.kind Kinds.identifier) refl h
-  where
-    go : (b : Bool) → eqb t.kind Kinds.identifier ≡ b → pick b (register_of x) None ≡ Some n → IsRegister t x n
-    go true q e = record { passes = rw (q, e); from = rw e; small = reg_small t x n h }
-    go false q e = let z : ◌≡◌ {A = ℕ} 0 1 = cc in absurd (omega arith)
-
-pub not_register : (t : Token) (x : List ℕ) → reg_at t x ≡ None → a_register t x ≡ false
-unfolding reg_at a_register
-not_register t x h = go (eqb t.kind Kinds.identifier) refl h
-  where
-    go : (b : Bool) → eqb t.kind Kinds.identifier ≡ b → pick b (register_of x) None ≡ None → a_register t x ≡ false
-    go true q e = rw (q, e)
-    go false q e = rw q
-
--- no register stands at the cursor
-pub none_there : (L T : List ℕ) (i : ℕ) (t : Token) → token_at T i ≡ Some t → reg_at t (text_of L t.start t.end) ≡ None → holds a_register (place L T i) ≡ false
-unfolding holds
-none_there L T i t h e = rw (there L T i t h) (not_register t _ e)
-
-pub none_at_end : (L T : List ℕ) (i : ℕ) → token_at T i ≡ None → holds a_register (place L T i) ≡ false
-unfolding holds
-none_at_end L T i h = rw (nowhere L T i h)
+is_register_lem t x n h = record { passes = reg_is t x n h; from = reg_from t x n h; small = reg_small t x n h }
 
 -- ---- a register behind a sign
 
 -- a diagnostic for each token that is passed
 pub room_on : {T : List ℕ} {c c₁ : Counters} → Room T c 0 1 → c₁.at ≤ count T → c₁.diagnostics + c.at ≤ c.diagnostics + c₁.at → Room T c₁ 0 1
 room_on h w q = omega (arith, h, w, q)
-
-pub room_behind : {T : List ℕ} {c c₁ : Counters} {t : Token} → Room T c 0 1 → token_at T c.at ≡ Some t → c₁ ≡ stepped c t → Room T c₁ 0 1
-room_behind {T} {c = c} {t = t} h g e = let n = live T c.at t g in rw e (omega (arith, h, n))
 
 pub record FoundAt (T : List ℕ) (c : Counters) (q : Register) (r : Counters) : Type 0 where
   pub on : r.at ≡ c.at + 1
@@ -99,15 +76,15 @@ found_at {L} {T} {c = c} {r = r} {q = q} (found t n h g e f d) w =
       quiet = ap (λ z. z.diagnostics) f;
       small = omega (arith, ap (λ (z : Register). z.index) z);
     }
-found_at (missing h e f) w = let z : ◌≡◌ {A = ℕ} 0 1 = cc in absurd (omega arith)
+found_at (missing h e f) w = absurd (none-some _ (sym e ∙ w))
 
 -- what the reader says where none stands
 pub expected : {A B : Type 0} {f : Option A → B} {Q : Option A → Counters → Type 0} {L T D D' : List ℕ} {c r : Counters} {v : B} (sign : ℕ)
-    → Raised D D' c (register_expected_in_register_list sign (expected_at (token_at T c.at) c.end)) r → v ≡ f None → Q None r → Told f Q (register_expected sign) L T D D' c v r
-unfolding register_expected expected_at
+    → Raised D D' c (register_expected_in_register_list sign (span_or (token_at T c.at) c.end)) r → v ≡ f None → Q None r → Told f Q (register_expected sign) L T D D' c v r
+unfolding register_expected span_or
 expected {f = f} {Q = Q} {L = L} {T = T} {D = D} {D' = D'} {c = c} {r = r} {v = v} sign h e q = go (token_at T c.at) refl h
   where
-    go : (p : Option Token) → token_at T c.at ≡ p → Raised D D' c (register_expected_in_register_list sign (expected_at p c.end)) r → Told f Q (register_expected sign) L T D D' c v r
+    go : (p : Option Token) → token_at T c.at ≡ p → Raised D D' c (register_expected_in_register_list sign (span_or p c.end)) r → Told f Q (register_expected sign) L T D D' c v r
     go (Some t) g h = seen (omega arith) g refl (raised h (answered e refl q))
     go None g h = beyond (omega arith) g (hereby (raised h (answered e refl q)))
 
@@ -153,6 +130,9 @@ low_cons : (n a r : ℕ) → a < 65536 → words (suc n) (a + 65536 * r) ≡ a �
 unfolding words
 low_cons n a r h = let e : (a + 65536 * r) % 65536 ≡ a = omega arith in let f : (a + 65536 * r) / 65536 ≡ r = omega arith in rw (e, f)
 
+abbrev Packed : Span → ℕ → Type 0
+Packed s n = (n ≡ s.start + 65536 * s.end) × (s.start < 65536) × (s.end < 65536)
+
 low_four : (a b c d : ℕ) → a < 65536 → b < 65536 → c < 65536 → d < 65536 → words 4 (a + 65536 * b + 4294967296 * (c + 65536 * d)) ≡ a ∷ b ∷ c ∷ d ∷ []
 unfolding words
 low_four a b c d h i j k =
@@ -161,15 +141,16 @@ low_four a b c d h i j k =
     ∙ low_cons 3 a _ h
     ∙ ap (λ l. a ∷ l) (low_cons 2 b _ i ∙ ap (λ l. b ∷ l) (low_cons 1 c _ j ∙ ap (λ l. c ∷ l) (low_cons 0 d 0 k)))
 
-pub node_told : {N N' : List ℕ} {c : Counters} (x : Item) {r : ℕ} → x.from.span.start < 65536 → x.from.span.end < 65536 → x.to.span.start < 65536 → x.to.span.end < 65536
-    → PutTold N N' c.nodes (node_record x.kind 0 x.from.index x.to.index x.span (words 4 (x.from.span.start + 65536 * x.from.span.end + 4294967296 * (x.to.span.start + 65536 * x.to.span.end)))) r
+pub node_told : {N N' : List ℕ} {c : Counters} (x : Item) {kind from to p q r : ℕ} → kind ≡ NodeKinds.number x.kind → from ≡ x.from.index → to ≡ x.to.index → Packed x.from.span p → Packed x.to.span q
+    → PutTold N N' c.nodes (node_record kind 0 from to x.span (words 4 (p + 4294967296 * q))) r
     → NodeTold N N' c (item_bytes x) (record { at = c.at; end = c.end; nodes = r; diagnostics = c.diagnostics })
 unfolding item_bytes
-node_told {N} {N'} {c} x {r} h i j k p = record {
+node_told {N} {N'} {c} x {r = r} k a b f t h = record {
   at = refl;
   end = refl;
   seen = refl;
-  put = subst (λ z. PutTold N N' c.nodes (node_record x.kind 0 x.from.index x.to.index x.span z) r) (low_four _ _ _ _ h i j k) p;
+  put = subst (λ z. PutTold N N' c.nodes (node_record (NodeKinds.number x.kind) 0 x.from.index x.to.index x.span z) r) (low_four _ _ _ _ f.1 f.2 t.1 t.2)
+      (rw (← k, ← a, ← b, ← f.0, ← t.0) h);
 }
 
 -- ---- an item
@@ -178,14 +159,10 @@ alone : (T : List ℕ) (c : Counters) (r : Register) → c.at ≤ count T → r.
 unfolding ItemHeld item_of
 alone T c r w n = record { same = refl; on = omega arith; within = w; quiet = omega arith; from_small = n; to_small = n }
 
-module _ {L T D : List ℕ} {c : Counters} (r : Register) {x : Item} (w : c.at ≤ count T) (n : r.index < 16) (e : x ≡ record { kind = 7; from = r; to = r; span = r.span }) where
-  pub single_end : token_at T c.at ≡ None → ItemTold L T D D c r (Some x) c
-  unfolding list_item item_of
-  single_end h = done h (answered (ap Some e) refl (alone T c r w n))
-
-  pub single_other : {t : Token} → token_at T c.at ≡ Some t → (t.kind ≡ Kinds.minus → ⊥) → ItemTold L T D D c r (Some x) c
-  unfolding list_item item_of
-  single_other h q = miss h (ne_eqb _ Kinds.minus q) (answered (ap Some e) refl (alone T c r w n))
+pub single_told : {L T D : List ℕ} {c : Counters} (r : Register) {x : Item} → c.at ≤ count T → r.index < 16 → x ≡ record { kind = NodeKind.Single; from = r; to = r; span = r.span }
+    → of_kind Kinds.minus (token_at T c.at) ≡ None → ItemTold L T D D c r (Some x) c
+unfolding list_item item_of
+single_told {T = T} {c = c} r w n e h = miss_kind Kinds.minus h (answered (ap Some e) refl (alone T c r w n))
 
 -- a range, two tokens behind c
 ranged_told : (c : Counters) {L T D D' : List ℕ} {c₁ : Counters} {r q : Register} {x : Item} {s : Counters} → c₁.at ≤ count T → c₁.at ≡ c.at + 2 → c₁.nodes ≡ c.nodes → c₁.diagnostics ≡ c.diagnostics
@@ -208,11 +185,11 @@ ranged_told c {c₁ = c₁} {r = r} {q = q} w a b d m n (falling h e f) =
     })))
 
 -- behind a minus
-module _ {L T D D₁ : List ℕ} {c c₁ : Counters} (r : Register) {t : Token} (h : token_at T c.at ≡ Some t) (k : t.kind ≡ Kinds.minus) (e : c₁ ≡ stepped c t) where
+module _ {L T D D₁ : List ℕ} {c c₁ : Counters} (r : Register) {t : Token} (h : of_kind Kinds.minus (token_at T c.at) ≡ Some t) (e : c₁ ≡ stepped c t) where
   pub range_none : {v : Option Register} {u : Counters} → RegisterTold L T D D₁ c₁ 45 v u → v ≡ None → ItemTold L T D D₁ c r None u
   unfolding list_item ItemHeld
-  range_none (found t₂ n h₂ g a b d) w = let z : ◌≡◌ {A = ℕ} 0 1 = cc in absurd (omega arith)
-  range_none (missing g a f) w = hit h (eq-eqb _ Kinds.minus k) e (missed g (expected Problems.after_minus f refl tt))
+  range_none (found t₂ n h₂ g a b d) w = absurd (none-some _ (sym w ∙ a))
+  range_none (missing g a f) w = hit_kind Kinds.minus h e (missed g (expected Problems.after_minus f refl tt))
 
   pub range_some : {D₂ : List ℕ} {v : Option Register} {u : Counters} {q : Register} {x : Item} {s : Counters} → r.index < 16 → RegisterTold L T D D₁ c₁ 45 v u → v ≡ Some q
       → RangedTold D₁ D₂ u r q x s → ItemTold L T D D₂ c r (Some x) s
@@ -225,9 +202,9 @@ module _ {L T D D₁ : List ℕ} {c c₁ : Counters} (r : Register) {t : Token} 
       let l : c₁.at ≡ c.at + 1 = ap (λ z. z.at) e in
       let o : c₁.nodes ≡ c.nodes = ap (λ z. z.nodes) e in
       let p : c₁.diagnostics ≡ c.diagnostics = ap (λ z. z.diagnostics) e in
-      hit h (eq-eqb _ Kinds.minus k) e
+      hit_kind Kinds.minus h e
       (hit h₂ y.passes b
       (subst (λ E. Told (option_map item_of) (ItemHeld T c) (ranged r (register_from t₂ (text_of L t₂.start t₂.end))) L T E D₂ u (Some i) s) d
       (subst (λ j. Told (option_map item_of) (ItemHeld T c) (ranged r j) L T D₁ D₂ u (Some i) s) z
       (ranged_told c f.within (omega arith) (omega arith) (omega arith) m f.small x))))
-  range_some m (missing g a f) w x = let z : ◌≡◌ {A = ℕ} 0 1 = cc in absurd (omega arith)
+  range_some m (missing g a f) w x = absurd (none-some _ (sym a ∙ w))

@@ -1,23 +1,21 @@
 -- A turn of the register list's loop: the items so far, their mask and their nodes, and what the rest of the list tells of the whole.
 -- Assumes nothing.
 use mathlib.Core.Path.{◌≡◌, refl, sym, ◌∙◌, ap, ap₂, subst}
-use mathlib.Core.Bool.{Bool, true, false}
 use mathlib.Core.List.{List, [], ◌∷◌, ◌++◌, append_assoc, append-nil}
 use Prim.Native.Nat.{ℕ, ◌+◌, ◌-◌, ◌*◌, ◌≤◌, ◌<◌}
 use native.Mathlib.Omega.{arith}
 use lib.Bits.{bit_or, or_zero_l, or_zero_r}
-use lib.Dec.{eqb}
 use lib.ListN.{length, take, length-append}
-use Rattle.names.specs.Choice.{pick}
 use Rattle.names.specs.Kinds
 use Rattle.names.specs.Tokens.{count, token_at}
-use Rattle.names.specs.Places.{text_of, place, below, there, nowhere}
+use Rattle.names.specs.Places.{text_of, place, below}
 use Rattle.names.specs.declared.tokens.Token.{Token}
 use Rattle.records.specs.Problems
+use Rattle.records.specs.Spans.{span}
+use Rattle.records.specs.declared.spans.Span.{Span}
 use Rattle.records.specs.declared.counters.Counters.{Counters}
 use Rattle.expressions.specs.Expressions.{fuel}
-use Rattle.expressions.specs.Laws.{holds}
-use Rattle.expressions.specs.Reader.{is, run}
+use Rattle.expressions.specs.Reader.{of_kind, run}
 use Rattle.records.specs.Counters.{stepped}
 use Rattle.expressions_code.specs.Terms.{NodeTold}
 use Rattle.expressions.specs.declared.reading.Setting.{Setting}
@@ -31,12 +29,13 @@ use Rattle.operand.specs.Fuel.{list_equation}
 use Rattle.records.specs.Rooms.{Room}
 use Rattle.expressions.specs.Told.{Told}
 use Rattle.operand_code.specs.Operands.{HeldBy, Stored, OperandTold}
-use Rattle.operand_code.specs.Lists.{RegisterTold, found, missing, item_of, Behind, ItemHeld, ItemTold, item_bytes, slashed, list_record, ListAsks}
+use Rattle.operand_code.specs.Lists.{RegisterTold, found, missing, item_of, Behind, ItemHeld, ItemTold, item_bytes, list_record, ListAsks}
 use Rattle.operand.specs.declared.forms.Register.{Register}
 use Rattle.operand_code.specs.declared.lists.Item.{Item}
-use Rattle.expressions.specs.Paths.{held_as, retold, answered, hereby, bound, hit, missed}
+use Rattle.expressions.specs.Paths.{held_as, retold, answered, hereby, bound, hit, missed, hit_kind, miss_kind}
 use Rattle.operand_code.proofs.Rooms.{map_is, map_not}
 use Rattle.operand_code.proofs.lists.Ranges.{or_assoc, is_register_lem, room_on, found_at, expected}
+use Rattle.std.proofs.lemmas.Option.{none-some}
 use Rattle.std.specs.Prelude.{Option, Some, None, option_map}
 use Rattle.operand.specs.declared.forms.OperandRecord.{OperandRecord}
 
@@ -68,29 +67,6 @@ unfolding ItemHeld
 item_behind {L} {T} {c = c} r {s = s} {y = y} h e =
     let x = map_is item_of _ (sym h.what ∙ e) in
     subst (λ z. Behind T c z s) x.form (held_as h x.is)
-
--- ---- the slash
-
-pub slash_is : (p : Option Token) (t : Token) → Some t ≡ slashed p → (p ≡ Some t) × (eqb t.kind Kinds.slash ≡ true)
-unfolding slashed
-slash_is (Some k) t e = go (eqb k.kind Kinds.slash) refl e
-  where
-    go : (b : Bool) → eqb k.kind Kinds.slash ≡ b → Some t ≡ pick b (Some k) None → (Some k ≡ Some t) × (eqb t.kind Kinds.slash ≡ true)
-    go true q g = let z : k ≡ t = cc in (ap Some z, subst (λ j. eqb j.kind Kinds.slash ≡ true) z q)
-    go false q g = let z : ◌≡◌ {A = ℕ} 0 1 = cc in absurd (omega arith)
-slash_is None t e = let z : ◌≡◌ {A = ℕ} 0 1 = cc in absurd (omega arith)
-
-no_slash : (L T : List ℕ) (i : ℕ) → None ≡ slashed (token_at T i) → holds (is Kinds.slash) (place L T i) ≡ false
-unfolding slashed holds
-no_slash L T i e = go (token_at T i) refl e
-  where
-    other : (t : Token) (b : Bool) → eqb t.kind Kinds.slash ≡ b → None ≡ pick b (Some t) None → b ≡ false
-    other t true q g = let z : ◌≡◌ {A = ℕ} 0 1 = cc in absurd (omega arith)
-    other t false q g = refl
-
-    go : (p : Option Token) → token_at T i ≡ p → None ≡ slashed p → holds (is Kinds.slash) (place L T i) ≡ false
-    go (Some t) h g = rw (there L T i t h) (other t (eqb t.kind Kinds.slash) refl g)
-    go None h g = rw (nowhere L T i h)
 
 -- ---- the loop
 
@@ -175,27 +151,25 @@ module _ {L T N₀ D₀ N D D₁ : List ℕ} {c : Counters} {t₀ : Setting} {fi
       }
 
 module _ {L T N₀ D₀ N D : List ℕ} {c : Counters} {t₀ : Setting} {first : Register} {mask : ℕ} {e : Counters} (w : Reached L T N₀ D₀ N D c t₀ first mask e) where
-  pub ends : {x : OperandRecord} → None ≡ slashed (token_at T e.at) → x ≡ list_record t₀.start e.end mask → OperandTold (parse_register_list t₀ first) L T D₀ N D c (Some x) e
+  pub ends : {x : OperandRecord} {s : Span} → of_kind Kinds.slash (token_at T e.at) ≡ None → s ≡ span t₀.start e.end → x ≡ list_record s.start s.end mask → OperandTold (parse_register_list t₀ first) L T D₀ N D c (Some x) e
   unfolding parse_register_list next_item listed record_of HeldBy nodes_o size_o
-  ends h g = record {
-    told = w.whole N D _ _ (missed (no_slash L T e.at h)
-        (hereby (answered (ap Some g ∙ ap (λ m. Some (list_record t₀.start e.end m)) w.joined) refl (sym w.bytes, sym w.total))));
+  ends h q g = record {
+    told = w.whole N D _ _ (miss_kind Kinds.slash h
+        (hereby (answered (ap Some g ∙ ap₂ (λ (z : Span) m. Some (list_record z.start z.end m)) q w.joined) refl (sym w.bytes, sym w.total))));
   }
 
-  module _ {D₁ : List ℕ} {t : Token} {c₁ : Counters} {v : Option Register} {u : Counters} (h : Some t ≡ slashed (token_at T e.at)) (k : c₁ ≡ stepped e t) where
+  module _ {D₁ : List ℕ} {t : Token} {c₁ : Counters} {v : Option Register} {u : Counters} (h : of_kind Kinds.slash (token_at T e.at) ≡ Some t) (k : c₁ ≡ stepped e t) where
     pub ends_expected : RegisterTold L T D D₁ c₁ 47 v u → v ≡ None → OperandTold (parse_register_list t₀ first) L T D₀ N D₁ c None u
     unfolding parse_register_list next_item HeldBy
-    ends_expected (found t₂ n h₂ g a b d) r = let y : ◌≡◌ {A = ℕ} 0 1 = cc in absurd (omega arith)
+    ends_expected (found t₂ n h₂ g a b d) r = absurd (none-some _ (sym r ∙ a))
     ends_expected (missing g a f) r =
-        let p = slash_is (token_at T e.at) t h in
         record {
-          told = w.whole N D₁ _ _ (hit p.0 p.1 k (missed g (expected Problems.after_slash f refl tt)));
+          told = w.whole N D₁ _ _ (hit_kind Kinds.slash h k (missed g (expected Problems.after_slash f refl tt)));
         }
 
     pub again : {q : Register} → RegisterTold L T D D₁ c₁ 47 v u → v ≡ Some q → length N ≡ length N₀ → Going L T N₀ D₀ N D₁ c t₀ first mask u q
     unfolding next_item
     again {q} (found t₂ n h₂ g a b d) r l =
-        let p = slash_is (token_at T e.at) t h in
         let y = is_register_lem t₂ _ n g in
         let z : ◌≡◌ {A = Register} q (register_from t₂ (text_of L t₂.start t₂.end)) = cc y.from in
         let j : RegisterTold L T D D₁ c₁ 47 v u = found t₂ n h₂ g a b d in
@@ -214,8 +188,8 @@ module _ {L T N₀ D₀ N D : List ℕ} {c : Counters} {t₀ : Setting} {first :
           spent = omega (arith, w.spent);
           room = room_on w.room o.within (omega arith);
           small = o.small;
-          whole = λ N' D' x s f. w.whole N' D' x s (hit p.0 p.1 k (hit h₂ y.passes b
+          whole = λ N' D' x s f. w.whole N' D' x s (hit_kind Kinds.slash h k (hit h₂ y.passes b
               (subst (λ E. Told (option_map record_of) (Stored N') (list_loop fuel t₀ (w.items ++ (w.item ∷ [])) (register_from t₂ (text_of L t₂.start t₂.end))) L T E D' u x s) d
               (subst (λ j. Told (option_map record_of) (Stored N') (list_loop fuel t₀ (w.items ++ (w.item ∷ [])) j) L T D₁ D' u x s) z f))));
         }
-    again (missing g a f) r l = let z : ◌≡◌ {A = ℕ} 0 1 = cc in absurd (omega arith)
+    again (missing g a f) r l = absurd (none-some _ (sym a ∙ r))

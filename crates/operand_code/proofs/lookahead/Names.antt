@@ -1,6 +1,7 @@
 -- What a name is by the definition's tests and by the code's functions.
 -- Assumes nothing.
 use Rattle.std.proofs.Common.{Option, Some, None, is_some}
+use Rattle.std.proofs.lemmas.Option.{none-some}
 use mathlib.Core.Path.{◌≡◌, refl, sym, ◌∙◌, ap}
 use mathlib.Core.Bool.{Bool, true, false, not}
 use mathlib.Core.List.{List, [], ◌∷◌}
@@ -78,7 +79,7 @@ module _ (t : Token) (x : List ℕ) where
       where
         go : (b : Bool) → pick b (register_of x) None ≡ Some r → register_of x ≡ Some r
         go true e = e
-        go false e = absurd (true_false (sym (ap is_register e)))
+        go false e = absurd (none-some _ e)
 
     pub reg_from : register_from t x ≡ record { index = r; span = span_of t }
     unfolding register_from index_of
@@ -97,7 +98,7 @@ abbrev small : Option ℕ → Type 0
 small q = (r : ℕ) → q ≡ Some r → r < 16
 
 small_not : small None
-small_not r e = absurd (true_false (sym (ap is_register e)))
+small_not r e = absurd (none-some _ e)
 
 small_is : (n : ℕ) → n < 16 → small (Some n)
 small_is n l r e = let g : n ≡ r = cc in omega arith
@@ -133,18 +134,18 @@ address_hit t x {r} h = go (reg_at t x) refl h
   where
     found : (n : ℕ) → reg_at t x ≡ Some n → (b : Bool) → leb 8 n ≡ b → pick b (Some n) None ≡ Some r → (an_address_register t x ≡ true) × (register_from t x ≡ record { index = r; span = span_of t })
     found n e true q g = let z : n ≡ r = cc in (address_is t x n e (leb-true 8 n q), reg_from t x n e ∙ ap (λ m. record { index = m; span = span_of t }) z)
-    found n e false q g = let z : ◌≡◌ {A = ℕ} 0 1 = cc in absurd (omega arith)
+    found n e false q g = absurd (none-some _ g)
 
     go : (m : Option ℕ) → reg_at t x ≡ m → address_of m ≡ Some r → (an_address_register t x ≡ true) × (register_from t x ≡ record { index = r; span = span_of t })
     go (Some n) e g = found n e (leb 8 n) refl g
-    go None e g = let z : ◌≡◌ {A = ℕ} 0 1 = cc in absurd (omega arith)
+    go None e g = absurd (none-some _ g)
 
 pub address_miss : (t : Token) (x : List ℕ) → address_of (reg_at t x) ≡ None → an_address_register t x ≡ false
 unfolding address_of
 address_miss t x h = go (reg_at t x) refl h
   where
     found : (n : ℕ) → reg_at t x ≡ Some n → (b : Bool) → leb 8 n ≡ b → pick b (Some n) None ≡ None → an_address_register t x ≡ false
-    found n e true q g = let z : ◌≡◌ {A = ℕ} 0 1 = cc in absurd (omega arith)
+    found n e true q g = absurd (none-some _ (sym g))
     found n e false q g = address_not t x n e (λ l. let z = leb-false 8 n q in absurd (omega arith))
 
     go : (m : Option ℕ) → reg_at t x ≡ m → address_of m ≡ None → an_address_register t x ≡ false
@@ -169,9 +170,9 @@ unfolding suppressed_at is_suppressed
 suppressed_is s i t x r h = go (eqb s.mark i) (eqb t.kind Kinds.identifier) h
   where
     go : (b k : Bool) → pick b None (pick k (suppressed_of x) None) ≡ Some (Suppressed.Register r) → suppressed_of x ≡ Some (Suppressed.Register r)
-    go true k e = absurd (true_false (sym (ap is_suppressed e)))
+    go true k e = absurd (none-some _ e)
     go false true e = e
-    go false false e = absurd (true_false (sym (ap is_suppressed e)))
+    go false false e = absurd (none-some _ e)
 
 -- a name that spells a suppressed register spells no register
 no_both : (y : List ℕ) {r : ℕ} → suppressed y ≡ Some (Suppressed.Register r) → register y ≡ None
@@ -182,16 +183,16 @@ no_both (c ∷ d ∷ []) {r} h = go (eqb c 122) (same (d ∷ []) (bytes "pc")) h
   where
     go : (a b : Bool) → pick a (pick b (Some Suppressed.ProgramCounter) None) None ≡ Some (Suppressed.Register r) → pair c d ≡ None
     go true true e = let z : ◌≡◌ {A = ℕ} 0 1 = cc in absurd (omega arith)
-    go true false e = let z : ◌≡◌ {A = ℕ} 0 1 = cc in absurd (omega arith)
-    go false b e = let z : ◌≡◌ {A = ℕ} 0 1 = cc in absurd (omega arith)
+    go true false e = absurd (none-some _ e)
+    go false b e = absurd (none-some _ e)
 no_both (c ∷ d ∷ e ∷ es) h = refl
 
 -- as the code asks it: the register that is an index
 index_of_lem : (z : Option Suppressed) {r : ℕ} → suppressed_reg z ≡ Some r → z ≡ Some (Suppressed.Register r)
 unfolding suppressed_reg
 index_of_lem (Some (Suppressed.Register n)) h = cc
-index_of_lem (Some Suppressed.ProgramCounter) h = let z : ◌≡◌ {A = ℕ} 0 1 = cc in absurd (omega arith)
-index_of_lem None h = let z : ◌≡◌ {A = ℕ} 0 1 = cc in absurd (omega arith)
+index_of_lem (Some Suppressed.ProgramCounter) h = absurd (none-some _ h)
+index_of_lem None h = absurd (none-some _ h)
 
 index_asked : (z : Option Suppressed) → is_suppressed_register z ≡ is_some (suppressed_reg z)
 unfolding suppressed_reg is_suppressed_register
@@ -226,16 +227,9 @@ module _ (s : Setting) (i : ℕ) (t : Token) (x : List ℕ) where
   unfolding an_index is_suppressed_register
   an_index_lem = rw (unmarked_is s i is_suppressed_register t x refl, index_asked (suppressed_at s i t x))
 
-  pub a_base_or_an_index_lem : a_base_or_an_index s i t x ≡ either (either (a_register t x) (a_program_counter t x)) (is_some (suppressed_at s i t x))
+  pub a_base_or_an_index_lem : a_base_or_an_index s i t x ≡ either (a_program_counter t x) (either (a_register t x) (is_some (suppressed_at s i t x)))
   unfolding a_base_or_an_index is_suppressed
-  a_base_or_an_index_lem =
-      regrouped (a_program_counter t x) (a_register t x) _ ∙ rw (unmarked_is s i is_suppressed t x refl, suppressed_asked (suppressed_at s i t x))
-    where
-      regrouped : (a b d : Bool) → either a (either b d) ≡ either (either b a) d
-      regrouped true true d = refl
-      regrouped true false d = refl
-      regrouped false true d = refl
-      regrouped false false d = refl
+  a_base_or_an_index_lem = rw (unmarked_is s i is_suppressed t x refl, suppressed_asked (suppressed_at s i t x))
 
 -- ---- registers as the code has them
 

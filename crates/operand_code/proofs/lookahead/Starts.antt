@@ -5,11 +5,9 @@ use mathlib.Core.Bool.{Bool, true, false, not}
 use mathlib.Core.List.{List}
 use Prim.Native.Nat.{ℕ, ◌+◌, ◌-◌}
 use native.Mathlib.Omega.{arith}
-use borrow.Author.Tests.{ne_eqb, ltb-true, ltb-false}
-use lib.Dec.{eqb, ltb}
-use Rattle.names.specs.Choice.{pick, both, either}
-use Rattle.names.specs.Laws.{both_false, both_true, either_false}
-use Rattle.names.specs.Kinds
+use borrow.Author.Tests.{ltb-true, ltb-false}
+use lib.Dec.{ltb}
+use Rattle.names.specs.Choice.{pick, both}
 use Rattle.names.specs.Places.{Place, nothing, stands, text_of, place}
 use Rattle.names.specs.Registers.{suppressed_of}
 use Rattle.names.specs.Tokens.{token_at}
@@ -17,7 +15,7 @@ use Rattle.names.specs.declared.tokens.Token.{Token}
 use Rattle.names.specs.declared.registers.Suppressed.{Suppressed}
 use Rattle.expressions.proofs.Costs.{true_false}
 use Rattle.expressions.specs.Laws.{holds}
-use Rattle.expressions.specs.Reader.{Test, Reader, bump, peek, any}
+use Rattle.expressions.specs.Reader.{Test, Reader, bump, peek}
 use Rattle.records.specs.Counters.{stepped}
 use Rattle.expressions.specs.declared.reading.Setting.{Setting}
 use Rattle.records.specs.declared.counters.Counters.{Counters}
@@ -27,30 +25,8 @@ use Rattle.operand_code.specs.Lookahead.{reg_at, suppressed_at, full_index_start
 use Rattle.operand.specs.declared.forms.BaseRegister.{BaseRegister}
 use Rattle.operand.specs.declared.forms.Registers.{Registers}
 use Rattle.expressions.specs.Paths.{hereby, hit, miss, done, passed, unseen, whether}
-use Rattle.operand_code.proofs.lookahead.Names.{holds_at, holds_end, an_address, reg_is, reg_from, address_is, address_not, unmarked_is, suppressed_is, suppressed_asked}
-use Rattle.std.specs.Prelude.{Some, None, Option, is_some, ◌⊎◌}
-use Rattle.std.proofs.Math.Logic.{inl, inr}
-
--- ---- what follows an index
-
-module _ (p q : Bool) (t : Token) (x : List ℕ) where
-  pub closes_sized : (t.kind ≡ Kinds.size_suffix) ⊎ (t.kind ≡ Kinds.star) → closes p q t x ≡ true
-  unfolding closes size_or_scale
-  closes_sized (inl h) = simp (h, both_false)
-  closes_sized (inr h) = simp (h, both_false)
-
-  pub closes_paren : t.kind ≡ Kinds.right_paren → closes p q t x ≡ p
-  unfolding closes size_or_scale
-  closes_paren h = simp (h, both_false, both_true, either_false)
-
-  pub closes_comma : t.kind ≡ Kinds.comma → closes p q t x ≡ q
-  unfolding closes size_or_scale
-  closes_comma h = simp (h, both_false, both_true, either_false)
-
-  pub closes_not : ((t.kind ≡ Kinds.size_suffix) ⊎ (t.kind ≡ Kinds.star) → ⊥) → (t.kind ≡ Kinds.right_paren → ⊥) → (t.kind ≡ Kinds.comma → ⊥) → closes p q t x ≡ false
-  unfolding closes size_or_scale
-  closes_not a b c =
-      simp (ne_eqb _ Kinds.size_suffix (λ e. a (inl e)), ne_eqb _ Kinds.star (λ e. a (inr e)), ne_eqb _ Kinds.right_paren b, ne_eqb _ Kinds.comma c, both_false)
+use Rattle.operand_code.proofs.lookahead.Names.{an_address, reg_is, reg_from, address_is, address_not, unmarked_is, suppressed_is}
+use Rattle.std.specs.Prelude.{Some, None, Option}
 
 -- no parenthesis and no comma
 pub closes_neither : (p : Place) → holds (closes false false) p ≡ holds size_or_scale p
@@ -67,45 +43,6 @@ register_starts t x r p h = go (ltb r 8) refl
     go : (b : Bool) → ltb r 8 ≡ b → holds (closes b false) p ≡ pick (an_address_register t x) (holds (closes false false) p) (both (a_register t x) (holds (closes true false) p))
     go true q = let l = ltb-true r 8 q in rw (address_not t x r h (λ g. omega arith), reg_is t x r h)
     go false q = rw (address_is t x r h (ltb-false r 8 q))
-
-module _ (s : Setting) (L T : List ℕ) (i : ℕ) where
-  pub full_at : (k : Token) → token_at T i ≡ Some k
-      → full_index_starts s (place L T) i ≡ pick (is_some (suppressed_at s i k (text_of L k.start k.end))) (holds (closes true true) (place L T (i + 1))) (pick (an_address_register k (text_of L k.start k.end)) (holds (closes false false) (place L T (i + 1))) (both (a_register k (text_of L k.start k.end)) (holds (closes true false) (place L T (i + 1)))))
-  unfolding full_index_starts is_suppressed
-  full_at k h =
-      rw (holds_at (unmarked s i is_suppressed) L T i k h ∙ unmarked_is s i is_suppressed k _ refl ∙ suppressed_asked _, holds_at an_address_register L T i k h, holds_at a_register L T i k h)
-
-  pub full_end : token_at T i ≡ None → full_index_starts s (place L T) i ≡ false
-  unfolding full_index_starts
-  full_end h = rw (holds_end (unmarked s i is_suppressed) L T i h, holds_end an_address_register L T i h, holds_end a_register L T i h)
-
--- ---- where a base begins
-
-abbrev based : Test
-based t x = either (a_register t x) (a_program_counter t x)
-
-abbrev closed : Test
-closed t x = either (eqb t.kind Kinds.right_paren) (eqb t.kind Kinds.comma)
-
--- a parenthesis, a comma or the end
-abbrev pub ends : Place → Bool
-ends p = either (not (holds any p)) (holds closed p)
-
-module _ (L T : List ℕ) (i : ℕ) where
-  pub ends_at : (k : Token) → token_at T i ≡ Some k → ends (place L T i) ≡ either (eqb k.kind Kinds.right_paren) (eqb k.kind Kinds.comma)
-  ends_at k h = rw (holds_at any L T i k h, holds_at closed L T i k h)
-
-  pub ends_end : token_at T i ≡ None → ends (place L T i) ≡ true
-  ends_end h = rw (holds_end any L T i h)
-
-  pub base_starts_at : (k : Token) → token_at T i ≡ Some k
-      → base_starts (place L T) i ≡ both (either (a_register k (text_of L k.start k.end)) (a_program_counter k (text_of L k.start k.end))) (ends (place L T (i + 1)))
-  unfolding base_starts
-  base_starts_at k h = rw (holds_at based L T i k h)
-
-  pub base_starts_end : token_at T i ≡ None → base_starts (place L T) i ≡ false
-  unfolding base_starts
-  base_starts_end h = rw (holds_end based L T i h)
 
 -- ---- the base that a token is
 

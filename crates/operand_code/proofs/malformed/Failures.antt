@@ -10,8 +10,8 @@ use Rattle.records.specs.declared.counters.Counters.{Counters}
 use Rattle.records.specs.Diagnostics.{malformed_operand, malformed_open}
 use Rattle.records.specs.Spans.{span, span_of, no_span}
 use Rattle.expressions.specs.Reader.{answer, raise}
-use Rattle.expressions.specs.Told.{Raised, RaisedOver, over, ended, Told}
-use Rattle.expressions.specs.Paths.{answered, hereby, raised, hit, done}
+use Rattle.expressions.specs.Told.{Raised, RaisedOver, over, ended, Told, Same}
+use Rattle.expressions.specs.Paths.{answered, hereby, raised, hit, done, over_same}
 use Rattle.expressions.specs.declared.reading.Setting.{Setting}
 use Rattle.operand.specs.Operand.{malformed, unclosed, not_an_address_register, stepped_over}
 use Rattle.std.specs.Prelude.{Option, None}
@@ -40,3 +40,8 @@ pub failed_over : {A E : Type 0} {f : Option A → E} {Q : Option A → Counters
 unfolding stepped_over
 failed_over s shape problem (over t e h) w u q = hit e refl refl (failed_malformed s shape problem h w u q)
 failed_over s shape problem (ended e h) w u q = done e (failed_malformed s shape problem h w u q)
+
+-- the same, of an answer that the code has as it is
+pub failed_over_same : {A : Type 0} (s : Setting) (shape problem : ℕ) {L T D D' : List ℕ} {c m : Counters}
+    → RaisedOver T D D' c (λ l. malformed_operand shape problem (span s.start l) no_span) m → Told (λ (z : Option A). z) (Same c.nodes) (stepped_over s shape problem) L T D D' c None m
+failed_over_same s shape problem h = failed_over s shape problem h refl refl (over_same h)

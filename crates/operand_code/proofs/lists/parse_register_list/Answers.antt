@@ -1,12 +1,12 @@
 -- `operand_code::lists::parse_register_list` meets its contract. The loop's invariant: the mask and the nodes are those of the items so far.
 -- Assumes nothing.
-use mathlib.Core.Path.{sym, ◌∙◌}
+use mathlib.Core.Path.{refl, sym, ◌∙◌}
 use native.Mathlib.Omega.{arith}
-use Rattle.records.specs.Counters.{over_is}
-use Rattle.operand_code.proofs.lists.Ranges.{room_behind, found_at}
-use Rattle.operand_code.proofs.lists.Turns.{started, item_behind, ends_none, reached, ends, slash_is, ends_expected, again}
+use Rattle.names.specs.Kinds
+use Rattle.operand_code.proofs.indexes.Returns.{over_room, room_over_kind}
+use Rattle.operand_code.proofs.lists.Ranges.{found_at}
+use Rattle.operand_code.proofs.lists.Turns.{started, item_behind, ends_none, reached, ends, ends_expected, again}
 use Rattle.operand_code.proofs.lists.parse_register_list.Goals as goal
-use mathlib.Core.Path.{refl}
 
 pub loop-item-init : goal.loop-item-init
 loop-item-init c =
@@ -27,12 +27,12 @@ put_item-requires c =
 pub expect_register-requires : goal.expect_register-requires
 expect_register-requires c =
     let w = reached c.loop-item.invariant.0 c.list_item.ensures.told c.in_ok-item.was c.put_item.ensures c.range_bits-mask.ensures in
-    room_behind w.room (slash_is _ _ (sym c.in-Some.is ∙ c.slash_at.ensures)).0 (over_is (omega (arith, w.room)) c.step_over.ensures)
+    room_over_kind w.room c.step_over.ensures Kinds.slash (sym c.peek_kind.ensures ∙ c.in-Some.is)
 
 pub returns-in_err-r-clause-told : goal.returns-in_err-r-clause-told
 returns-in_err-r-clause-told c =
     let w = reached c.loop-item.invariant.0 c.list_item.ensures.told c.in_ok-item.was c.put_item.ensures c.range_bits-mask.ensures in
-    rw c.from_residual-in_err-r.ensures (ends_expected w (sym c.in-Some.is ∙ c.slash_at.ensures) (over_is (omega (arith, w.room)) c.step_over.ensures) c.expect_register.ensures.told c.in_err-r.was)
+    rw c.from_residual-in_err-r.ensures (ends_expected w (sym c.peek_kind.ensures ∙ c.in-Some.is) (over_room w.room c.step_over.ensures) c.expect_register.ensures.told c.in_err-r.was)
 
 pub loop-item-smaller : goal.loop-item-smaller
 loop-item-smaller c =
@@ -41,10 +41,10 @@ loop-item-smaller c =
 pub loop-item-preserved : goal.loop-item-preserved
 loop-item-preserved c =
     let w = reached c.loop-item.invariant.0 c.list_item.ensures.told c.in_ok-item.was c.put_item.ensures c.range_bits-mask.ensures in (
-      again w (sym c.in-Some.is ∙ c.slash_at.ensures) (over_is (omega (arith, w.room)) c.step_over.ensures) c.expect_register.ensures.told c.in_ok-r.was (omega (arith, c.put_item.auto, c.loop-item.invariant.0)),
+      again w (sym c.peek_kind.ensures ∙ c.in-Some.is) (over_room w.room c.step_over.ensures) c.expect_register.ensures.told c.in_ok-r.was (omega (arith, c.put_item.auto, c.loop-item.invariant.0)),
       c.expect_register.ensures.lent ∙ c.list_item.ensures.lent ∙ c.loop-item.invariant.1,
     )
 
 pub returns-clause-told : goal.returns-clause-told
 returns-clause-told c =
-    ends (reached c.loop-item.invariant.0 c.list_item.ensures.told c.in_ok-item.was c.put_item.ensures c.range_bits-mask.ensures) (sym c.in_default.is ∙ c.slash_at.ensures) c.listed.ensures
+    ends (reached c.loop-item.invariant.0 c.list_item.ensures.told c.in_ok-item.was c.put_item.ensures c.range_bits-mask.ensures) (sym c.peek_kind.ensures ∙ c.in_default.is) c.span_to.ensures c.listed.ensures

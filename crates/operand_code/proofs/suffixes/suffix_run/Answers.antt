@@ -22,12 +22,12 @@ size_code Short = refl
 
 pub returns-then-run-ge2-clause-told : goal.returns-then-run-ge2-clause-told
 returns-then-run-ge2-clause-told c =
-    suffix_dotted _ _ _ _ _ _ _ (c.suffix_run-run.ensures ∙ ap run_of c.text_of.ensures) c.if-run-ge2.true c.span_of-span.ensures c.diagnostic.ensures (told_one (omega (arith, c.requires)) c.raise.ensures.told c.raise.ensures.counted)
+    suffix_dotted _ _ _ _ _ _ _ (c.suffix_run-run.ensures ∙ ap run_of c.text_of.ensures) c.if-run-ge2.true c.from-span.ensures c.plain.ensures (told_one (omega (arith, c.requires)) c.raise.ensures.told c.raise.ensures.counted)
 
 pub returns-in-Some-clause-told : goal.returns-in-Some-clause-told
 returns-in-Some-clause-told c =
-    suffix_known _ _ _ c.args.out.now.diagnostics.now _ _ _ (c.suffix_run-run.ensures ∙ ap run_of c.text_of.ensures) c.if-run-ge2.false c.span_of-span.ensures (sym (ap size_of (c.suffix_run-run.ensures ∙ ap run_of c.text_of.ensures)) ∙ sym c.from_run.ensures.size ∙ c.in-Some.is) (size_code c.in-Some.n)
+    suffix_known _ _ _ c.args.out.now.diagnostics.now _ _ _ (c.suffix_run-run.ensures ∙ ap run_of c.text_of.ensures) c.if-run-ge2.false c.from-span.ensures (sym (ap size_of (c.suffix_run-run.ensures ∙ ap run_of c.text_of.ensures)) ∙ sym c.from_run.ensures.size ∙ c.in-Some.is) (size_code c.in-Some.n)
 
 pub returns-in-None-clause-told : goal.returns-in-None-clause-told
 returns-in-None-clause-told c =
-    suffix_unknown _ _ _ _ _ _ _ (c.suffix_run-run.ensures ∙ ap run_of c.text_of.ensures) c.if-run-ge2.false c.span_of-span.ensures (sym (ap size_of (c.suffix_run-run.ensures ∙ ap run_of c.text_of.ensures)) ∙ sym c.from_run.ensures.size ∙ c.in-None.is) c.run_span-text.ensures c.diagnostic-in-None.ensures (told_one (omega (arith, c.requires)) c.raise-in-None.ensures.told c.raise-in-None.ensures.counted)
+    suffix_unknown _ _ _ _ _ _ _ (c.suffix_run-run.ensures ∙ ap run_of c.text_of.ensures) c.if-run-ge2.false c.from-span.ensures (sym (ap size_of (c.suffix_run-run.ensures ∙ ap run_of c.text_of.ensures)) ∙ sym c.from_run.ensures.size ∙ c.in-None.is) c.run_span-text.ensures c.plain-in-None.ensures (told_one (omega (arith, c.requires)) c.raise-in-None.ensures.told c.raise-in-None.ensures.counted)
