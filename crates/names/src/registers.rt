@@ -4,7 +4,7 @@ ghost use Rattle.names.specs.Letters.{lower};
 ghost use Rattle.names.specs.Registers.{first_of_bank, program_counter, special_of, reserved};
 ghost use Rattle.names.specs.Cases.{RegisterTold, SpecialTold, SuppressedTold};
 
-use crate::letters::{eq_ignore_case, lower, spells};
+use crate::letters::{lower, spells};
 
 // The last digit of a register.
 const LAST_DIGIT: u8 = b'7';
@@ -115,7 +115,7 @@ pub fn suppressed_register(name: &[u8]) -> Option<Suppressed>
     let [letter, rest @ ..] = name else {
         return None;
     };
-    if !eq_ignore_case(*letter, b'z') {
+    if !letter.eq_ignore_ascii_case(&b'z') {
         return None;
     }
     if is_program_counter(rest) {
