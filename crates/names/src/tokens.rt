@@ -25,14 +25,15 @@ pub struct Token {
 pub fn token_at<T: Copy + Into<u16>>(tokens: &[T], i: usize) -> Option<Token>
     ensures { TokenRead T.converts tokens.now i result }
 {
-    let &[kind, detail, start, end, ..] = tokens.get(i.saturating_mul(4)..)? else {
+    if tokens.len() / 4 <= i {
         return None;
-    };
+    }
+    let at = 4 * i;
     Some(Token {
-        kind: kind.into(),
-        detail: detail.into(),
-        start: start.into(),
-        end: end.into(),
+        kind: tokens[at].into(),
+        detail: tokens[at + 1].into(),
+        start: tokens[at + 2].into(),
+        end: tokens[at + 3].into(),
     })
 }
 
