@@ -53,10 +53,10 @@ pub fn parse_register(name: &[u8]) -> Option<u8>
         return Some(15);
     }
     let first = first_of_bank(bank);
-    if digit < b'0' || LAST_DIGIT < digit {
-        return None;
+    match digit {
+        b'0'..=LAST_DIGIT => Some(digit - b'0' + first?),
+        _ => None,
     }
-    Some(digit - b'0' + first?)
 }
 
 #[tactic(auto, unfolding(crate::specs::Registers::program_counter))]
