@@ -4,6 +4,9 @@ use Rattle.std.proofs.Common.{◌≡◌, refl, sym, ◌∙◌, ap, Bool, true, f
 use Rattle.std.specs.Bool.{then_some}
 use borrow.Author.Tests.{lt-leb}
 use lib.Seq.{take_all, paste, paste-zero, paste-suc, length-paste}
+use Rattle.std.specs.Iterator.{YieldsFirst, Drains}
+use Rattle.std.proofs.lemmas.Iterator.Consumers.{YieldsList-from_first, count_from_yields_List}
+use Rattle.names.specs.declared.literals.Inside.{Inside}
 use Rattle.names.specs.Choice.{pick}
 use Rattle.names.specs.Literals.{quoted, literal_bytes, FirstInner, Stored}
 use Rattle.names.proofs.tokens.Lists.{from, rest, front, length_rest}
@@ -59,6 +62,27 @@ literal_none (c ∷ cs) h = absurd (omega arith)
 pub literal_some : (t : List ℕ) → 1 ≤ length t → literal_bytes t ≡ quoted (get_or t 0 0) (rest t)
 unfolding literal_bytes
 literal_some t h = ap literal_bytes (front t h)
+
+-- no more bytes than the inside has
+pub quoted_short : (q : ℕ) (l : List ℕ) → length (quoted q l) ≤ length l
+unfolding quoted
+quoted_short q [] = omega arith
+quoted_short q (c ∷ []) = go (eqb c q)
+  where
+    go : (b : Bool) → length (pick b [] (c ∷ [])) ≤ 1
+    go true = omega arith
+    go false = omega arith
+quoted_short q (c ∷ d ∷ ds) = go (eqb c q) (eqb d q) (quoted_short q ds) (quoted_short q (d ∷ ds))
+  where
+    go : (a b : Bool) → length (quoted q ds) ≤ length ds → length (quoted q (d ∷ ds)) ≤ length (d ∷ ds)
+        → length (pick a (pick b (c ∷ quoted q ds) []) (c ∷ quoted q (d ∷ ds))) ≤ length (c ∷ d ∷ ds)
+    go true true h g = omega arith
+    go true false h g = omega arith
+    go false b h g = omega arith
+
+-- the bytes to come are as many as are counted
+pub counted : (s : Inside) (r : ℕ) → ((xs : List ℕ) × Drains (YieldsFirst (λ s. quoted s.quote s.rest.now)) s xs × (r ≡ length xs)) → r ≡ length (quoted s.quote s.rest.now)
+counted s r d = count_from_yields_List s r d (YieldsList-from_first (λ x. x) (λ s. quoted s.quote s.rest.now) _ refl)
 
 -- ---- the bytes in a store
 
