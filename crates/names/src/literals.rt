@@ -8,16 +8,11 @@ ghost use Rattle.names.specs.Literals.{quoted, FirstInner, literal_bytes, Stored
 fn first_inner(inside: &[u8], quote: u8) -> Option<(u8, &[u8])>
     ensures { MatchOption result (quoted quote inside.now ≡ []) (λ p. FirstInner quote inside.now p.0 p.1.now) }
 {
-    let [first, rest @ ..] = inside else {
-        return None;
-    };
-    if *first != quote {
-        return Some((*first, rest));
+    match inside {
+        [first, rest @ ..] if *first != quote => Some((*first, rest)),
+        [_, second, rest @ ..] if *second == quote => Some((quote, rest)),
+        _ => None,
     }
-    let [second, behind @ ..] = rest else {
-        return None;
-    };
-    (*second == quote).then_some((quote, behind))
 }
 
 // The bytes of a literal that are still to come: its quote, and what is left of its inside.
@@ -52,6 +47,7 @@ pub fn string_literal_bytes(text: &[u8], out: &mut [u8]) -> Option<usize>
         quote: *quote,
         rest,
     };
+    // counted first: what has no room stores nothing
     let n = bytes.count();
     if out.len() < n {
         return None;

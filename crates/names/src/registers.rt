@@ -128,9 +128,7 @@ pub fn suppressed_register(name: &[u8]) -> Option<Suppressed>
 pub fn is_reserved_name(name: &[u8]) -> bool
     ensures { result ≡ reserved name.now }
 {
-    if 4 < name.len() {
-        return false;
-    }
     // not `SpecialRegister::parse`: the length is known
-    parse_register(name).is_some() || is_program_counter(name) || by_length(name).is_some()
+    name.len() <= 4
+        && (parse_register(name).is_some() || is_program_counter(name) || by_length(name).is_some())
 }

@@ -1,8 +1,8 @@
 -- `names::literals::string_literal_bytes` meets its contract. The loop's invariant: the bytes stored and those to come are all that the literal has.
 -- Assumes nothing.
-use Rattle.std.proofs.Common.{◌≡◌, refl, sym, ◌∙◌, ap, [], length, arith, get_or}
+use Rattle.std.proofs.Common.{◌≡◌, refl, ap, [], length, arith, get_or}
 use mathlib.Core.Logic.{inl}
-use Rattle.names.specs.Literals.{literal_bytes, quoted}
+use Rattle.names.specs.Literals.{literal_bytes}
 use Rattle.names.proofs.tokens.Lists.{rest, length_rest}
 use Rattle.names.proofs.literals.Quotes.{literal_none, literal_some, quoted_short, counted, stored_not, storing_first, storing_room, storing_next, storing_last}
 use Rattle.names.proofs.literals.string_literal_bytes.Goals as goal

@@ -1,9 +1,8 @@
 -- `names::registers::parse_register` meets its contract.
 -- Assumes nothing.
-use Rattle.std.proofs.Common.{sym, ◌∙◌, get_or, arith}
-use Rattle.names.specs.Letters.{lower}
+use Rattle.std.proofs.Common.{sym, ◌∙◌, arith}
 use Rattle.names.proofs.Cases.{told_register}
-use Rattle.names.proofs.registers.Pairs.{first_most, register_not, register_stack, register_digit, digit_low, digit_high, digit_in}
+use Rattle.names.proofs.registers.Pairs.{register_not, register_stack, register_digit, digit_low, digit_high, digit_in}
 use Rattle.names.proofs.registers.parse_register.Goals as goal
 
 pub returns-in_default : goal.returns-in_default
