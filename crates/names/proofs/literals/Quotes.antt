@@ -2,7 +2,7 @@
 -- Assumes nothing.
 use Rattle.std.proofs.Common.{◌≡◌, refl, sym, ◌∙◌, ap, Bool, true, false, eqb, List, [], ◌∷◌, ℕ, ◌+◌, ◌-◌, ◌≤◌, ◌<◌, length, get_or, take, drop, set, arith, zero-add, add-one, eq-eqb, ne_eqb, le-leb, Some, None}
 use borrow.Author.Tests.{lt-leb}
-use lib.Seq.{take_all, paste, paste-zero, paste-suc, length-paste}
+use lib.Seq.{take_all, paste, paste-zero, paste-suc}
 use Rattle.std.specs.Iterator.{YieldsFirst, Drains}
 use Rattle.std.proofs.lemmas.Iterator.Consumers.{YieldsList-from_first, count_from_yields_List}
 use Rattle.names.specs.declared.literals.Inside.{Inside}
@@ -89,9 +89,6 @@ module _ (b o : List ℕ) where
   storing_first r = record { room = r; all = omega arith; rest = refl; store = paste-zero o 0 b }
 
 module _ {b o : List ℕ} {n : ℕ} {left o' : List ℕ} (s : Storing b o n left o') where
-  pub storing_room : {c : ℕ} {more : List ℕ} → left ≡ c ∷ more → n < length o'
-  storing_room e = omega (arith, s.room, s.all, ap length e, ap length s.store, length-paste o 0 b n (omega (arith, s.room, s.all)) (omega (arith, s.all)))
-
   -- one byte more in the store
   pub storing_next : (c : ℕ) (more : List ℕ) → left ≡ c ∷ more → Storing b o (n + 1) more (set o' n c)
   storing_next c more e =

@@ -4,7 +4,7 @@ use Rattle.std.proofs.Common.{◌≡◌, refl, ap, [], length, arith, get_or}
 use mathlib.Core.Logic.{inl}
 use Rattle.names.specs.Literals.{literal_bytes}
 use Rattle.names.proofs.tokens.Lists.{rest, length_rest}
-use Rattle.names.proofs.literals.Quotes.{literal_none, literal_some, quoted_short, counted, stored_not, storing_first, storing_room, storing_next, storing_last}
+use Rattle.names.proofs.literals.Quotes.{literal_none, literal_some, quoted_short, counted, stored_not, storing_first, storing_next, storing_last}
 use Rattle.names.proofs.literals.string_literal_bytes.Goals as goal
 
 pub returns-in_default : goal.returns-in_default
@@ -23,10 +23,6 @@ pub loop-i-init : goal.loop-i-init
 loop-i-init c =
     rw (c.into_iter-i-iterator.ensures.into_iter_gives, c.enumerate-i-items.ensures.count, c.enumerate-i-items.ensures.source, ← literal_some c.args.text.now c.in-len1-up.len_at_least)
     (storing_first (literal_bytes c.args.text.now) c.args.out.now (omega (arith, c.if-out-n.false, ap length (literal_some c.args.text.now c.in-len1-up.len_at_least), counted _ _ c.count-n.ensures.ran)))
-
-pub bounds-out-i : goal.bounds-out-i
-bounds-out-i c =
-    rw c.in-Some.ensures.steps.1 (storing_room c.loop-i.invariant c.in-Some.ensures.steps.0)
 
 pub loop-i-preserved : goal.loop-i-preserved
 loop-i-preserved c =
