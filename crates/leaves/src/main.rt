@@ -15,10 +15,6 @@ fn put_number(rt: &impl Print, n: u64) {
     let _ = rt.print(n);
 }
 
-fn put_small(rt: &impl Print, n: u8) {
-    put_number(rt, u64::from(n));
-}
-
 fn put_flag(rt: &impl Print, on: bool) {
     if on {
         put(rt, b"yes");
@@ -27,18 +23,11 @@ fn put_flag(rt: &impl Print, on: bool) {
     }
 }
 
-fn show_register(rt: &impl Print, name: &[u8]) {
-    put(rt, b" register=");
-    match names::parse_register(name) {
-        Some(r) => put_small(rt, r),
-        None => put(rt, b"no"),
-    }
-}
-
-fn show_special(rt: &impl Print, name: &[u8]) {
-    put(rt, b" special=");
-    match SpecialRegister::parse(name) {
-        Some(s) => put_small(rt, s as u8),
+// A number, where there is one.
+fn show_found(rt: &impl Print, label: &[u8], found: Option<u8>) {
+    put(rt, label);
+    match found {
+        Some(n) => put_number(rt, u64::from(n)),
         None => put(rt, b"no"),
     }
 }
@@ -46,20 +35,13 @@ fn show_special(rt: &impl Print, name: &[u8]) {
 fn show_suppressed(rt: &impl Print, name: &[u8]) {
     put(rt, b" suppressed=");
     match names::suppressed_register(name) {
-        Some(Suppressed::Register(r)) => put_small(rt, r),
+        Some(Suppressed::Register(r)) => put_number(rt, u64::from(r)),
         Some(Suppressed::ProgramCounter) => put(rt, b"pc"),
         None => put(rt, b"no"),
     }
 }
 
-fn show_size(rt: &impl Print, suffix: &[u8]) {
-    put(rt, b" size=");
-    match SizeSuffix::from_run(names::suffix_run(suffix)) {
-        Some(s) => put_small(rt, s as u8),
-        None => put(rt, b"no"),
-    }
-}
-
+// No `Display` of the error: the words are this program's, not the library's.
 fn show_number(rt: &impl Print, detail: u16, text: &[u8]) {
     match names::parse_number(detail, text) {
         Ok(v) => put_number(rt, v),
@@ -80,14 +62,17 @@ fn show_literal(rt: &impl Print, text: &[u8]) {
 fn show(rt: &impl Print, line: &[u8]) {
     put(rt, line);
     put(rt, b":");
-    show_register(rt, line);
-    show_special(rt, line);
+    show_found(rt, b" register=", names::parse_register(line));
+    // `as` is how the language gives an enum's discriminant
+    let special = SpecialRegister::parse(line).map(|register| register as u8);
+    show_found(rt, b" special=", special);
     put(rt, b" pc=");
     put_flag(rt, names::is_program_counter(line));
     show_suppressed(rt, line);
     put(rt, b" reserved=");
     put_flag(rt, names::is_reserved_name(line));
-    show_size(rt, line);
+    let size = SizeSuffix::from_run(names::suffix_run(line)).map(|size| size as u8);
+    show_found(rt, b" size=", size);
     put(rt, b" numbers=");
     show_number(rt, 0, line);
     put(rt, b",");

@@ -1,3 +1,2 @@
 -- What the proofs of tokens.rt share.
-pub mod Peeks
 pub mod Lists

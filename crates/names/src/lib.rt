@@ -16,4 +16,4 @@ pub use registers::{
     suppressed_register,
 };
 pub use sizes::{SizeSuffix, suffix_run};
-pub use tokens::{Token, detail_defined, lent_token_at, text_of, token_at};
+pub use tokens::{Token, detail_defined, text_of, token_at};

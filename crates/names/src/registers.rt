@@ -4,7 +4,7 @@ ghost use Rattle.names.specs.Letters.{lower};
 ghost use Rattle.names.specs.Registers.{first_of_bank, program_counter, special_of, reserved};
 ghost use Rattle.names.specs.Cases.{RegisterTold, SpecialTold, SuppressedTold};
 
-use crate::letters::{eq_ignore_case, lower, spells};
+use crate::letters::{lower, spells};
 
 // The last digit of a register.
 const LAST_DIGIT: u8 = b'7';
@@ -53,10 +53,10 @@ pub fn parse_register(name: &[u8]) -> Option<u8>
         return Some(15);
     }
     let first = first_of_bank(bank);
-    if digit < b'0' || LAST_DIGIT < digit {
-        return None;
+    match digit {
+        b'0'..=LAST_DIGIT => Some(digit - b'0' + first?),
+        _ => None,
     }
-    Some(digit - b'0' + first?)
 }
 
 #[tactic(auto, unfolding(crate::specs::Registers::program_counter))]
@@ -115,7 +115,7 @@ pub fn suppressed_register(name: &[u8]) -> Option<Suppressed>
     let [letter, rest @ ..] = name else {
         return None;
     };
-    if !eq_ignore_case(*letter, b'z') {
+    if !letter.eq_ignore_ascii_case(&b'z') {
         return None;
     }
     if is_program_counter(rest) {
@@ -128,9 +128,7 @@ pub fn suppressed_register(name: &[u8]) -> Option<Suppressed>
 pub fn is_reserved_name(name: &[u8]) -> bool
     ensures { result ≡ reserved name.now }
 {
-    if 4 < name.len() {
-        return false;
-    }
     // not `SpecialRegister::parse`: the length is known
-    parse_register(name).is_some() || is_program_counter(name) || by_length(name).is_some()
+    name.len() <= 4
+        && (parse_register(name).is_some() || is_program_counter(name) || by_length(name).is_some())
 }

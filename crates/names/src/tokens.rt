@@ -1,7 +1,7 @@
 // The tokens of a line: four numbers each, a kind, a detail, a start and an end. In the caller's list the numbers are bytes.
 // Numbers and no slice of tokens: a list of any length is lent, which may end within a token.
 ghost use Rattle.std.specs.Prelude.{◌≡◌, drop};
-ghost use Rattle.names.specs.Tokens.{token_at, detail_defined};
+ghost use Rattle.names.specs.Tokens.{TokenRead, detail_defined};
 ghost use Rattle.names.specs.Places.{text_of};
 
 use crate::kinds::{NUMBER, STRING_LITERAL};
@@ -21,31 +21,20 @@ pub struct Token {
     pub end: u16,
 }
 
-// The token at a place of the list; from the list's end on there is none.
-#[tactic(auto, unfolding(crate::specs::Tokens::token_at))]
-pub fn token_at(tokens: &[u16], i: usize) -> Option<Token>
-    ensures { result ≡ token_at tokens.now i }
+// The token at a place of the list, whose numbers may be bytes; from the list's end on there is none.
+// By index: `as_chunks` of any element asks that four fit the memory, and `get` with a pattern tests twice (docs/SPEED.md).
+pub fn token_at<T: Copy + Into<u16>>(tokens: &[T], i: usize) -> Option<Token>
+    ensures { TokenRead T.converts tokens.now i result }
 {
-    let &[kind, detail, start, end] = tokens.as_chunks::<4>().0.get(i)?;
+    if tokens.len() / 4 <= i {
+        return None;
+    }
+    let at = 4 * i;
     Some(Token {
-        kind,
-        detail,
-        start,
-        end,
-    })
-}
-
-// The token at a place of the caller's list. Beside `token_at`: both are public names, and the conversion of the numbers is all that differs.
-#[tactic(auto, unfolding(crate::specs::Tokens::token_at))]
-pub fn lent_token_at(bytes: &[u8], i: usize) -> Option<Token>
-    ensures { result ≡ token_at bytes.now i }
-{
-    let &[kind, detail, start, end] = bytes.as_chunks::<4>().0.get(i)?;
-    Some(Token {
-        kind: u16::from(kind),
-        detail: u16::from(detail),
-        start: u16::from(start),
-        end: u16::from(end),
+        kind: tokens[at].into(),
+        detail: tokens[at + 1].into(),
+        start: tokens[at + 2].into(),
+        end: tokens[at + 3].into(),
     })
 }
 

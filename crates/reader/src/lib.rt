@@ -4,7 +4,7 @@
 ghost use Rattle.std.specs.Prelude.{◌≡◌};
 ghost use Rattle.reader.specs.Cursor.{text_at, place_in, next_place};
 
-use names::{lent_token_at, text_of};
+use names::{text_of, token_at};
 
 #[derive(Clone, Copy)]
 pub struct Reader<'a, 'b> {
@@ -17,10 +17,7 @@ pub struct Reader<'a, 'b> {
 pub fn text_at<'a, 'b>(line: &'a [u8], tokens: &'b [u8], place: usize) -> &'a [u8]
     ensures { result.now ≡ text_at line.now tokens.now place }
 {
-    let Some(token) = lent_token_at(tokens, place) else {
-        return &line[0..0];
-    };
-    text_of(line, token)
+    token_at(tokens, place).map_or(&[], |token| text_of(line, token))
 }
 
 // The place itself, or the end of the tokens where the place lies behind it.
@@ -35,9 +32,10 @@ pub fn place_in(tokens: &[u8], place: usize) -> usize
 pub fn next_place(tokens: &[u8], place: usize) -> usize
     ensures { result ≡ next_place tokens.now place }
 {
-    match lent_token_at(tokens, place) {
-        Some(_) => place + 1,
-        None => place,
+    if token_at(tokens, place).is_some() {
+        place + 1
+    } else {
+        place
     }
 }
 

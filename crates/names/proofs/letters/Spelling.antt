@@ -1,7 +1,6 @@
 -- A byte against a letter, a name against a word.
 -- Assumes nothing.
-use Rattle.std.proofs.Common.{◌≡◌, refl, sym, ◌∙◌, ap, Bool, true, false, List, [], ◌∷◌, ℕ, zero, suc, ◌+◌, ◌-◌, ◌≤◌, ◌↔◌, IsTrue, leb, eqb, length, get_or, drop, map, drop_of_length-le, arith, eq-eqb, ne_eqb, eqb-true, leb-true, leb-false}
-use borrow.Author.Tests.{eqb-false}
+use Rattle.std.proofs.Common.{◌≡◌, refl, sym, ◌∙◌, ap, Bool, true, false, List, [], ◌∷◌, ℕ, zero, suc, ◌+◌, ◌≤◌, ◌↔◌, IsTrue, leb, length, get_or, drop, map, drop_of_length-le, arith, eq-eqb, leb-true, leb-false}
 use Rattle.std.specs.Char.{to_ascii_lowercase}
 use Rattle.std.proofs.lemmas.Bool.Decides.{nat_tests}
 use Rattle.names.specs.Letters.{lower, lowered, same, spelled}
@@ -59,23 +58,6 @@ lower_rises c = go (both (leb 65 c) (leb c 90))
     go : (b : Bool) → c ≤ pick b (c + 32) c
     go true = omega arith
     go false = omega arith
-
--- what is not this small letter is its capital just where it is 32 below it
-pub letter_capital : (c l : ℕ) → (97 ≤ l) × (l ≤ 122) → (c ≡ l → ⊥) → eqb c (l - 32) ≡ eqb (lower c) l
-letter_capital c l s h = go (leb 65 c) refl (leb c 90) refl
-  where
-    -- what is no capital
-    stays : lower c ≡ c → (c ≡ l - 32 → ⊥) → eqb c (l - 32) ≡ eqb (lower c) l
-    stays e g = ne_eqb c (l - 32) g ∙ sym (rw e (ne_eqb c l h))
-
-    go : (a : Bool) → leb 65 c ≡ a → (b : Bool) → leb c 90 ≡ b → eqb c (l - 32) ≡ eqb (lower c) l
-    go true p true q = rw (lower_capital c (leb-true 65 c p) (leb-true c 90 q)) (raised (eqb c (l - 32)) refl)
-      where
-        raised : (b : Bool) → eqb c (l - 32) ≡ b → b ≡ eqb (c + 32) l
-        raised true e = sym (eq-eqb (c + 32) l (omega (arith, eqb-true c (l - 32) e)))
-        raised false e = sym (ne_eqb (c + 32) l (λ f. eqb-false c (l - 32) e (omega arith)))
-    go true p false q = stays (lower_above c (leb-false c 90 q)) (λ e. omega (arith, leb-false c 90 q))
-    go false p b q = stays (lower_below c (leb-false 65 c p)) (λ e. omega (arith, leb-false 65 c p))
 
 -- k letters from place i on, in small
 abbrev pub letters : ℕ → ℕ → List ℕ → List ℕ

@@ -1,9 +1,11 @@
 -- The bytes of a literal, from its front.
 -- Assumes nothing.
-use Rattle.std.proofs.Common.{◌≡◌, refl, sym, ◌∙◌, ap, Bool, true, false, eqb, List, [], ◌∷◌, ℕ, ◌+◌, ◌≤◌, ◌<◌, length, get_or, drop, set, arith, zero-add, add-one, eq-eqb, ne_eqb, le-leb, Some, None, MatchOption, Bor}
-use Rattle.std.specs.Bool.{then_some}
+use Rattle.std.proofs.Common.{◌≡◌, refl, sym, ◌∙◌, ap, Bool, true, false, eqb, List, [], ◌∷◌, ℕ, ◌+◌, ◌-◌, ◌≤◌, ◌<◌, length, get_or, take, drop, set, arith, zero-add, add-one, eq-eqb, ne_eqb, le-leb, Some, None}
 use borrow.Author.Tests.{lt-leb}
-use lib.Seq.{take_all, paste, paste-zero, paste-suc, length-paste}
+use lib.Seq.{take_all, paste, paste-zero, paste-suc}
+use Rattle.std.specs.Iterator.{YieldsFirst, Drains}
+use Rattle.std.proofs.lemmas.Iterator.Consumers.{YieldsList-from_first, count_from_yields_List}
+use Rattle.names.specs.declared.literals.Inside.{Inside}
 use Rattle.names.specs.Choice.{pick}
 use Rattle.names.specs.Literals.{quoted, literal_bytes, FirstInner, Stored}
 use Rattle.names.proofs.tokens.Lists.{from, rest, front, length_rest}
@@ -13,43 +15,32 @@ unfolding quoted
 byte q c [] h = simp (ne_eqb c q h)
 byte q c (d ∷ ds) h = simp (ne_eqb c q h)
 
-last : (q c : ℕ) (cs : List ℕ) → c ≡ q → length cs < 1 → quoted q (c ∷ cs) ≡ []
-unfolding quoted
-last q c [] e h = rw (eq-eqb c q e)
-last q c (d ∷ ds) e h = absurd (omega arith)
-
-two : (q c d : ℕ) (ds : List ℕ) → c ≡ q → (b : Bool) → eqb d q ≡ b → quoted q (c ∷ d ∷ ds) ≡ pick b (q ∷ quoted q ds) []
-unfolding quoted
-two q c d ds e b h = rw (eq-eqb c q e, h, e)
-
-module _ (q : ℕ) (t : List ℕ) where
-  pub quoted_none : length t < 1 → quoted q t ≡ []
+module _ (q : ℕ) where
+  pub quoted_none : (t : List ℕ) → length t < 1 → quoted q t ≡ []
   unfolding quoted
-  quoted_none h = go t h
-    where
-      go : (l : List ℕ) → length l < 1 → quoted q l ≡ []
-      go [] g = refl
-      go (c ∷ cs) g = absurd (omega arith)
+  quoted_none [] h = refl
+  quoted_none (c ∷ cs) h = absurd (omega arith)
 
-  module _ (h : 1 ≤ length t) where
-    pub quoted_first : (get_or t 0 0 ≡ q → ⊥) → FirstInner q t (get_or t 0 0) (rest t)
-    quoted_first n = (ap (quoted q) (front t h) ∙ byte q _ (rest t) n, omega (arith, length_rest t h))
+  pub quoted_first : (t : List ℕ) → 1 ≤ length t → (get_or t 0 0 ≡ q → ⊥) → FirstInner q t (get_or t 0 0) (rest t)
+  quoted_first t h n = (ap (quoted q) (front t h) ∙ byte q _ (rest t) n, omega (arith, length_rest t h))
 
-    module _ (e : get_or t 0 0 ≡ q) where
-      pub quoted_last : length (rest t) < 1 → quoted q t ≡ []
-      quoted_last g = ap (quoted q) (front t h) ∙ last q _ (rest t) e g
+  pub quoted_last : (t : List ℕ) → get_or t 0 0 ≡ q → length t < 2 → quoted q t ≡ []
+  unfolding quoted
+  quoted_last [] e h = refl
+  quoted_last (c ∷ []) e h = rw (eq-eqb c q e)
+  quoted_last (c ∷ d ∷ ds) e h = absurd (omega arith)
 
-      module _ (g : 1 ≤ length (rest t)) where
-        both_are : (b : Bool) → eqb (get_or (rest t) 0 0) q ≡ b → quoted q t ≡ pick b (q ∷ quoted q (rest (rest t))) []
-        both_are b f = ap (quoted q) (front t h ∙ ap (λ l. get_or t 0 0 ∷ l) (front (rest t) g)) ∙ two q _ _ (rest (rest t)) e b f
+  pub quoted_close : (t : List ℕ) → get_or t 0 0 ≡ q → (get_or t 1 0 ≡ q → ⊥) → quoted q t ≡ []
+  unfolding quoted
+  quoted_close [] e n = refl
+  quoted_close (c ∷ []) e n = rw (eq-eqb c q e)
+  quoted_close (c ∷ d ∷ ds) e n = rw (eq-eqb c q e, ne_eqb d q n)
 
-        pub quoted_second : (r : Bor (List ℕ)) → r.now ≡ rest (rest t)
-            → MatchOption {T = ℕ × Bor (List ℕ)} (then_some (eqb (get_or (rest t) 0 0) q) (q, r)) (quoted q t ≡ []) (λ p. FirstInner q t p.0 p.1.now)
-        quoted_second r f = go (eqb (get_or (rest t) 0 0) q) refl
-          where
-            go : (b : Bool) → eqb (get_or (rest t) 0 0) q ≡ b → MatchOption {T = ℕ × Bor (List ℕ)} (then_some b (q, r)) (quoted q t ≡ []) (λ p. FirstInner q t p.0 p.1.now)
-            go true e = (both_are true e ∙ ap (λ l. q ∷ quoted q l) (sym f), omega (arith, ap length f, length_rest t h, length_rest (rest t) g))
-            go false e = both_are false e
+  pub quoted_double : (t : List ℕ) → 2 ≤ length t → get_or t 0 0 ≡ q → get_or t 1 0 ≡ q → FirstInner q t q (take (length t - 2) (drop 2 t))
+  unfolding quoted
+  quoted_double [] h e f = absurd (omega arith)
+  quoted_double (c ∷ []) h e f = absurd (omega arith)
+  quoted_double (c ∷ d ∷ ds) h e f = let l = take_all (length (c ∷ d ∷ ds) - 2) ds (omega arith) in (rw (eq-eqb c q e, eq-eqb d q f, l, e), rw l (omega arith))
 
 pub literal_none : (t : List ℕ) → length t < 1 → literal_bytes t ≡ []
 unfolding literal_bytes
@@ -59,6 +50,27 @@ literal_none (c ∷ cs) h = absurd (omega arith)
 pub literal_some : (t : List ℕ) → 1 ≤ length t → literal_bytes t ≡ quoted (get_or t 0 0) (rest t)
 unfolding literal_bytes
 literal_some t h = ap literal_bytes (front t h)
+
+-- no more bytes than the inside has
+pub quoted_short : (q : ℕ) (l : List ℕ) → length (quoted q l) ≤ length l
+unfolding quoted
+quoted_short q [] = omega arith
+quoted_short q (c ∷ []) = go (eqb c q)
+  where
+    go : (b : Bool) → length (pick b [] (c ∷ [])) ≤ 1
+    go true = omega arith
+    go false = omega arith
+quoted_short q (c ∷ d ∷ ds) = go (eqb c q) (eqb d q) (quoted_short q ds) (quoted_short q (d ∷ ds))
+  where
+    go : (a b : Bool) → length (quoted q ds) ≤ length ds → length (quoted q (d ∷ ds)) ≤ length (d ∷ ds)
+        → length (pick a (pick b (c ∷ quoted q ds) []) (c ∷ quoted q (d ∷ ds))) ≤ length (c ∷ d ∷ ds)
+    go true true h g = omega arith
+    go true false h g = omega arith
+    go false b h g = omega arith
+
+-- the bytes to come are as many as are counted
+pub counted : (s : Inside) (r : ℕ) → ((xs : List ℕ) × Drains (YieldsFirst (λ s. quoted s.quote s.rest.now)) s xs × (r ≡ length xs)) → r ≡ length (quoted s.quote s.rest.now)
+counted s r d = count_from_yields_List s r d (YieldsList-from_first (λ x. x) (λ s. quoted s.quote s.rest.now) _ refl)
 
 -- ---- the bytes in a store
 
@@ -77,9 +89,6 @@ module _ (b o : List ℕ) where
   storing_first r = record { room = r; all = omega arith; rest = refl; store = paste-zero o 0 b }
 
 module _ {b o : List ℕ} {n : ℕ} {left o' : List ℕ} (s : Storing b o n left o') where
-  pub storing_room : {c : ℕ} {more : List ℕ} → left ≡ c ∷ more → n < length o'
-  storing_room e = omega (arith, s.room, s.all, ap length e, ap length s.store, length-paste o 0 b n (omega (arith, s.room, s.all)) (omega (arith, s.all)))
-
   -- one byte more in the store
   pub storing_next : (c : ℕ) (more : List ℕ) → left ≡ c ∷ more → Storing b o (n + 1) more (set o' n c)
   storing_next c more e =

@@ -30,14 +30,6 @@ pub register_stack : (n : List ℕ) → spelled (bytes "sp") n ≡ true → regi
 unfolding spelled register_of register pair
 register_stack n h = ap register (same_true (lowered n) (bytes "sp") h)
 
-pub first_most : (c : ℕ) {r : ℕ} → first_of_bank c ≡ Some r → r ≤ 8
-first_most c h = go (eqb c 100) (eqb c 97) h
-  where
-    go : (a b : Bool) {r : ℕ} → pick a (Some 0) (pick b (Some 8) None) ≡ Some r → r ≤ 8
-    go true b {r = r} h = let e : r ≡ 0 = cc in omega arith
-    go false true {r = r} h = let e : r ≡ 8 = cc in omega arith
-    go false false h = let z : ◌≡◌ {A = ℕ} 0 1 = cc in absurd (omega arith)
-
 -- a digit of the bank with this first register
 abbrev pub in_bank : Option ℕ → ℕ → Option ℕ
 in_bank None d = None

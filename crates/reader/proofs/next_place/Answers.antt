@@ -1,19 +1,23 @@
--- `reader::next_place` meets its contract: what `lent_token_at` gives says which case of `next_place` holds.
+-- `reader::next_place` meets its contract: what `token_at` gives says which case of `next_place` holds.
 -- Assumes nothing.
-use mathlib.Core.Path.{sym, ◌∙◌}
-use Rattle.names.specs.Places.{live}
-use Rattle.reader.specs.Cursor.{next_there, next_nowhere}
-use borrow.Author.Rules.{rules}
+use Rattle.std.proofs.Common.{◌≡◌, refl, Option, Some, None, is_some, ℕ, ◌+◌}
+use Rattle.names.specs.Choice.{pick}
+use Rattle.names.specs.Tokens.{token_told}
+use Rattle.names.specs.declared.tokens.Token.{Token}
+use Rattle.reader.specs.Cursor.{behind, next_place}
 use Rattle.reader.proofs.next_place.Goals as goal
 
-pub overflow_add-result : goal.overflow_add-result
-overflow_add-result c =
-    let l = live _ _ _ (sym c.lent_token_at.ensures ∙ c.in-Some.is) in search (rules, l)
+behind_is : (o : Option Token) (i : ℕ) → pick (is_some o) (i + 1) i ≡ behind o i
+unfolding behind
+behind_is None i = refl
+behind_is (Some t) i = refl
 
-pub returns-in-Some : goal.returns-in-Some
-returns-in-Some c =
-    sym (next_there _ _ _ (sym c.lent_token_at.ensures ∙ c.in-Some.is))
+pub returns-then-is_some : goal.returns-then-is_some
+unfolding next_place
+returns-then-is_some c =
+    rw (← token_told _ _ _ c.token_at.ensures, ← behind_is, ← c.is_some.ensures, c.if-is_some.true)
 
-pub returns-in-None : goal.returns-in-None
-returns-in-None c =
-    sym (next_nowhere _ _ (sym c.lent_token_at.ensures ∙ c.in-None.is))
+pub returns-else-is_some : goal.returns-else-is_some
+unfolding next_place
+returns-else-is_some c =
+    rw (← token_told _ _ _ c.token_at.ensures, ← behind_is, ← c.is_some.ensures, c.if-is_some.false)

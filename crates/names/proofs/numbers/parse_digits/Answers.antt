@@ -1,6 +1,6 @@
 -- `names::numbers::parse_digits` meets its contract. The loop's invariant: the rest of the digits, read on from the value, give what all of them give.
 -- Assumes nothing.
-use Rattle.std.proofs.Common.{refl, sym, ◌∙◌, ap, true-eqb, false-eqb, arith}
+use Rattle.std.proofs.Common.{sym, ◌∙◌, ap, true-eqb, false-eqb, arith}
 use Rattle.std.proofs.lemmas.Result.{err_from_is_err_and}
 use Rattle.names.specs.Numbers.{scan}
 use Rattle.names.proofs.numbers.Figures.{radix_most, cap_sum, scan_on, scan_stop, scan_value, scan_large, digits_none, digits_some, read_digit, no_digit}
@@ -9,10 +9,6 @@ use Rattle.names.proofs.numbers.parse_digits.Goals as goal
 pub returns-then-is_empty : goal.returns-then-is_empty
 returns-then-is_empty c =
     sym (digits_none _ _ (true-eqb _ _ c.if-is_empty.ensures))
-
-pub loop-byte-init : goal.loop-byte-init
-loop-byte-init c =
-    refl
 
 pub to_digit-requires-clause-lower_bound : goal.to_digit-requires-clause-lower_bound
 to_digit-requires-clause-lower_bound c =

@@ -1,13 +1,14 @@
 -- `names::registers::is_reserved_name` meets its contract, by the rule of the table.
 -- Assumes nothing.
 use Rattle.std.proofs.Common.{sym, ◌∙◌, ap, is_some}
+use borrow.Author.Tests.{lt-leb}
 use Rattle.names.proofs.registers.Specials.{reserved_long, either_register, either_counter, reserved_before, reserved_special}
 use Rattle.names.proofs.registers.is_reserved_name.Goals as goal
 use Rattle.names.proofs.registers.is_reserved_name.Goals.{then-is_some, else-is_some}
 
-pub returns-then-name-gt4 : goal.returns-then-name-gt4
-returns-then-name-gt4 c =
-    sym (reserved_long _ c.if-name-gt4.true)
+pub returns-else-name-le4 : goal.returns-else-name-le4
+returns-else-name-le4 c =
+    lt-leb _ 4 c.if-name-le4.false ∙ sym (reserved_long _ c.if-name-le4.false)
 
 pub returns-then-is_program_counter : goal.returns-then-is_program_counter
 returns-then-is_program_counter c =

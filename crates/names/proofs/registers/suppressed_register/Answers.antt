@@ -3,6 +3,7 @@
 use Rattle.std.proofs.Common.{sym, ◌∙◌, arith}
 use Rattle.names.specs.Registers.{suppressing}
 use Rattle.names.proofs.Cases.{told_suppressed}
+use Rattle.names.proofs.letters.Spelling.{lower_std}
 use Rattle.names.proofs.registers.Pairs.{suppressed_none, suppressed_some}
 use Rattle.names.proofs.registers.suppressed_register.Goals as goal
 
@@ -10,20 +11,20 @@ pub returns-in_default : goal.returns-in_default
 returns-in_default c =
     told_suppressed (sym (suppressed_none _ (omega (arith, c.in_default.len_below))))
 
-pub returns-then-not-eq_ignore_case : goal.returns-then-not-eq_ignore_case
-returns-then-not-eq_ignore_case c =
-    told_suppressed (rw (suppressed_some _ c.in-len1-up.len_at_least, ← c.if-not-eq_ignore_case.ensures))
+pub returns-then-not-eq_ignore_ascii_case : goal.returns-then-not-eq_ignore_ascii_case
+returns-then-not-eq_ignore_ascii_case c =
+    told_suppressed (rw (suppressed_some _ c.in-len1-up.len_at_least, ← lower_std, ← c.if-not-eq_ignore_ascii_case.ensures))
 
 pub returns-then-is_program_counter : goal.returns-then-is_program_counter
 returns-then-is_program_counter c =
-    told_suppressed (rw (suppressed_some _ c.in-len1-up.len_at_least, ← c.if-not-eq_ignore_case.ensures, ← c.if-is_program_counter.ensures))
+    told_suppressed (rw (suppressed_some _ c.in-len1-up.len_at_least, ← lower_std, ← c.if-not-eq_ignore_ascii_case.ensures, ← c.if-is_program_counter.ensures))
 
 pub returns-in_err-parse_register : goal.returns-in_err-parse_register
 unfolding suppressing
 returns-in_err-parse_register c =
-    told_suppressed (c.from_residual.ensures ∙ rw (suppressed_some _ c.in-len1-up.len_at_least, ← c.if-not-eq_ignore_case.ensures, ← c.if-is_program_counter.ensures, ← c.parse_register.ensures.register, c.in_err-parse_register.was))
+    told_suppressed (c.from_residual.ensures ∙ rw (suppressed_some _ c.in-len1-up.len_at_least, ← lower_std, ← c.if-not-eq_ignore_ascii_case.ensures, ← c.if-is_program_counter.ensures, ← c.parse_register.ensures.register, c.in_err-parse_register.was))
 
 pub returns : goal.returns
 unfolding suppressing
 returns c =
-    told_suppressed (rw (suppressed_some _ c.in-len1-up.len_at_least, ← c.if-not-eq_ignore_case.ensures, ← c.if-is_program_counter.ensures, ← c.parse_register.ensures.register, c.in_ok-parse_register.was))
+    told_suppressed (rw (suppressed_some _ c.in-len1-up.len_at_least, ← lower_std, ← c.if-not-eq_ignore_ascii_case.ensures, ← c.if-is_program_counter.ensures, ← c.parse_register.ensures.register, c.in_ok-parse_register.was))
