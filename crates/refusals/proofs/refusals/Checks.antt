@@ -30,6 +30,22 @@ pub or_either : (a b : Bool) → (a || b) ≡ either a b
 or_either true b = refl
 or_either false b = refl
 
+either_true : (a : Bool) → either a true ≡ true
+either_true true = refl
+either_true false = refl
+
+-- ---- a number within a range, below it and above it
+
+module _ (low high n : ℕ) where
+  pub within : low ≤ n → n ≤ high → either (ltb n low) (ltb high n) ≡ false
+  within l h = rw (le-ltb n low l, le-ltb high n h)
+
+  pub below : n < low → either (ltb n low) (ltb high n) ≡ true
+  below h = rw (lt-ltb n low h)
+
+  pub above : high < n → either (ltb n low) (ltb high n) ≡ true
+  above h = rw (lt-ltb high n h) (either_true _)
+
 -- ---- the free records
 
 -- two comparisons that say the same
@@ -50,10 +66,6 @@ rest_none Layout.Wide bytes h = omega arith
 rest_some : (w : Layout) (bytes : ℕ) → (token_size w * (bytes / token_size w) ≡ bytes → ⊥) → bytes % token_size w ≡ 0 → ⊥
 rest_some Layout.Narrow bytes h e = h (omega arith)
 rest_some Layout.Wide bytes h e = h (omega arith)
-
-either_true : (a : Bool) → either a true ≡ true
-either_true true = refl
-either_true false = refl
 
 module _ (w : Layout) (bytes s n : ℕ) (size : s ≡ token_size w) (count : n ≡ bytes / token_size w) where
   whole : s * n ≡ bytes → token_size w * (bytes / token_size w) ≡ bytes
