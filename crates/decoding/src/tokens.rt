@@ -1,5 +1,5 @@
 // The tokens of a call: checked, and decoded into four numbers each.
-ghost use Rattle.std.specs.Prelude.{◌≡◌, None, Some, [], ◌∷◌, ◌+◌, ◌-◌, ◌*◌, ◌/◌, ◌≤◌, ◌<◌, eqb, length};
+ghost use Rattle.std.specs.Prelude.{◌≡◌, None, Some, [], ◌∷◌, ◌+◌, ◌-◌, ◌*◌, ◌/◌, ◌≤◌, eqb, length};
 ghost use Rattle.names.specs.Choice.{pick};
 ghost use Rattle.names.specs.Kinds;
 ghost use Rattle.names.specs.Letters.{same};
@@ -13,6 +13,13 @@ ghost use Rattle.decoding.specs.Tokens.{decoded, Decoded};
 use names::{Token, kinds};
 use operand::{Layout, Refusal};
 use records::write;
+
+// The bases of a number, as its token's detail has them; 3 is octal.
+const DECIMAL: u16 = 0;
+
+const HEXADECIMAL: u16 = 1;
+
+const BINARY: u16 = 2;
 
 // Whether a text is this byte alone.
 #[tactic(auto, unfolding(names::specs::Letters::same), using(crate::proofs::tokens::Checks::same_once, names::specs::Laws::differ))]
@@ -43,13 +50,6 @@ fn spelled(kind: u16, text: &[u8]) -> bool
         None => true,
     }
 }
-
-// The bases of a number with a prefix: a token's detail. One beyond them is not defined.
-const DECIMAL: u16 = 0;
-
-const HEXADECIMAL: u16 = 1;
-
-const BINARY: u16 = 2;
 
 // The byte that a number of a base begins with; a decimal one has none.
 fn prefix(base: u16) -> Option<u8>

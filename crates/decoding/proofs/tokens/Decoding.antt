@@ -5,8 +5,7 @@ use mathlib.Core.Bool.{Bool, true, false, ◌&&◌}
 use mathlib.Core.List.{List, [], ◌∷◌, ◌++◌}
 use Prim.Native.Nat.{ℕ, zero, suc, ◌+◌, ◌*◌, ◌/◌, ◌≤◌, ◌<◌}
 use native.Mathlib.Omega.{arith}
-use borrow.Author.Tests.{leb-true, le-leb, lt-leb}
-use lib.Dec.{leb}
+use borrow.Author.Tests.{le-leb, lt-leb}
 use lib.ListN.{length, take, drop, get_or}
 use Rattle.std.proofs.Common.{get_or-take, get_or-drop, drop-drop, add-zero}
 use native.Mathlib.Nat.{mul-zero, mul-suc}
@@ -16,7 +15,7 @@ use Rattle.names.specs.Choice.{pick, both}
 use Rattle.names.specs.Laws.{both_true}
 use Rattle.names.specs.Tokens.{count}
 use Rattle.records.specs.Stores.{written}
-use Rattle.records.specs.Written.{written_fits, written_take, written_more, written_not, length_written}
+use Rattle.records.specs.Written.{written_fits, written_take, written_more, written_not}
 use Rattle.operand.specs.declared.layouts.Layout.{Layout}
 use Rattle.operand.specs.Layouts.{joined, joined_tokens, token_numbers}
 use Rattle.operand.specs.RefusalNumbers

@@ -1,11 +1,11 @@
--- The tests of the refusals, each at what the code looks at: a byte of the line, the free records.
+-- The tests of the refusals, each at what the code looks at: a byte of the line, a number in a range, the list.
 -- Assumes nothing.
 use mathlib.Core.Path.{◌≡◌, refl, sym, ◌∙◌, ap₂}
 use mathlib.Core.Bool.{Bool, true, false, not, ◌||◌}
 use mathlib.Core.List.{List}
 use Prim.Native.Nat.{ℕ, ◌+◌, ◌*◌, ◌/◌, ◌%◌, ◌≤◌, ◌<◌}
 use native.Mathlib.Omega.{arith}
-use borrow.Author.Tests.{lt-ltb, le-ltb, ltb-true, ltb-false, eq-eqb, ne_eqb}
+use borrow.Author.Tests.{lt-ltb, le-ltb, eq-eqb, ne_eqb}
 use lib.Dec.{eqb, ltb}
 use lib.ListN.{length, get_or, drop, drop_of_length-le}
 use Rattle.names.specs.Choice.{either}
@@ -45,16 +45,6 @@ module _ (low high n : ℕ) where
 
   pub above : high < n → either (ltb n low) (ltb high n) ≡ true
   above h = rw (lt-ltb high n h) (either_true _)
-
--- ---- the free records
-
--- two comparisons that say the same
-pub as_less : (m u n k : ℕ) → (m < u → n < k) → (u ≤ m → k ≤ n) → ltb m u ≡ ltb n k
-as_less m u n k f g = go (ltb m u) refl
-  where
-    go : (b : Bool) → ltb m u ≡ b → b ≡ ltb n k
-    go true q = sym (lt-ltb n k (f (ltb-true m u q)))
-    go false q = sym (le-ltb n k (g (ltb-false m u q)))
 
 -- ---- the list
 
