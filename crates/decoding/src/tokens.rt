@@ -1,10 +1,11 @@
 // The tokens of a call: checked, and decoded into four numbers each.
-ghost use Rattle.std.specs.Prelude.{◌≡◌, [], ◌∷◌, ◌+◌, ◌-◌, ◌*◌, ◌/◌, ◌≤◌, ◌<◌, eqb, length};
+ghost use Rattle.std.specs.Prelude.{◌≡◌, None, Some, [], ◌∷◌, ◌+◌, ◌-◌, ◌*◌, ◌/◌, ◌≤◌, eqb, length};
 ghost use Rattle.names.specs.Choice.{pick};
 ghost use Rattle.names.specs.Kinds;
 ghost use Rattle.names.specs.Letters.{same};
-ghost use Rattle.names.specs.Tokens.{token_from};
-ghost use Rattle.operand.specs.Layouts.{token_size, joined_tokens, token_numbers};
+ghost use Rattle.records.specs.Stores.{written};
+ghost use Rattle.operand.specs.declared.layouts.Layout.TheVariants as layouts;
+ghost use Rattle.operand.specs.Layouts.{token_size};
 ghost use Rattle.operand.specs.Entry.{signs, spelled_as, prefixed, well_spelled, good_token, good_tokens};
 ghost use Rattle.operand.specs.RefusalNumbers;
 ghost use Rattle.decoding.specs.Tokens.{decoded, Decoded};
@@ -12,6 +13,13 @@ ghost use Rattle.decoding.specs.Tokens.{decoded, Decoded};
 use names::{Token, kinds};
 use operand::{Layout, Refusal};
 use records::write;
+
+// The bases of a number, as its token's detail has them; 3 is octal.
+const DECIMAL: u16 = 0;
+
+const HEXADECIMAL: u16 = 1;
+
+const BINARY: u16 = 2;
 
 // Whether a text is this byte alone.
 #[tactic(auto, unfolding(names::specs::Letters::same), using(crate::proofs::tokens::Checks::same_once, names::specs::Laws::differ))]
@@ -34,26 +42,24 @@ fn spelled(kind: u16, text: &[u8]) -> bool
     requires { Kinds.hash ≤ kind }
     ensures { result ≡ spelled_as signs (kind - Kinds.hash) text.now }
 {
-    if kinds::SHIFT_RIGHT < kind {
-        return true;
-    }
-    // The byte of each sign; the last two have it twice. By `as`: with `usize::from` both answers need a step more (tried).
+    // The byte of each sign; the last two have it twice.
     let signs = b"#,()[]{}:+-*/\\&!|^~<>";
-    let byte = signs[(kind - kinds::HASH) as usize];
-    if kind < kinds::SHIFT_LEFT {
-        return once(text, byte);
+    match signs.get(usize::from(kind - kinds::HASH)) {
+        Some(&byte) if kind < kinds::SHIFT_LEFT => once(text, byte),
+        Some(&byte) => twice(text, byte),
+        None => true,
     }
-    twice(text, byte)
 }
 
-// The byte that a number of a base with a prefix begins with.
-fn prefix(base: u16) -> u8
-    ensures { result ≡ pick (eqb base 1) 36 (pick (eqb base 2) 37 64) }
+// The byte that a number of a base begins with; a decimal one has none.
+fn prefix(base: u16) -> Option<u8>
+    ensures { result ≡ pick (eqb base 0) None (Some (pick (eqb base 1) 36 (pick (eqb base 2) 37 64))) }
 {
     match base {
-        1 => b'$',
-        2 => b'%',
-        _ => b'@',
+        DECIMAL => None,
+        HEXADECIMAL => Some(b'$'),
+        BINARY => Some(b'%'),
+        _ => Some(b'@'),
     }
 }
 
@@ -62,7 +68,10 @@ fn prefix(base: u16) -> u8
 fn prefixed(base: u16, text: &[u8]) -> bool
     ensures { result ≡ prefixed base text.now }
 {
-    base == 0 || matches!(text, [first, ..] if *first == prefix(base))
+    match prefix(base) {
+        Some(byte) => text.first() == Some(&byte),
+        None => true,
+    }
 }
 
 // Whether a token's text is one that its kind and detail may have.
@@ -81,52 +90,33 @@ fn well_spelled(kind: u16, detail: u16, text: &[u8]) -> bool
 fn good_token(line: &[u8], last: u16, token: Token) -> bool
     ensures { result ≡ good_token line.now last token.kind token.detail token.start token.end }
 {
-    if !names::detail_defined(token.kind, token.detail)
-        || token.end < token.start
-        || line.len() < usize::from(token.end)
-        || token.start < last
-    {
-        return false;
-    }
-    well_spelled(token.kind, token.detail, names::text_of(line, token))
+    names::detail_defined(token.kind, token.detail)
+        && token.start <= token.end
+        && usize::from(token.end) <= line.len()
+        && last <= token.start
+        && well_spelled(token.kind, token.detail, names::text_of(line, token))
 }
 
-// The i-th token of a narrow list. Each layout by itself: one form for both would ask for the layout at each offset, which is no plainer.
-fn narrow_token(tokens: &[u8], i: usize) -> Token
-    requires { i < length tokens.now / 4 }
-    ensures { result ≡ token_from tokens.now i }
+// The numbers of a narrow list, at the front of `numbers`: its bytes.
+fn put_narrow(tokens: &[u8], numbers: &mut [u16])
+    requires { length tokens.now ≤ length numbers.old }
+    ensures { numbers.new ≡ written numbers.old 0 tokens.now }
 {
-    let at = 4 * i;
-    Token {
-        kind: u16::from(tokens[at]),
-        detail: u16::from(tokens[at + 1]),
-        start: u16::from(tokens[at + 2]),
-        end: u16::from(tokens[at + 3]),
+    for (i, byte) in tokens.iter().enumerate() {
+        numbers[i] = u16::from(*byte);
     }
 }
 
-// The i-th token of a wide list.
-fn wide_token(tokens: &[u8], i: usize) -> Token
-    requires { i < length tokens.now / 6 }
-    ensures { result ≡ token_from (joined_tokens tokens.now) i }
+// The numbers of a wide list's tokens, likewise. The place is computed: of what `as_chunks_mut` lends the library says nothing afterwards.
+fn put_wide(tokens: &[u8], numbers: &mut [u16])
+    requires { 4 * (length tokens.now / 6) ≤ length numbers.old }
+    ensures { numbers.new ≡ decoded layouts.Wide tokens.now numbers.old }
 {
-    let at = 6 * i;
-    Token {
-        kind: u16::from(tokens[at]),
-        detail: u16::from(tokens[at + 1]),
-        start: u16::from_le_bytes([tokens[at + 2], tokens[at + 3]]),
-        end: u16::from_le_bytes([tokens[at + 4], tokens[at + 5]]),
-    }
-}
-
-// The i-th token of the list.
-fn token_from(layout: Layout, tokens: &[u8], i: usize) -> Token
-    requires { i < length tokens.now / token_size layout }
-    ensures { result ≡ token_from (token_numbers layout tokens.now) i }
-{
-    match layout {
-        Layout::Narrow => narrow_token(tokens, i),
-        Layout::Wide => wide_token(tokens, i),
+    for (i, &[kind, detail, s0, s1, e0, e1]) in tokens.as_chunks::<6>().0.iter().enumerate() {
+        let start = u16::from_le_bytes([s0, s1]);
+        let end = u16::from_le_bytes([e0, e1]);
+        let token = [u16::from(kind), u16::from(detail), start, end];
+        write(numbers, 4 * i, &token);
     }
 }
 
@@ -135,31 +125,27 @@ fn put_tokens(layout: Layout, tokens: &[u8], numbers: &mut [u16], n: usize)
     requires { (n ≡ length tokens.now / token_size layout) × (4 * n ≤ length numbers.old) }
     ensures { numbers.new ≡ decoded layout tokens.now numbers.old }
 {
-    for i in 0..n {
-        let token = token_from(layout, tokens, i);
-        write(
-            numbers,
-            4 * i,
-            &[token.kind, token.detail, token.start, token.end],
-        );
+    match layout {
+        Layout::Narrow => put_narrow(&tokens[..4 * n], numbers),
+        Layout::Wide => put_wide(tokens, numbers),
     }
 }
 
-// Whether each token of a list of numbers is good, the first one behind the line's start. A `for` over chunks of four was tried: what
-// the library says of them leaves an item open, and the proof didn't close.
+// Whether each token of a list of numbers is good, the first one behind the line's start.
 fn good_tokens(line: &[u8], numbers: &[u16]) -> bool
     ensures { result ≡ good_tokens line.now 0 numbers.now }
 {
-    let mut i = 0;
-    let mut last: u16 = 0;
+    let mut last = 0;
     let mut good = true;
-    loop {
-        let Some(token) = names::token_at(numbers, i) else {
-            break;
+    for &[kind, detail, start, end] in numbers.as_chunks::<4>().0 {
+        let token = Token {
+            kind,
+            detail,
+            start,
+            end,
         };
         good &= good_token(line, last, token);
-        last = token.end;
-        i += 1;
+        last = end;
     }
     good
 }

@@ -34,7 +34,7 @@ pub fn head_size(layout: Layout) -> usize
 }
 
 // Writes an answer's beginning from a place of the store on, where all of it fits: the case's number, the cursor, the nodes used and the
-// diagnostics added.
+// diagnostics added. Seven parameters: any numbers are written, and a struct of the four would be a type for three calls.
 #[tactic(auto, unfolding(records::specs::Nodes::low_first, operand::specs::Layouts::number, operand::specs::Layout::head_laid))]
 pub fn write_head(
     layout: Layout,

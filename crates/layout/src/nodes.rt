@@ -2,9 +2,9 @@
 ghost use Rattle.std.specs.Prelude.{◌≡◌, ◌++◌, ◌+◌, ◌≤◌, length};
 ghost use Rattle.records.specs.Stores.{written};
 ghost use Rattle.operand.specs.Layouts.{node_size};
-ghost use Rattle.operand.specs.Layout.{four_words, last_eight, node_from};
+ghost use Rattle.operand.specs.Layout.{four_words, node_from};
 ghost use Rattle.operand.specs.declared.layouts.Layout.TheVariants as layouts;
-ghost use Rattle.layout.specs.Nodes.{head_from, nodes_encoded};
+ghost use Rattle.layout.specs.Nodes.{head_from, last_from, nodes_encoded};
 
 use crate::numbers::low;
 use crate::store::clear;
@@ -28,9 +28,10 @@ fn four_words(a: u16, b: u16, c: u16, d: u16) -> [u8; 8]
 
 // The last eight bytes of a record.
 #[tactic(auto, unfolding(operand::specs::Layout::last_eight))]
-fn last_eight(layout: Layout, kind: u16, a: u16, b: u16, c: u16, d: u16) -> [u8; 8]
-    ensures { result ≡ last_eight layout kind a b c d }
+fn last_eight(layout: Layout, numbers: &[u16; 10]) -> [u8; 8]
+    ensures { result ≡ last_from layout numbers.now 0 }
 {
+    let &[kind, .., a, b, c, d] = numbers;
     match layout {
         Layout::Narrow if kind != NUMBER => [low(a), low(b), low(c), low(d), 0, 0, 0, 0],
         _ => four_words(a, b, c, d),
@@ -91,8 +92,7 @@ fn encode_node(layout: Layout, numbers: &[u16; 10], nodes: &mut [u8], at: usize)
     requires { at + node_size layout ≤ length nodes.old }
     ensures { nodes.new ≡ written nodes.old at (node_from layout numbers.now 0) }
 {
-    let &[kind, .., a, b, c, d] = numbers;
-    let rest = last_eight(layout, kind, a, b, c, d);
+    let rest = last_eight(layout, numbers);
     match layout {
         Layout::Narrow => write_parts(nodes, at, &narrow_head(numbers), &rest),
         Layout::Wide => write_parts(nodes, at, &wide_head(numbers), &rest),
@@ -108,7 +108,8 @@ pub fn encode_nodes(layout: Layout, numbers: &[u16], n: usize, nodes: &mut [u8])
     if layout.most_tokens() < n || chunks.len() < n || nodes.len() < store {
         return;
     }
-    clear(nodes, 0, store);
+    clear(&mut nodes[..store]);
+    // The place is computed, here and in diagnostics.rt: of a store that is lent in chunks the library says nothing afterwards.
     let size = layout.node_size();
     for (i, record) in chunks[..n].iter().enumerate() {
         encode_node(layout, record, nodes, size * i);

@@ -12,20 +12,26 @@ use records::{Span, write};
 
 // No node: a number, not an `Option`, as the record's bytes have it (docs/FORMAT.md).
 const ABSENT: u16 = 65535;
+
 // No register, likewise.
 const NONE: u8 = 255;
+
+// The numbers that stand for a base without a span (docs/FORMAT.md): the first of the eight suppressed address registers, the program counter,
+// and the suppressed one.
+const FIRST_SUPPRESSED: u8 = 0x18;
+
+const PROGRAM_COUNTER: u8 = 0x20;
+
+const SUPPRESSED_PROGRAM_COUNTER: u8 = 0x21;
 
 // A displacement with the same bytes, in both layouts.
 fn sized_part(d: Option<Sized>) -> Sized
     ensures { SizedAs result d }
 {
-    match d {
-        Some(x) => x,
-        None => Sized {
-            node: ABSENT,
-            size: 0,
-        },
-    }
+    d.unwrap_or(Sized {
+        node: ABSENT,
+        size: 0,
+    })
 }
 
 // A number that stands for a register, and no span.
@@ -44,9 +50,9 @@ fn base_part(base: BaseRegister) -> Register
 {
     match base {
         BaseRegister::Address(r) => r,
-        BaseRegister::ProgramCounter => spanless(32),
-        BaseRegister::SuppressedAddress(n) => spanless(24 + n % 8),
-        BaseRegister::SuppressedProgramCounter => spanless(33),
+        BaseRegister::ProgramCounter => spanless(PROGRAM_COUNTER),
+        BaseRegister::SuppressedAddress(n) => spanless(FIRST_SUPPRESSED + n % 8),
+        BaseRegister::SuppressedProgramCounter => spanless(SUPPRESSED_PROGRAM_COUNTER),
         BaseRegister::Omitted => spanless(NONE),
     }
 }
@@ -55,16 +61,13 @@ fn base_part(base: BaseRegister) -> Register
 fn index_part(index: Option<IndexRegister>) -> IndexRegister
     ensures { IndexAs result index }
 {
-    match index {
-        Some(x) => x,
-        None => IndexRegister {
-            register: spanless(NONE),
-            size: 0,
-            scale: 0,
-            suppressed: false,
-            span: Span { start: 0, end: 0 },
-        },
-    }
+    index.unwrap_or(IndexRegister {
+        register: spanless(NONE),
+        size: 0,
+        scale: 0,
+        suppressed: false,
+        span: Span { start: 0, end: 0 },
+    })
 }
 
 // The parts of a record that may be absent, filled in with the same bytes.

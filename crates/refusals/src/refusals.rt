@@ -1,8 +1,7 @@
 // The refusals of a call, but for those of its tokens: what is lent and given is looked at in the table's order, and nothing is written.
 ghost use Rattle.std.specs.Prelude.{◌≡◌, ◌+◌, ◌/◌, ltb};
-ghost use Rattle.names.specs.Choice.{either};
 ghost use Rattle.operand.specs.Layouts.{diagnostic_size, free_records};
-ghost use Rattle.operand.specs.Entry.{highest_limit, foreign, line_and_list, start_stores_and_limit, first_of};
+ghost use Rattle.operand.specs.Entry.{foreign, line_and_list, start_stores_and_limit, first_of};
 ghost use Rattle.operand.specs.RefusalNumbers;
 
 use operand::{Layout, Refusal};
@@ -13,24 +12,13 @@ const LOWEST_LIMIT: usize = 1;
 // The highest one.
 const HIGHEST_LIMIT: usize = 128;
 
-// The printable bytes: from a space on, up to `~`.
-const FIRST_PRINTABLE: u8 = 32;
-
-const LAST_PRINTABLE: u8 = 126;
-
-fn is_foreign(byte: u8) -> bool
-    ensures { result ≡ either (ltb byte 32) (ltb 126 byte) }
-{
-    byte < FIRST_PRINTABLE || LAST_PRINTABLE < byte
-}
-
 // Whether a byte of the line is not printable. All are looked at, and nothing branches, so that several are looked at in one step.
 fn foreign(line: &[u8]) -> bool
     ensures { result ≡ foreign line.now }
 {
     let mut found = false;
     for byte in line {
-        found |= is_foreign(*byte);
+        found |= !matches!(byte, b' '..=b'~');
     }
     found
 }
@@ -61,13 +49,6 @@ fn crowded(layout: Layout, bytes: usize, used: usize) -> bool
     records < free || records - free < used
 }
 
-// Whether a nesting limit is outside 1 to 128. Apart from `is_foreign`: another type and another definition, a line each.
-fn out_of_range(limit: usize) -> bool
-    ensures { result ≡ either (ltb limit 1) (ltb highest_limit limit) }
-{
-    limit < LOWEST_LIMIT || HIGHEST_LIMIT < limit
-}
-
 // The refusal of the start, a store or the nesting limit, of number 5 to 7 or 18, if there is one: by the tokens' number and the stores' bytes.
 pub fn refuse_start_stores_and_limit(
     layout: Layout,
@@ -89,7 +70,7 @@ pub fn refuse_start_stores_and_limit(
     if crowded(layout, diagnostics, used) {
         return Err(Refusal::ShortDiagnostics);
     }
-    if out_of_range(limit) {
+    if !matches!(limit, LOWEST_LIMIT..=HIGHEST_LIMIT) {
         return Err(Refusal::BadLimit);
     }
     Ok(())

@@ -9,6 +9,7 @@ use native.Mathlib.Omega.{arith}
 use borrow.Author.Tests.{eq-eqb, ne_eqb, eqb-true, eqb-false}
 use lib.Dec.{eqb}
 use lib.ListN.{length, get_or}
+use Rattle.std.proofs.lemmas.Grind.{get_or_default_zero}
 use Rattle.names.specs.Choice.{pick, both}
 use Rattle.names.specs.Letters.{bytes, same}
 use Rattle.names.specs.Laws.{both_true, same_true}
@@ -72,6 +73,10 @@ word_once n h = same_true _ _ (passes_at (λ k. same (get_or words k []) (get_or
 word_twice : (n : ℕ) → 19 ≤ n → n < 21 → get_or words n [] ≡ get_or sign_bytes n 0 ∷ get_or sign_bytes n 0 ∷ []
 unfolding same
 word_twice n l h = same_true _ _ (passes_at (λ k. same (get_or words k []) (get_or sign_bytes k 0 ∷ get_or sign_bytes k 0 ∷ [])) 19 2 n refl l (omega arith))
+
+-- the byte that is looked up in the table
+pub sign_byte : (b m n : ℕ) → b ≡ get_or sign_bytes m b → m ≡ n → n < 21 → b ≡ get_or sign_bytes n 0
+sign_byte b m n e f h = e ∙ ap (λ k. get_or sign_bytes k b) f ∙ get_or_default_zero sign_bytes n b h
 
 module _ (x : List ℕ) (n : ℕ) where
   pub sign_any : 21 ≤ n → spelled_as signs n x ≡ true

@@ -1,30 +1,30 @@
 -- Tokens decoded one behind the other.
 -- Assumes nothing.
-use Rattle.std.proofs.Common.{Some, None}
 use mathlib.Core.Path.{◌≡◌, refl, sym, ◌∙◌, ap, ap₂}
 use mathlib.Core.Bool.{Bool, true, false, ◌&&◌}
 use mathlib.Core.List.{List, [], ◌∷◌, ◌++◌}
 use Prim.Native.Nat.{ℕ, zero, suc, ◌+◌, ◌*◌, ◌/◌, ◌≤◌, ◌<◌}
 use native.Mathlib.Omega.{arith}
-use borrow.Author.Tests.{leb-true, le-leb, lt-leb}
-use lib.Dec.{leb}
+use borrow.Author.Tests.{le-leb, lt-leb}
 use lib.ListN.{length, take, drop, get_or}
+use Rattle.std.proofs.Common.{get_or-take, get_or-drop, drop-drop, add-zero}
+use native.Mathlib.Nat.{mul-zero, mul-suc}
+use Rattle.std.specs.Simd.{first_chunks}
 use lib.Seq.{length-take-le, take-add}
 use Rattle.names.specs.Choice.{pick, both}
 use Rattle.names.specs.Laws.{both_true}
-use Rattle.names.specs.Tokens.{count, token_from, token_at}
-use Rattle.names.specs.declared.tokens.Token.{Token}
+use Rattle.names.specs.Tokens.{count}
 use Rattle.records.specs.Stores.{written}
-use Rattle.records.specs.Written.{written_fits, written_take, written_more, written_not, length_written}
+use Rattle.records.specs.Written.{written_fits, written_take, written_more, written_not}
 use Rattle.operand.specs.declared.layouts.Layout.{Layout}
 use Rattle.operand.specs.Layouts.{joined, joined_tokens, token_numbers}
 use Rattle.operand.specs.RefusalNumbers
 use Rattle.operand.specs.Entry.{good_token, good_tokens}
-use Rattle.operand.specs.Listed.{token_below, four, tokens_end, tokens_from}
+use Rattle.operand.specs.Listed.{four, tokens_end, tokens_from}
 use Rattle.decoding.specs.Tokens.{decodes, decoded, Decoded}
 
 -- the code's and
-pub and_both : (a b : Bool) → (a && b) ≡ both a b
+and_both : (a b : Bool) → (a && b) ≡ both a b
 and_both true b = refl
 and_both false b = refl
 
@@ -32,27 +32,44 @@ both_assoc : (a b c : Bool) → both (both a b) c ≡ both a (both b c)
 both_assoc true b c = refl
 both_assoc false b c = refl
 
+-- ---- tokens as chunks
+
+chunk : (n k : ℕ) (T : List ℕ) (i : ℕ) (x : List ℕ) → i < k → get_or (first_chunks n k T) i x ≡ take n (drop (n * i) T)
+chunk n zero T i x h = absurd (omega arith)
+chunk n (suc k) T zero x h = ap (λ j. take n (drop j T)) (sym (mul-zero n))
+chunk n (suc k) T (suc i) x h = chunk n k (drop n T) i x (omega arith) ∙ ap (take n) (drop-drop (n * i) n T) ∙ ap (λ j. take n (drop j T)) (omega (arith, mul-suc n i))
+
+-- the j-th number of the i-th chunk
+module _ (n k : ℕ) (T : List ℕ) (C : List (List ℕ)) (front : C ≡ first_chunks n k T) (i : ℕ) (h : i < k) where
+  pub number : (j : ℕ) → j < n → get_or (get_or C i []) j 0 ≡ get_or T (n * i + j) 0
+  number j g = ap (λ x. get_or (get_or x i []) j 0) front ∙ ap (λ x. get_or x j 0) (chunk n k T i [] h) ∙ get_or-take n (drop (n * i) T) j 0 g ∙ get_or-drop (n * i) T j 0
+
+  pub first : 0 < n → get_or (get_or C i []) 0 0 ≡ get_or T (n * i) 0
+  first g = number 0 g ∙ ap (λ p. get_or T p 0) (add-zero (n * i))
+
 -- ---- decoded one behind the other
 
 module _ (T M : List ℕ) where
   pub none_decoded : M ≡ written M 0 (take (4 * 0) T)
   none_decoded = sym (written_fits M 0 [] (omega arith))
 
-  pub decoded_long : (M₁ : List ℕ) (i : ℕ) → i ≤ count T → 4 * count T ≤ length M → M₁ ≡ written M 0 (take (4 * i) T) → length M₁ ≡ length M
-  decoded_long M₁ i h r e = ap length e ∙ length_written M 0 (take (4 * i) T) (omega (arith, length-take-le (4 * i) T (omega arith)))
-
-  pub one_decoded : (i : ℕ) → i < count T → (t : Token) → t ≡ token_from T i → (M₁ M₂ : List ℕ) → 4 * count T ≤ length M → M₁ ≡ written M 0 (take (4 * i) T)
-      → M₂ ≡ written M₁ (4 * i) (t.kind ∷ t.detail ∷ t.start ∷ t.end ∷ []) → M₂ ≡ written M 0 (take (4 * (i + 1)) T)
-  one_decoded i h t is M₁ M₂ r e f =
-      let x : List ℕ = get_or T (4 * i) 0 ∷ get_or T (4 * i + 1) 0 ∷ get_or T (4 * i + 2) 0 ∷ get_or T (4 * i + 3) 0 ∷ [] in
+  pub one_decoded : (i : ℕ) → i < count T → (k d s e : ℕ) → k ≡ get_or T (4 * i) 0 → d ≡ get_or T (4 * i + 1) 0 → s ≡ get_or T (4 * i + 2) 0 → e ≡ get_or T (4 * i + 3) 0
+      → (M₁ M₂ : List ℕ) → 4 * count T ≤ length M → M₁ ≡ written M 0 (take (4 * i) T) → M₂ ≡ written M₁ (4 * i) (k ∷ d ∷ s ∷ e ∷ []) → M₂ ≡ written M 0 (take (4 * (i + 1)) T)
+  one_decoded i h k d s e k_is d_is s_is e_is M₁ M₂ r told f =
+      let x : List ℕ = k ∷ d ∷ s ∷ e ∷ [] in
       let l : length (take (4 * i) T) ≡ 4 * i = length-take-le (4 * i) T (omega arith) in
-      let k : 4 * i ≡ 0 + length (take (4 * i) T) = omega arith in
+      let at : 4 * i ≡ 0 + length (take (4 * i) T) = omega arith in
       let n : 4 * (i + 1) ≡ 4 * i + 4 = omega arith in
-      let more : take (4 * (i + 1)) T ≡ take (4 * i) T ++ x = ap (λ j. take j T) n ∙ take-add (4 * i) 4 T ∙ ap (λ z. take (4 * i) T ++ take 4 z) (four T i h) in
-      f ∙ ap₂ (λ z u. written z (4 * i) (u.kind ∷ u.detail ∷ u.start ∷ u.end ∷ [])) e is
-      ∙ ap (λ j. written (written M 0 (take (4 * i) T)) j x) k
+      let more : take (4 * (i + 1)) T ≡ take (4 * i) T ++ x =
+      ap (λ j. take j T) n ∙ take-add (4 * i) 4 T ∙ ap (λ z. take (4 * i) T ++ take 4 z) (four T i h) ∙ rw (k_is, d_is, s_is, e_is) refl in
+      f ∙ ap₂ (λ z j. written z j x) told at
       ∙ written_more M 0 (take (4 * i) T) x (omega arith)
       ∙ ap (written M 0) (sym more)
+
+  -- narrow ones are the bytes
+  pub narrow_decoded : (n : ℕ) → n ≡ count T → written M 0 (take (4 * n) T) ≡ decoded Layout.Narrow T M
+  unfolding decoded token_numbers
+  narrow_decoded n e = ap (λ k. written M 0 (take (4 * k) T)) e
 
   module _ (w : Layout) (B : List ℕ) (is : T ≡ token_numbers w B) where
     pub all_decoded : (M' : List ℕ) (i : ℕ) → i ≡ count T → M' ≡ written M 0 (take (4 * i) T) → M' ≡ decoded w B M
@@ -68,24 +85,16 @@ module _ (T M : List ℕ) where
 
 -- ---- looked at one behind the other
 
-past : (T : List ℕ) (i : ℕ) → token_at T i ≡ None → count T ≤ i
-unfolding token_at
-past T i h = go (leb (count T) i) refl h
-  where
-    go : (b : Bool) → leb (count T) i ≡ b → pick b None (Some (token_from T i)) ≡ None → count T ≤ i
-    go true q g = leb-true (count T) i q
-    go false q g = let z : ◌≡◌ {A = ℕ} 0 1 = cc in absurd (omega arith)
-
 module _ (L T : List ℕ) (i : ℕ) where
-  pub one_good : (t : Token) → token_at T i ≡ Some t → (g b r : Bool) (p : ℕ) → b ≡ good_token L p t.kind t.detail t.start t.end → r ≡ both g b
-      → both r (good_tokens L t.end (drop (4 * (i + 1)) T)) ≡ both g (good_tokens L p (drop (4 * i) T))
-  one_good t h g b r p f e =
-      ap (λ z. both z (good_tokens L t.end (drop (4 * (i + 1)) T))) e
-      ∙ both_assoc g b (good_tokens L t.end (drop (4 * (i + 1)) T))
-      ∙ ap (both g) (let w = token_below T i t h in rw (f, ← w.1) (sym (tokens_from L p T i w.0)))
+  pub one_good : i < count T → (k d s e : ℕ) → k ≡ get_or T (4 * i) 0 → d ≡ get_or T (4 * i + 1) 0 → s ≡ get_or T (4 * i + 2) 0 → e ≡ get_or T (4 * i + 3) 0
+      → (g b : Bool) (p : ℕ) → b ≡ good_token L p k d s e → both (g && b) (good_tokens L e (drop (4 * (i + 1)) T)) ≡ both g (good_tokens L p (drop (4 * i) T))
+  one_good h k d s e k_is d_is s_is e_is g b p f =
+      ap (λ z. both z (good_tokens L e (drop (4 * (i + 1)) T))) (and_both g b)
+      ∙ both_assoc g b (good_tokens L e (drop (4 * (i + 1)) T))
+      ∙ ap (both g) (rw (f, k_is, d_is, s_is, e_is) (sym (tokens_from L p T i h)))
 
-  pub all_good : (g : Bool) (p : ℕ) → token_at T i ≡ None → both g (good_tokens L p (drop (4 * i) T)) ≡ good_tokens L 0 T → g ≡ good_tokens L 0 T
-  all_good g p h e = sym (both_true g) ∙ ap (both g) (sym (tokens_end L p T i (past T i h))) ∙ e
+  pub all_good : (g : Bool) (p : ℕ) → count T ≤ i → both g (good_tokens L p (drop (4 * i) T)) ≡ good_tokens L 0 T → g ≡ good_tokens L 0 T
+  all_good g p h e = sym (both_true g) ∙ ap (both g) (sym (tokens_end L p T i h)) ∙ e
 
 -- a rest that is no whole token is not looked at
 whole : (L T : List ℕ) (p : ℕ) → good_tokens L p (take (4 * count T) T) ≡ good_tokens L p T
@@ -113,7 +122,7 @@ all_told L T M w B is h k all M' r f e =
 
 -- ---- a wide token's bytes
 
-joined_at : (T : List ℕ) (i : ℕ) → i < length T / 6
+pub joined_at : (T : List ℕ) (i : ℕ) → i < length T / 6
     → (get_or (joined_tokens T) (4 * i) 0 ≡ get_or T (6 * i) 0)
     × (get_or (joined_tokens T) (4 * i + 1) 0 ≡ get_or T (6 * i + 1) 0)
     × (get_or (joined_tokens T) (4 * i + 2) 0 ≡ joined (get_or T (6 * i + 2) 0) (get_or T (6 * i + 3) 0))
@@ -133,8 +142,3 @@ joined_at (k ∷ d ∷ s ∷ s₂ ∷ e ∷ e₂ ∷ ts) (suc i) h =
     let six₀ : 6 * suc i ≡ suc (suc (suc (suc (suc (suc (6 * i)))))) = omega arith in
     let e = joined_at ts i (omega arith) in
     (rw (four₀, six₀) e.0, rw (four 1, six 1) e.1, rw (four 2, six 2, six 3) e.2, rw (four 3, six 4, six 5) e.3)
-
-pub wide_token : (T : List ℕ) (i : ℕ) → i < length T / 6
-    → record { kind = get_or T (6 * i) 0; detail = get_or T (6 * i + 1) 0; start = joined (get_or T (6 * i + 2) 0) (get_or T (6 * i + 3) 0); end = joined (get_or T (6 * i + 4) 0) (get_or T (6 * i + 5) 0) }
-    ≡ token_from (joined_tokens T) i
-wide_token T i h = let e = joined_at T i h in rw (e.0, e.1, e.2, e.3) refl

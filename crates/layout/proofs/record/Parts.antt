@@ -3,13 +3,18 @@
 use mathlib.Core.Path.{◌≡◌, refl, sym}
 use mathlib.Core.List.{[], ◌∷◌}
 use Prim.Native.Nat.{◌/◌}
+use Rattle.std.specs.Prelude.{Option, Some, None, false, unwrap_or}
+use Rattle.operand.specs.Records.{flag}
 use Rattle.records.specs.Nodes.{low_first}
+use Rattle.records.specs.Spans.{no_span}
 use Rattle.operand.specs.declared.layouts.Layout.{Layout}
 use Rattle.operand.specs.Layouts.{number}
 use Rattle.operand.specs.Layout.{low, sized_part, base_part, index_part, bytes_of}
+use Rattle.operand.specs.declared.forms.IndexRegister.{IndexRegister}
 use Rattle.operand.specs.declared.forms.OperandRecord.{OperandRecord}
+use Rattle.operand.specs.declared.forms.Sized.{Sized}
 use Rattle.layout.specs.declared.record.Filled.{Filled}
-use Rattle.layout.specs.Record.{FilledFrom}
+use Rattle.layout.specs.Record.{SizedAs, IndexAs, FilledFrom}
 
 module _ (x : OperandRecord) (p : Filled) (h : FilledFrom x p) where
   pub narrow_record : x.form ∷ low x.span.start ∷ low x.span.end ∷ low p.displacement.node ∷ p.displacement.size ∷ p.base.index ∷ low p.base.span.start ∷ low p.base.span.end ∷ p.index.register.index ∷ low p.index.register.span.start ∷ low p.index.register.span.end ∷ p.index.size ∷ p.index.scale ∷ p.suppressed ∷ low p.index.span.start ∷ low p.index.span.end ∷ x.indirection ∷ low p.outer.node ∷ p.outer.size ∷ x.special ∷ []
@@ -21,3 +26,15 @@ module _ (x : OperandRecord) (p : Filled) (h : FilledFrom x p) where
       ≡ bytes_of Layout.Wide x
   unfolding bytes_of sized_part base_part index_part number low_first
   wide_record = rw (sym (h.displacement Layout.Wide), sym (h.base Layout.Wide), sym (h.index Layout.Wide), sym (h.outer Layout.Wide), h.suppressed) refl
+
+-- ---- what may be absent
+
+pub sized_as : (d : Option Sized) → SizedAs (unwrap_or d (record { node = 65535; size = 0 })) d
+unfolding sized_part
+sized_as (Some x) w = refl
+sized_as None w = refl
+
+pub index_as : (x : Option IndexRegister) → IndexAs (unwrap_or x (record { register = record { index = 255; span = no_span }; size = 0; scale = 0; suppressed = false; span = no_span })) x
+unfolding index_part flag
+index_as (Some x) w = refl
+index_as None w = refl

@@ -9,16 +9,16 @@ use native.Mathlib.Omega.{arith}
 use native.Mathlib.Numerals.{add-one}
 use borrow.Author.Tests.{leb-true, leb-false, le-leb, lt-leb}
 use lib.Dec.{leb}
-use lib.ListN.{length, take, drop, get_or, replicate, length-append, length-take, length-drop, length-replicate, take-append-drop, replicate-append-replicate}
+use lib.ListN.{length, take, drop, drop_of_length-le, replicate, length-append, length-take, length-drop, length-replicate, take-append-drop, replicate-append-replicate}
 use lib.Seq.{drop_at}
 use Rattle.records.specs.Nodes.{low_first}
 use Rattle.records.specs.Stores.{written, cleared}
 use Rattle.records.specs.Written.{written_fits, written_more, written_not, cleared_fits}
 use Rattle.operand.specs.declared.layouts.Layout.{Layout}
 use Rattle.operand.specs.Layouts.{number, node_size, diagnostic_size, most_tokens, node_store, nodes_within, records_within, records_past}
-use Rattle.operand.specs.Layout.{last_eight, records_laid, node_from, node_bytes}
+use Rattle.operand.specs.Layout.{records_laid, node_from, node_bytes}
 use Rattle.operand.specs.Lengths.{length_records, length_node_bytes}
-use Rattle.layout.specs.Nodes.{head_from, nodes_encoded}
+use Rattle.layout.specs.Nodes.{head_from, last_from, nodes_encoded}
 use Rattle.layout.specs.Diagnostics.{diagnostic_from, diagnostics_encoded}
 
 -- ---- records one behind the other
@@ -58,13 +58,13 @@ module _ (f : List ℕ → ℕ → List ℕ) (k : ℕ) (M : List ℕ) (long : (p
 -- ---- a node
 
 node_parts : (w : Layout) (M : List ℕ) (p : ℕ)
-    → head_from w M p ++ last_eight w (get_or M p 0) (get_or M (p + 6) 0) (get_or M (p + 7) 0) (get_or M (p + 8) 0) (get_or M (p + 9) 0) ≡ node_from w M p
+    → head_from w M p ++ last_from w M p ≡ node_from w M p
 unfolding node_from number low_first
 node_parts Layout.Narrow M p = refl
 node_parts Layout.Wide M p = refl
 
 pub node_written : (w v : Layout) (M : List ℕ) (p at : ℕ) (N N' h r : List ℕ) → w ≡ v → N' ≡ written N at (h ++ r) → h ≡ head_from v M p
-    → r ≡ last_eight w (get_or M p 0) (get_or M (p + 6) 0) (get_or M (p + 7) 0) (get_or M (p + 8) 0) (get_or M (p + 9) 0) → N' ≡ written N at (node_from w M p)
+    → r ≡ last_from w M p → N' ≡ written N at (node_from w M p)
 node_written w v M p at N N' h r is e f g =
     e ∙ ap₂ (λ x y. written N at (x ++ y)) (f ∙ ap (λ l. head_from l M p) (sym is)) g ∙ ap (written N at) (node_parts w M p)
 
@@ -93,6 +93,14 @@ cleared_on N N₁ N₂ f a b low l h e g =
     ∙ written_more N f x y (omega (arith, length-replicate {A = ℕ} (a - f) 0, length-replicate {A = ℕ} (b - a) 0))
     ∙ ap (written N f) (replicate-append-replicate (a - f) (b - a) 0 ∙ ap (λ k. replicate k 0) all)
     ∙ sym (zeros_written N f b (omega arith) h)
+
+-- all of it
+pub cleared_all : (N N' : List ℕ) → N' ≡ cleared N 0 (length N) → N' ≡ replicate (length N) 0
+cleared_all N N' e =
+    let n : length N - 0 ≡ length N = omega arith in
+    e ∙ cleared_fits N 0 (length N) (omega arith) (omega arith)
+    ∙ ap₂ (λ k l. replicate k 0 ++ l) n (drop_of_length-le N (omega arith))
+    ∙ append-nil (replicate (length N) 0)
 
 module _ (w : Layout) (M N : List ℕ) where
   -- over zeros

@@ -1,11 +1,11 @@
--- The tests of the refusals, each at what the code looks at: a byte of the line, the free records.
+-- The tests of the refusals, each at what the code looks at: a byte of the line, a number in a range, the list.
 -- Assumes nothing.
 use mathlib.Core.Path.{◌≡◌, refl, sym, ◌∙◌, ap₂}
 use mathlib.Core.Bool.{Bool, true, false, not, ◌||◌}
 use mathlib.Core.List.{List}
 use Prim.Native.Nat.{ℕ, ◌+◌, ◌*◌, ◌/◌, ◌%◌, ◌≤◌, ◌<◌}
 use native.Mathlib.Omega.{arith}
-use borrow.Author.Tests.{lt-ltb, le-ltb, ltb-true, ltb-false, eq-eqb, ne_eqb}
+use borrow.Author.Tests.{lt-ltb, le-ltb, eq-eqb, ne_eqb}
 use lib.Dec.{eqb, ltb}
 use lib.ListN.{length, get_or, drop, drop_of_length-le}
 use Rattle.names.specs.Choice.{either}
@@ -30,15 +30,21 @@ pub or_either : (a b : Bool) → (a || b) ≡ either a b
 or_either true b = refl
 or_either false b = refl
 
--- ---- the free records
+either_true : (a : Bool) → either a true ≡ true
+either_true true = refl
+either_true false = refl
 
--- two comparisons that say the same
-pub as_less : (m u n k : ℕ) → (m < u → n < k) → (u ≤ m → k ≤ n) → ltb m u ≡ ltb n k
-as_less m u n k f g = go (ltb m u) refl
-  where
-    go : (b : Bool) → ltb m u ≡ b → b ≡ ltb n k
-    go true q = sym (lt-ltb n k (f (ltb-true m u q)))
-    go false q = sym (le-ltb n k (g (ltb-false m u q)))
+-- ---- a number within a range, below it and above it
+
+module _ (low high n : ℕ) where
+  pub within : low ≤ n → n ≤ high → either (ltb n low) (ltb high n) ≡ false
+  within l h = rw (le-ltb n low l, le-ltb high n h)
+
+  pub below : n < low → either (ltb n low) (ltb high n) ≡ true
+  below h = rw (lt-ltb n low h)
+
+  pub above : high < n → either (ltb n low) (ltb high n) ≡ true
+  above h = rw (lt-ltb high n h) (either_true _)
 
 -- ---- the list
 
@@ -50,10 +56,6 @@ rest_none Layout.Wide bytes h = omega arith
 rest_some : (w : Layout) (bytes : ℕ) → (token_size w * (bytes / token_size w) ≡ bytes → ⊥) → bytes % token_size w ≡ 0 → ⊥
 rest_some Layout.Narrow bytes h e = h (omega arith)
 rest_some Layout.Wide bytes h e = h (omega arith)
-
-either_true : (a : Bool) → either a true ≡ true
-either_true true = refl
-either_true false = refl
 
 module _ (w : Layout) (bytes s n : ℕ) (size : s ≡ token_size w) (count : n ≡ bytes / token_size w) where
   whole : s * n ≡ bytes → token_size w * (bytes / token_size w) ≡ bytes

@@ -1,28 +1,18 @@
 -- `decoding::tokens::good_tokens` meets its contract. The loop's invariant: the tokens looked at and those left together are good just where all are.
 -- Assumes nothing.
-use mathlib.Core.Path.{refl, sym, ◌∙◌}
+use mathlib.Core.Path.{◌∙◌}
 use native.Mathlib.Omega.{arith}
-use Rattle.names.specs.Tokens.{token_told}
-use Rattle.operand.specs.Listed.{token_below}
-use Rattle.decoding.proofs.tokens.Decoding.{one_good, all_good, and_both}
+use Rattle.names.specs.Tokens.{count}
+use Rattle.decoding.proofs.tokens.Decoding.{number, first, one_good, all_good}
 use Rattle.decoding.proofs.tokens.good_tokens.Goals as goal
 
-pub loop-token-init : goal.loop-token-init
-loop-token-init c =
-    refl
-
-pub overflow_add-i : goal.overflow_add-i
-overflow_add-i c =
-    omega (arith, (token_below _ _ _ (sym (token_told _ _ _ c.token_at.ensures) ∙ c.in-Some.is)).0)
-
-pub loop-token-smaller : goal.loop-token-smaller
-loop-token-smaller c =
-    omega (arith, (token_below _ _ _ (sym (token_told _ _ _ c.token_at.ensures) ∙ c.in-Some.is)).0)
-
-pub loop-token-preserved : goal.loop-token-preserved
-loop-token-preserved c =
-    one_good c.args.line.now c.args.numbers.now c.loop-token.i _ (sym (token_told _ _ _ c.token_at.ensures) ∙ c.in-Some.is) c.loop-token.good c.good_token-good.result _ c.loop-token.last c.good_token-good.ensures (and_both c.loop-token.good c.good_token-good.result) ∙ c.loop-token.invariant
+pub loop-kind-preserved : goal.loop-kind-preserved
+loop-kind-preserved c =
+    let T = c.args.numbers.now in
+    let i = c.loop-kind.kind-index in
+    let on = number 4 (count T) T c.as_chunks.result.0.now c.as_chunks.ensures.front i (omega (arith, c.as_chunks.ensures.front_len)) in
+    one_good c.args.line.now T i (omega (arith, c.as_chunks.ensures.front_len)) _ _ _ _ (first 4 (count T) T c.as_chunks.result.0.now c.as_chunks.ensures.front i (omega (arith, c.as_chunks.ensures.front_len)) (omega arith)) (on 1 (omega arith)) (on 2 (omega arith)) (on 3 (omega arith)) c.loop-kind.good _ c.loop-kind.last c.good_token-good.ensures ∙ c.loop-kind.invariant
 
 pub returns : goal.returns
 returns c =
-    all_good c.args.line.now c.args.numbers.now c.loop-token.i _ c.loop-token.last (sym (token_told _ _ _ c.token_at.ensures) ∙ c.in_default.is) c.loop-token.invariant
+    all_good c.args.line.now c.args.numbers.now c.loop-kind.kind-index _ c.loop-kind.last (omega (arith, c.as_chunks.ensures.front_len)) c.loop-kind.invariant

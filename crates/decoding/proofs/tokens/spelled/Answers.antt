@@ -1,18 +1,24 @@
 -- `decoding::tokens::spelled` meets its contract, by the rule of the table.
 -- Assumes nothing.
-use mathlib.Core.Path.{sym, ◌∙◌}
+use mathlib.Core.Path.{sym, ◌∙◌, ap}
+use mathlib.Core.List.{[], ◌∷◌}
 use native.Mathlib.Omega.{arith}
-use Rattle.decoding.proofs.tokens.Checks.{sign_any, sign_once, sign_twice}
+use borrow.Author.Tests.{ltb-true, ltb-false}
+use Rattle.names.specs.Letters.{same}
+use Rattle.decoding.proofs.tokens.Checks.{sign_any, sign_byte, sign_once, sign_twice}
 use Rattle.decoding.proofs.tokens.spelled.Goals as goal
 
-pub returns-then-kind-gt-SHIFT_RIGHT : goal.returns-then-kind-gt-SHIFT_RIGHT
-returns-then-kind-gt-SHIFT_RIGHT c =
-    sym (sign_any _ _ (omega (arith, c.if-kind-gt-SHIFT_RIGHT.true, c.requires)))
+pub returns-in-Some : goal.returns-in-Some
+returns-in-Some c =
+    let byte = sign_byte _ _ _ c.in-Some.ensures.lookup.1 c.from.ensures (omega (arith, c.if-kind-lt-SHIFT_LEFT.true)) in
+    c.once.ensures ∙ ap (λ b. same c.args.text.now (b ∷ [])) byte ∙ sym (sign_once _ _ (omega (arith, c.if-kind-lt-SHIFT_LEFT.true)))
 
-pub returns-then-kind-lt-SHIFT_LEFT : goal.returns-then-kind-lt-SHIFT_LEFT
-returns-then-kind-lt-SHIFT_LEFT c =
-    c.once.ensures ∙ sym (sign_once _ _ (omega (arith, c.if-kind-lt-SHIFT_LEFT.true, c.requires)))
+pub returns-in-Some-2 : goal.returns-in-Some-2
+returns-in-Some-2 c =
+    let within = ltb-true c.from.result 21 (sym c.in-Some.ensures.lookup.0) in
+    let byte = sign_byte _ _ _ c.in-Some.ensures.lookup.1 c.from.ensures (omega (arith, within, c.from.ensures)) in
+    c.twice.ensures ∙ ap (λ b. same c.args.text.now (b ∷ b ∷ [])) byte ∙ sym (sign_twice _ _ (omega (arith, c.if-kind-lt-SHIFT_LEFT.false, c.requires)) (omega (arith, within, c.from.ensures)))
 
-pub returns : goal.returns
-returns c =
-    c.twice.ensures ∙ sym (sign_twice _ _ (omega (arith, c.if-kind-lt-SHIFT_LEFT.false, c.requires)) (omega (arith, c.if-kind-gt-SHIFT_RIGHT.false, c.requires)))
+pub returns-in-None : goal.returns-in-None
+returns-in-None c =
+    sym (sign_any _ _ (omega (arith, ltb-false c.from.result 21 (sym c.in-None.ensures.lookup.0), c.from.ensures)))

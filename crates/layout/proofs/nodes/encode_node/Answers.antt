@@ -1,19 +1,7 @@
 -- `layout::nodes::encode_node` meets its contract.
 -- Assumes nothing.
-use mathlib.Core.Path.{ap, ◌∙◌}
-use native.Mathlib.Omega.{arith}
-use lib.ListN.{length}
-use Rattle.operand.specs.Lengths.{length_last}
 use Rattle.layout.proofs.store.Encoding.{node_written}
 use Rattle.layout.proofs.nodes.encode_node.Goals as goal
-
-pub write_parts-requires : goal.write_parts-requires
-write_parts-requires c =
-    omega (arith, rw c.in-Narrow.is at c.requires, ap length c.last_eight-rest.ensures ∙ length_last _ _ _ _ _ _)
-
-pub write_parts-requires-in-Wide : goal.write_parts-requires-in-Wide
-write_parts-requires-in-Wide c =
-    omega (arith, rw c.in-Wide.is at c.requires, ap length c.last_eight-rest.ensures ∙ length_last _ _ _ _ _ _)
 
 pub returns-in-Narrow : goal.returns-in-Narrow
 returns-in-Narrow c =

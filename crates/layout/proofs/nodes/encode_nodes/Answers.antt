@@ -4,6 +4,7 @@ use mathlib.Core.Path.{◌≡◌, refl, ap}
 use Prim.Native.Nat.{◌+◌, ◌*◌, ◌≤◌, ◌<◌}
 use native.Mathlib.Omega.{arith}
 use lib.Seq.{length-take-le}
+use Rattle.records.specs.Written.{put_cleared}
 use Rattle.layout.specs.Nodes.{nodes_encoded}
 use Rattle.operand.specs.Layouts.{node_size, nodes_within}
 use Rattle.operand.specs.Layout.{node_from}
@@ -31,21 +32,24 @@ loop-i-init c =
 
 pub encode_node-requires : goal.encode_node-requires
 encode_node-requires c =
+    let zeros = put_cleared c.args.nodes.now 0 c.node_store-store.result c.node_store-store.result _ (omega arith) (omega arith) (omega arith) c.clear.ensures in
     let k = node_size c.args.layout in
     let on : c.loop-i.i < c.args.n = omega (arith, length-take-le c.args.n c.as_chunks.result.0.now (omega arith)) in
     let within : c.node_size-size.result * c.loop-i.i + k ≤ k * c.args.n = rw c.node_size-size.ensures (place_within k c.loop-i.i c.args.n on) in
-    omega (arith, cleared_long _ _ _ _ (omega arith) (omega arith) c.clear.ensures, c.node_store-store.ensures, nodes_within c.args.layout c.args.n (omega (arith, c.most_tokens.ensures)))
+    omega (arith, cleared_long _ _ _ _ (omega arith) (omega arith) zeros, c.node_store-store.ensures, nodes_within c.args.layout c.args.n (omega (arith, c.most_tokens.ensures)))
 
 pub loop-i-preserved : goal.loop-i-preserved
 loop-i-preserved c =
+    let zeros = put_cleared c.args.nodes.now 0 c.node_store-store.result c.node_store-store.result _ (omega arith) (omega arith) (omega arith) c.clear.ensures in
     let w = c.args.layout in
     let M = c.args.numbers.now in
     let k = node_size w in
     let on : c.loop-i.i < c.args.n = omega (arith, length-take-le c.args.n c.as_chunks.result.0.now (omega arith)) in
     let at : c.node_size-size.result * c.loop-i.i ≡ 0 + k * c.loop-i.i = omega (arith, ap (λ s. s * c.loop-i.i) c.node_size-size.ensures) in
-    let long = cleared_long _ _ _ _ (omega arith) (omega arith) c.clear.ensures in
+    let long = cleared_long _ _ _ _ (omega arith) (omega arith) zeros in
     records_on (node_from w) k M (length_node w M) _ 0 _ _ c.loop-i.i _ at (omega (arith, c.node_store-store.ensures, place_within k c.loop-i.i c.args.n on, nodes_within w c.args.n (omega (arith, c.most_tokens.ensures)))) c.loop-i.invariant (node_from_chunk M _ c.args.n c.loop-i.i _ _ c.as_chunks.ensures.front c.as_chunks.ensures.front_len refl on (omega arith) w _ _ _ c.encode_node.ensures)
 
 pub returns : goal.returns
 returns c =
-    nodes_all c.args.layout c.args.numbers.now c.args.nodes.now _ _ c.args.n c.loop-i.i c.node_store-store.result (omega (arith, length-take-le c.args.n c.as_chunks.result.0.now (omega arith))) (omega (arith, c.most_tokens.ensures)) (omega (arith, c.as_chunks.ensures.front_len)) (omega (arith, c.node_store-store.ensures)) (omega arith) c.clear.ensures c.loop-i.invariant
+    let zeros = put_cleared c.args.nodes.now 0 c.node_store-store.result c.node_store-store.result _ (omega arith) (omega arith) (omega arith) c.clear.ensures in
+    nodes_all c.args.layout c.args.numbers.now c.args.nodes.now _ _ c.args.n c.loop-i.i c.node_store-store.result (omega (arith, length-take-le c.args.n c.as_chunks.result.0.now (omega arith))) (omega (arith, c.most_tokens.ensures)) (omega (arith, c.as_chunks.ensures.front_len)) (omega (arith, c.node_store-store.ensures)) (omega arith) zeros c.loop-i.invariant
