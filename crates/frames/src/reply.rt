@@ -47,7 +47,7 @@ fn refuse(layout: Layout, out: &mut [u8], at: usize, refusal: Refusal) -> usize
     requires { at + 6 ≤ length out.old }
     ensures { Put out.old out.new at (ended layout (refused (RefusalNumbers.number refusal))) result }
 {
-    let bytes = [REFUSED, refusal.number()];
+    let bytes = [REFUSED, u8::from(refusal)];
     let from = open_line(layout, out, at);
     let end = put(out, from, &bytes);
     end_line(out, end)
