@@ -81,7 +81,8 @@ fn case_of(operand: Option<OperandRecord>) -> u8
     operand.map_or(NO_OPERAND, |_| OPERAND)
 }
 
-// Writes the operand's record, if there is one, to the beginning of the store, and returns its length.
+// Writes the operand's record, if there is one, to the beginning of the store, and returns its length. A match: the closure of a `map_or`
+// would write to the store, which is no plainer.
 fn put_record(layout: Layout, operand: Option<OperandRecord>, store: &mut [u8]) -> usize
     requires { length store.old ≡ 30 }
     ensures { RecordPut layout operand store.new result }

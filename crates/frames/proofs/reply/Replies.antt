@@ -95,10 +95,6 @@ pub not_frame : (w : Layout) (B : List ℕ) → (length B ≡ frame_length w B �
 unfolding frame_bytes is_frame
 not_frame w B h = rw (ne_eqb (length B) (frame_length w B) h)
 
-pub width_small : (w : Layout) → width w ≤ 2
-width_small Layout.Narrow = omega arith
-width_small Layout.Wide = omega arith
-
 -- the bytes of the tokens, by the count where the code finds it
 pub frame_tokens : (w : Layout) (B : List ℕ) (line k c t : ℕ) → line ≡ line_length w B → k ≡ width w → c ≡ number_at w B (line + k) → t ≡ token_size w * c → t ≡ token_size w * token_count w B
 frame_tokens w B line k c t e f g h = h ∙ ap (λ n. token_size w * n) (g ∙ ap₂ (λ l m. number_at w B (l + m)) e f)
