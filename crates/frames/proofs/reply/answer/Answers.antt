@@ -2,7 +2,6 @@
 -- Assumes nothing.
 use mathlib.Core.Path.{◌≡◌}
 use native.Mathlib.Omega.{arith}
-use lib.Seq.{length-take-le}
 use Rattle.frames.proofs.batches.Turns.{held_long, held_narrow, held_refused, held_wide, wide_some, narrow_asks, put_as}
 use Rattle.frames.proofs.reply.answer.Goals as goal
 
