@@ -118,12 +118,12 @@ fn read_operand(
     )?;
     let end = 4 * count;
     let numbers = &list[..end];
+    // It is at most 128: `try_from` would have a case that never comes, which is no plainer.
     let depth = limit as u16;
-    match operand_at(&*line, numbers, records, reports, start, mark, depth) {
-        Some(r) => Ok(answered(layout, r, records, reports, nodes, diagnostics, used)),
-        // There is room, so that this never comes.
-        None => Err(Refusal::BadStart),
-    }
+    let read = operand_at(&*line, numbers, records, reports, start, mark, depth);
+    // There is room, so that this refusal never comes.
+    let r = read.ok_or(Refusal::BadStart)?;
+    Ok(answered(layout, r, records, reports, nodes, diagnostics, used))
 }
 
 // What was read, with its records written into the lent stores.

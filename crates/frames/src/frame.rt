@@ -37,20 +37,12 @@ fn number_at(layout: Layout, bytes: &[u8], at: usize) -> usize
 pub(crate) fn frame_line(layout: Layout, bytes: &[u8]) -> Option<usize>
     ensures { FramedAs layout bytes.now result }
 {
-    let n = bytes.len();
     let k = width(layout);
-    if n < 4 * k {
-        return None;
-    }
+    let line_and_list = bytes.len().checked_sub(4 * k)?;
     let line = number_at(layout, bytes, 0);
-    if n < line + 4 * k {
-        return None;
-    }
-    let tokens = layout.token_size() * number_at(layout, bytes, line + k);
-    if n - line - 4 * k != tokens {
-        return None;
-    }
-    Some(line)
+    let list = line_and_list.checked_sub(line)?;
+    let count = number_at(layout, bytes, line + k);
+    (list == layout.token_size() * count).then_some(line)
 }
 
 // Reads the operand of a frame whose line is so many bytes long.

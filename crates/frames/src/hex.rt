@@ -3,7 +3,7 @@ ghost use Rattle.std.specs.Prelude.{◌≡◌, ◌+◌, ◌*◌, ◌≤◌, ◌<
 ghost use Rattle.frames.specs.Hex.{digit, digits};
 ghost use Rattle.frames.specs.Inner.{digit_value, DecodedAs, Put};
 
-// The value of a digit.
+// The value of a digit. Not by `char::to_digit`, which takes capitals too.
 fn value(c: u8) -> Option<u8>
     ensures { result ≡ digit_value c }
 {
@@ -14,6 +14,7 @@ fn value(c: u8) -> Option<u8>
     }
 }
 
+// `char::from_digit` would answer an `Option` that is never `None`, of a `char`: no plainer.
 fn digit(n: u8) -> u8
     requires { n < 16 }
     ensures { result ≡ digit n }
@@ -26,19 +27,19 @@ pub(crate) fn decode(line: &[u8], store: &mut [u8]) -> Option<usize>
     requires { length line.now ≤ 2 * length store.old }
     ensures { DecodedAs line.now store.new result }
 {
-    if line.len() % 2 != 0 {
+    let (pairs, rest) = line.as_chunks::<2>();
+    if !rest.is_empty() {
         return None;
     }
-    let pairs = line.as_chunks::<2>().0;
+    // Tried: `zip` with `store.iter_mut()`; of a store behind an adapter nothing is told after the loop, and the proof didn't close.
     for (i, &[high, low]) in pairs.iter().enumerate() {
-        let high = value(high)?;
-        let low = value(low)?;
-        store[i] = 16 * high + low;
+        store[i] = 16 * value(high)? + value(low)?;
     }
     Some(pairs.len())
 }
 
-// Writes the digits of the bytes from a place on, and returns the next place.
+// Writes the digits of the bytes from a place on, and returns the next place. The places are counted, since nothing is told of what a slice
+// ends as after `as_chunks_mut`.
 pub(crate) fn put(out: &mut [u8], at: usize, bytes: &[u8]) -> usize
     requires { at + 2 * length bytes.now ≤ length out.old }
     ensures { Put out.old out.new at (digits bytes.now) result }

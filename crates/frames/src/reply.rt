@@ -1,5 +1,5 @@
 // The answer line of one input line. The output and the place in it are lent side by side: a struct of both would be lent anew at each call.
-ghost use Rattle.std.specs.Prelude.{◌≡◌, [], ◌∷◌, ◌++◌, ◌+◌, ◌*◌, ◌≤◌, ◌<◌, length, take};
+ghost use Rattle.std.specs.Prelude.{◌≡◌, [], ◌∷◌, ◌++◌, ◌+◌, ◌*◌, ◌≤◌, ◌<◌, length};
 ghost use Rattle.operand.specs.declared.layouts.Layout.TheVariants as layouts;
 ghost use Rattle.operand.specs.RefusalNumbers;
 ghost use Rattle.frames.specs.Frame.{layout_of, opening};
@@ -13,7 +13,7 @@ use layout::{Answer, NO_OPERAND, OPERAND, REFUSED, head_size, write_head, write_
 use operand::{Layout, OperandRecord, Refusal};
 
 // The letter that a wide line opens with.
-const WIDE: u8 = 119;
+const WIDE: u8 = b'w';
 // The characters of the longest line that is a frame; of the longest narrow one; of the longest wide one whose line and list are not too long.
 pub(crate) const LONGEST: usize = 917507;
 
@@ -39,7 +39,7 @@ fn end_line(out: &mut [u8], at: usize) -> usize
     requires { at < length out.old }
     ensures { Put out.old out.new at (10 ∷ []) result }
 {
-    out[at] = 10;
+    out[at] = b'\n';
     at + 1
 }
 
@@ -47,7 +47,7 @@ fn refuse(layout: Layout, out: &mut [u8], at: usize, refusal: Refusal) -> usize
     requires { at + 6 ≤ length out.old }
     ensures { Put out.old out.new at (ended layout (refused (RefusalNumbers.number refusal))) result }
 {
-    let bytes = [REFUSED, refusal.number()];
+    let bytes = [REFUSED, u8::from(refusal)];
     let from = open_line(layout, out, at);
     let end = put(out, from, &bytes);
     end_line(out, end)
@@ -78,13 +78,11 @@ fn put_parts(
 fn case_of(operand: Option<OperandRecord>) -> u8
     ensures { result ≡ case_of operand }
 {
-    match operand {
-        Some(_) => OPERAND,
-        None => NO_OPERAND,
-    }
+    operand.map_or(NO_OPERAND, |_| OPERAND)
 }
 
-// Writes the operand's record, if there is one, to the beginning of the store, and returns its length.
+// Writes the operand's record, if there is one, to the beginning of the store, and returns its length. A match: the closure of a `map_or`
+// would write to the store, which is no plainer.
 fn put_record(layout: Layout, operand: Option<OperandRecord>, store: &mut [u8]) -> usize
     requires { length store.old ≡ 30 }
     ensures { RecordPut layout operand store.new result }
@@ -188,12 +186,11 @@ fn answer_wide<const FRAME: usize>(line: &[u8], out: &mut [u8], at: usize) -> us
     )
 }
 
-// The layout of a line of which so many bytes are held.
-fn layout_of(carry: &[u8], held: usize) -> Layout
-    requires { length carry.now ≡ 917507 }
-    ensures { result ≡ layout_of (take held carry.now) }
+// The layout of a line.
+fn layout_of(line: &[u8]) -> Layout
+    ensures { result ≡ layout_of line.now }
 {
-    if held != 0 && carry[0] == WIDE {
+    if line.first() == Some(&WIDE) {
         Layout::Wide
     } else {
         Layout::Narrow
@@ -213,7 +210,8 @@ pub(crate) fn answer(
     requires { TurnAsks carry.now frame.old nodes.old diagnostics.old out.old at }
     ensures { Put out.old out.new at (held_line held carry.now) result }
 {
-    let layout = layout_of(carry, held);
+    let line = &carry[..held.min(LONGEST)];
+    let layout = layout_of(line);
     if held > LONGEST {
         return refuse(layout, out, at, Refusal::BadFrame);
     }
@@ -222,14 +220,14 @@ pub(crate) fn answer(
             if held > LONGEST_NARROW {
                 return refuse(layout, out, at, Refusal::BadFrame);
             }
-            answer_digits(layout, &carry[..held], frame, nodes, diagnostics, out, at)
+            answer_digits(layout, line, frame, nodes, diagnostics, out, at)
         }
         Layout::Wide => {
             // Of a longer one the line or the list is too long, if it is a frame.
             if held > LONGEST_LAWFUL {
-                return answer_wide::<458753>(&carry[1..held], out, at);
+                return answer_wide::<458753>(&line[1..], out, at);
             }
-            answer_wide::<10241>(&carry[1..held], out, at)
+            answer_wide::<10241>(&line[1..], out, at)
         }
     }
 }

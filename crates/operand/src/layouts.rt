@@ -8,26 +8,20 @@ pub enum Layout {
     Wide,
 }
 
-// A match each: a const parameter would need the layout as a type, and it is a value of the call.
+// The sizes are a match each: a const parameter would need the layout as a type, and it is a value of the call.
 impl Layout {
-    // How many tokens lie in so many bytes. Each size is divided by as a constant, which is faster.
+    // How many tokens lie in so many bytes.
     pub fn token_count(self, bytes: usize) -> usize
         ensures { result ≡ bytes / token_size self }
     {
-        match self {
-            Layout::Narrow => bytes / 4,
-            Layout::Wide => bytes / 6,
-        }
+        bytes / self.token_size()
     }
 
     // How many diagnostic records lie in so many bytes.
     pub fn diagnostic_count(self, bytes: usize) -> usize
         ensures { result ≡ bytes / diagnostic_size self }
     {
-        match self {
-            Layout::Narrow => bytes / 10,
-            Layout::Wide => bytes / 16,
-        }
+        bytes / self.diagnostic_size()
     }
 
     // The bytes of a token.
@@ -94,19 +88,13 @@ impl Layout {
     pub fn node_store(self) -> usize
         ensures { result ≡ node_store self }
     {
-        match self {
-            Layout::Narrow => 3570,
-            Layout::Wide => 18414,
-        }
+        self.node_size() * self.most_tokens()
     }
 
     // The diagnostic records that must be free.
     pub fn free_records(self) -> usize
         ensures { result ≡ free_records self }
     {
-        match self {
-            Layout::Narrow => 511,
-            Layout::Wide => 2047,
-        }
+        2 * self.most_tokens() + 1
     }
 }

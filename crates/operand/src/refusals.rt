@@ -24,11 +24,11 @@ pub enum Refusal {
     BadLimit = 18,
 }
 
-impl Refusal {
-    // The number that a caller is told.
-    pub fn number(self) -> u8
-        ensures { result ≡ RefusalNumbers.number self }
-    {
-        self as u8
+// The number that a caller is told.
+impl From<Refusal> for u8 {
+    ghost from_gives = { λ refusal n. n ≡ RefusalNumbers.number refusal };
+
+    fn from(refusal: Refusal) -> u8 {
+        refusal as u8
     }
 }

@@ -7,11 +7,11 @@ ghost use Rattle.operands.specs.Passing.{Moved, PartTold, LastTold, ReadTold};
 use frames::{batch, finish};
 use std::io::{Read, Stdin};
 
-// Writes the first n bytes of the output, and answers whether that went well.
-fn write(rt: &impl Print, out: &[u8], n: usize) -> bool
+// Writes the first n bytes of the output, unless that failed.
+fn write(rt: &impl Print, out: &[u8], n: usize) -> Option<()>
     requires { n ≤ length out.now }
 {
-    rt.write_all(&out[..n]).is_ok()
+    rt.write_all(&out[..n]).ok()
 }
 
 // How many bytes a read put at the beginning of the store, none at the input's end, unless it failed.
@@ -37,9 +37,7 @@ fn answer_part(
     // Each call says how much it consumed, so that no iterator gives the next part.
     while at < input.len() {
         let r = batch(&input[at..], h, carry, out);
-        if !write(rt, out, r.written) {
-            return None;
-        }
+        write(rt, out, r.written)?;
         at += r.consumed;
         h = r.held;
     }
@@ -87,9 +85,9 @@ fn main(rt: HostRuntime) {
     let mut held = 0;
     for _ in 0..u64::MAX {
         let got = read(&mut stdin, &mut input);
-        match answer_read(&rt, got, &input, held, &mut carry, &mut out) {
-            Some(more) => held = more,
-            None => return,
-        }
+        let Some(more) = answer_read(&rt, got, &input, held, &mut carry, &mut out) else {
+            return;
+        };
+        held = more;
     }
 }

@@ -69,14 +69,11 @@ pub fn sagdrif_parse_operand_wide(
     )
 }
 
-// The bytes of an answer. A match, as in `Layout`: the layout is a value of the call.
+// The bytes of an answer: the beginning, the operand's record, the mask.
 fn answer_bytes(layout: Layout) -> usize
     ensures { result ≡ answer_bytes layout }
 {
-    match layout {
-        Layout::Narrow => 27,
-        Layout::Wide => 39,
-    }
+    head_size(layout) + layout.operand_size() + 2
 }
 
 fn answer(
@@ -111,7 +108,7 @@ fn answer(
             put_answer(layout, out, x);
             0
         }
-        Err(refusal) => refusal.number(),
+        Err(refusal) => u8::from(refusal),
     }
 }
 
@@ -121,18 +118,16 @@ fn put_answer(layout: Layout, out: &mut [u8], x: Answer)
     ensures { out.new ≡ out_after layout (given layout (Ok x)) out.old }
 {
     let head = head_size(layout);
-    let size = layout.operand_size();
     match x.operand {
         Some(operand) => {
             let mask = operand.mask.to_le_bytes();
             write_head(layout, OPERAND, x.cursor, x.nodes, x.diagnostics, out, 0);
             write_operand(layout, operand, out, head);
-            write(out, head + size, &[mask[0], mask[1]]);
+            write(out, head + layout.operand_size(), &mask[..2]);
         }
         None => {
-            let zeros = [0u8; 32];
             write_head(layout, NO_OPERAND, x.cursor, 0, x.diagnostics, out, 0);
-            write(out, head, &zeros[..size + 2]);
+            out[head..answer_bytes(layout)].fill(0);
         }
     }
 }

@@ -1,14 +1,21 @@
 -- A line that is held, and a part of the input byte for byte.
 -- Assumes nothing.
 use mathlib.Core.Path.{◌≡◌, refl, sym, ◌∙◌, ap}
-use mathlib.Core.Bool.{false}
+use mathlib.Core.Bool.{Bool, false}
 use mathlib.Core.List.{List, [], ◌∷◌}
 use Prim.Native.Nat.{ℕ, zero, suc, ◌+◌, ◌-◌, ◌*◌, ◌≤◌, ◌<◌}
 use native.Mathlib.Omega.{arith}
 use native.Mathlib.Numerals.{add-one}
 use borrow.Author.Tests.{lt-ltb, le-ltb, eq-eqb, ne_eqb}
+use lib.Dec.{eqb}
 use lib.ListN.{length, take, drop, get_or, set, drop_of_length-le}
-use lib.Seq.{drop-cons, length-take-le}
+use lib.Seq.{drop-cons, take-length, length-take-le}
+use Rattle.std.specs.Prelude.{Option, Some, None}
+use Rattle.std.specs.Option.{option_copied, option_eq}
+use Rattle.std.specs.List.{slice_get}
+use Rattle.std.proofs.Common.{Bor}
+use Rattle.std.proofs.lemmas.Option.{none-some}
+use Rattle.names.specs.Choice.{pick}
 use Rattle.operand.specs.RefusalNumbers
 use Rattle.operand.specs.declared.layouts.Layout.{Layout}
 use Rattle.operand.specs.Layouts.{width, node_store}
@@ -30,46 +37,49 @@ layout_first zero C n = absurd (n refl)
 layout_first (suc h) [] n = refl
 layout_first (suc h) (c ∷ C) n = refl
 
-pub layout_none : (h : ℕ) (C : List ℕ) → h ≡ 0 → Layout.Narrow ≡ layout_of (take h C)
+-- whether the first character, if there is one, is the letter
+pub layout_by : (x : List ℕ) (o : Option (Bor ℕ)) (l : Bor ℕ) (r a : Bool) → r ≡ a → option_copied o ≡ slice_get x 0 → l.now ≡ 119 → r ≡ option_eq (λ y z. eqb y.now z.now) o (Some l)
+    → pick a Layout.Wide Layout.Narrow ≡ layout_of x
 unfolding layout_of
-layout_none h C e = rw e refl
+layout_by [] None l r a h e f g = rw (sym h ∙ g)
+layout_by [] (Some y) l r a h e f g = absurd (none-some _ (sym e))
+layout_by (c ∷ x) None l r a h e f g = absurd (none-some _ e)
+layout_by (c ∷ x) (Some y) l r a h e f g = let k : y.now ≡ c = cc in rw (sym h ∙ g, f, k)
 
-pub layout_wide : (h : ℕ) (C : List ℕ) → (h ≡ 0 → ⊥) → get_or C 0 0 ≡ 119 → Layout.Wide ≡ layout_of (take h C)
-unfolding layout_of
-layout_wide h C n e = sym (layout_first h C n ∙ rw (eq-eqb (get_or C 0 0) 119 e))
-
-pub layout_narrow : (h : ℕ) (C : List ℕ) → (h ≡ 0 → ⊥) → (get_or C 0 0 ≡ 119 → ⊥) → Layout.Narrow ≡ layout_of (take h C)
-unfolding layout_of
-layout_narrow h C n e = sym (layout_first h C n ∙ rw (ne_eqb (get_or C 0 0) 119 e))
-
-pub held_long : (h : ℕ) (C : List ℕ) (w : Layout) → 917507 < h → w ≡ layout_of (take h C) → ended w (refused RefusalNumbers.bad_frame) ≡ held_line h C
+pub held_long : (h n : ℕ) (C : List ℕ) (w : Layout) → 917507 < h → n ≡ 917507 → w ≡ layout_of (take n C) → ended w (refused RefusalNumbers.bad_frame) ≡ held_line h C
 unfolding held_line longest
-held_long h C w g e = ap (λ v. ended v (refused RefusalNumbers.bad_frame)) (e ∙ layout_first h C (λ z. omega arith)) ∙ sym (rw (lt-ltb 917507 h g))
+held_long h n C w g all e = ap (λ v. ended v (refused RefusalNumbers.bad_frame)) (e ∙ layout_first n C (λ z. omega arith)) ∙ sym (rw (lt-ltb 917507 h g))
 
-module _ (h : ℕ) (C : List ℕ) (short : h ≤ 917507) where
-  held_short : held_line h C ≡ answer_line (take h C)
+-- the characters behind a line's first
+behind_first : (x : List ℕ) → take (length x - 1) (drop 1 x) ≡ drop 1 x
+behind_first [] = refl
+behind_first (c ∷ x) = let z : suc (length x) - 1 ≡ length x = omega arith in ap (λ k. take k x) z ∙ take-length x
+
+-- what is held, under the name of its length in the code
+module _ (h n : ℕ) (C : List ℕ) (short : h ≤ 917507) (same : n ≡ h) where
+  held_short : held_line h C ≡ answer_line (take n C)
   unfolding held_line longest
-  held_short = rw (le-ltb 917507 h short)
+  held_short = rw (le-ltb 917507 h short, same)
 
-  module _ (w : Layout) (is : w ≡ layout_of (take h C)) where
-    held_as : ended w (line_bytes w (behind_opening w (take h C))) ≡ held_line h C
-    unfolding answer_line
-    held_as = ap (λ v. ended v (line_bytes v (behind_opening v (take h C)))) is ∙ sym held_short
+  held_as : (w : Layout) → w ≡ layout_of (take n C) → ended w (line_bytes w (behind_opening w (take n C))) ≡ held_line h C
+  unfolding answer_line
+  held_as w is = ap (λ v. ended v (line_bytes v (behind_opening v (take n C)))) is ∙ sym held_short
 
-    pub held_narrow : w ≡ Layout.Narrow → ended w (line_bytes w (take h C)) ≡ held_line h C
+  pub held_wide : Layout.Wide ≡ layout_of (take n C) → ended Layout.Wide (line_bytes Layout.Wide (take (length (take n C) - 1) (drop 1 (take n C)))) ≡ held_line h C
+  unfolding behind_opening
+  held_wide is = ap (λ x. ended Layout.Wide (line_bytes Layout.Wide x)) (behind_first (take n C)) ∙ held_as Layout.Wide is
+
+  module _ (w : Layout) (is : w ≡ layout_of (take n C)) (e : w ≡ Layout.Narrow) where
+    pub held_narrow : ended w (line_bytes w (take n C)) ≡ held_line h C
     unfolding behind_opening
-    held_narrow e = ap (λ v. ended w (line_bytes w (behind_opening v (take h C)))) (sym e) ∙ held_as
+    held_narrow = ap (λ v. ended w (line_bytes w (behind_opening v (take n C)))) (sym e) ∙ held_as w is
 
     -- longer than any narrow frame
-    pub held_refused : w ≡ Layout.Narrow → 2558 < h → h ≤ length C → ended w (refused RefusalNumbers.bad_frame) ≡ held_line h C
+    pub held_refused : 2558 < h → h ≤ length C → ended w (refused RefusalNumbers.bad_frame) ≡ held_line h C
     unfolding longest_frame
-    held_refused e g l =
-        let refused-so : line_bytes w (take h C) ≡ refused RefusalNumbers.bad_frame = rw e (long_refused Layout.Narrow (take h C) (omega (arith, length-take-le h C l))) in
-        ap (ended w) (sym refused-so) ∙ held_narrow e
-
-    pub held_wide : w ≡ Layout.Wide → (y : List ℕ) → y ≡ drop 1 (take h C) → ended Layout.Wide (line_bytes Layout.Wide y) ≡ held_line h C
-    unfolding behind_opening
-    held_wide e y f = ap (λ z. ended Layout.Wide (line_bytes Layout.Wide z)) f ∙ ap (λ v. ended v (line_bytes v (behind_opening v (take h C)))) (sym e) ∙ held_as
+    held_refused g l =
+        let refused-so : line_bytes w (take n C) ≡ refused RefusalNumbers.bad_frame = rw e (long_refused Layout.Narrow (take n C) (omega (arith, length-take-le n C (omega arith)))) in
+        ap (ended w) (sym refused-so) ∙ held_narrow
 
 -- a line's bytes, where it spells some and where not
 pub digits_bad : (w : Layout) (x : List ℕ) → spells x ≡ false → refused RefusalNumbers.bad_frame ≡ line_bytes w x
@@ -94,28 +104,18 @@ unfolding node_store diagnostic_bytes
 wide_stores = (refl, refl)
 
 -- a wide line is not empty
-pub wide_some : (h : ℕ) (C : List ℕ) (w : Layout) → w ≡ layout_of (take h C) → w ≡ Layout.Wide → 1 ≤ h
+pub wide_some : (x : List ℕ) → Layout.Wide ≡ layout_of x → 1 ≤ length x
 unfolding layout_of
-wide_some zero C w e f = let z : ◌≡◌ {A = ℕ} (width Layout.Narrow) (width Layout.Wide) = ap width (sym e ∙ f) in absurd (omega arith)
-wide_some (suc h) C w e f = omega arith
-
-take_nil : (k : ℕ) → take {A = ℕ} k [] ≡ []
-take_nil zero = refl
-take_nil (suc k) = refl
-
--- its characters behind the first
-pub behind_first : (h : ℕ) (C : List ℕ) → 1 ≤ h → take (h - 1) (drop 1 C) ≡ drop 1 (take h C)
-behind_first zero C n = absurd (omega arith)
-behind_first (suc h) [] n = take_nil (suc h - 1)
-behind_first (suc h) (c ∷ C) n = let z : suc h - 1 ≡ h = omega arith in ap (λ k. take k C) z
+wide_some [] e = let z : ◌≡◌ {A = ℕ} (width Layout.Wide) (width Layout.Narrow) = ap width e in absurd (omega arith)
+wide_some (c ∷ x) e = omega arith
 
 -- what a narrow line's answer asks
-pub narrow_asks : (w : Layout) (C F N D O : List ℕ) (h at : ℕ) → w ≡ Layout.Narrow → TurnAsks C F N D O at → h ≤ 2558 → DigitsAsk w (take h C) F N D O at
-narrow_asks w C F N D O h at e a g =
+pub narrow_asks : (w : Layout) (C F N D O : List ℕ) (n at : ℕ) → w ≡ Layout.Narrow → TurnAsks C F N D O at → n ≤ 2558 → DigitsAsk w (take n C) F N D O at
+narrow_asks w C F N D O n at e a g =
     let s = a.stores in
     rw e
     (record {
-      fits = omega (arith, length-take-le h C (omega (arith, s.carry_long)), s.frame_long);
+      fits = omega (arith, length-take-le n C (omega (arith, s.carry_long)), s.frame_long);
       stores = record { nodes_long = omega (arith, s.nodes_long, narrow_stores.0); diagnostics_long = omega (arith, s.diagnostics_long, narrow_stores.1); room = omega (arith, a.room, s.out_long) };
     })
 

@@ -1,11 +1,13 @@
 -- What the entry answers, as bytes.
 -- Assumes nothing.
 use mathlib.Core.Path.{◌≡◌, refl, sym, ◌∙◌, ap, ap₂}
+use mathlib.Core.Bool.{Bool, true, false}
 use mathlib.Core.List.{List, ◌++◌}
 use Prim.Native.Nat.{ℕ, ◌+◌, ◌-◌, ◌*◌, ◌≤◌}
 use native.Mathlib.Nat.{mul-zero}
 use native.Mathlib.Omega.{arith}
-use borrow.Author.Tests.{eq-eqb, ne_eqb}
+use borrow.Author.Tests.{eq-eqb, ne_eqb, eqb-true, eqb-false}
+use lib.Dec.{eqb}
 use lib.ListN.{length, take, drop}
 use Rattle.expressions.specs.Reader.{Reading}
 use Rattle.operand.specs.RefusalNumbers
@@ -20,12 +22,13 @@ use Rattle.operand.specs.Conditions.{Valid}
 use Rattle.layout.specs.Answers as Answers
 use Rattle.layout.specs.Answers.{Total, answer_valid}
 use Rattle.std.specs.Prelude.{Option, Some, None, Result, Ok, Err}
+use Rattle.std.specs.Bool.{then_some}
 use Rattle.operand.specs.declared.refusals.Refusal.{Refusal}
 use Rattle.layout.specs.declared.answer.Answer.{Answer}
 use Rattle.frames.specs.Frame.{diagnostic_bytes, max_nesting_depth, max_nesting_depth_lem, line_length, token_count, frame_length, is_frame, input_of, lent}
 use Rattle.frames.specs.Reply.{refused, bytes_at, input_bytes, frame_bytes, ended}
 use Rattle.frames.specs.Lent.{lent_same}
-use Rattle.frames.specs.Inner.{Put, case_of, record_bytes, answer_bytes, AnswerAsks, ReadAsks}
+use Rattle.frames.specs.Inner.{Put, case_of, record_bytes, answer_bytes, AnswerAsks, ReadAsks, FramedAs}
 
 -- ---- of a call that keeps the entry's promise
 
@@ -92,13 +95,18 @@ pub not_frame : (w : Layout) (B : List ℕ) → (length B ≡ frame_length w B �
 unfolding frame_bytes is_frame
 not_frame w B h = rw (ne_eqb (length B) (frame_length w B) h)
 
-pub width_small : (w : Layout) → width w ≤ 2
-width_small Layout.Narrow = omega arith
-width_small Layout.Wide = omega arith
-
 -- the bytes of the tokens, by the count where the code finds it
 pub frame_tokens : (w : Layout) (B : List ℕ) (line k c t : ℕ) → line ≡ line_length w B → k ≡ width w → c ≡ number_at w B (line + k) → t ≡ token_size w * c → t ≡ token_size w * token_count w B
 frame_tokens w B line k c t e f g h = h ∙ ap (λ n. token_size w * n) (g ∙ ap₂ (λ l m. number_at w B (l + m)) e f)
+
+-- whether the bytes behind the line are its tokens
+pub framed_if : (w : Layout) (B : List ℕ) (line list t : ℕ) → line ≡ line_length w B → t ≡ token_size w * token_count w B → length B ≡ line + list + 4 * width w → FramedAs w B (then_some (eqb list t) line)
+unfolding FramedAs
+framed_if w B line list t first tokens long = go (eqb list t) refl
+  where
+    go : (b : Bool) → eqb list t ≡ b → FramedAs w B (then_some b line)
+    go true e = record { first = first; whole = omega (arith, eqb-true list t e) }
+    go false e = λ f. eqb-false list t e (omega arith)
 
 -- the parts as the code takes them
 abbrev pub parts : Layout → List ℕ → ℕ → ℕ → ℕ → ℕ → List ℕ → List ℕ → Input

@@ -2,13 +2,15 @@
 -- Assumes nothing.
 use mathlib.Core.Path.{◌≡◌, refl, sym, ◌∙◌, ap}
 use mathlib.Core.List.{List, [], ◌∷◌, ◌++◌, append_assoc}
-use Prim.Native.Nat.{ℕ, ◌+◌, ◌/◌, ◌%◌, ◌≤◌, ◌<◌}
+use Prim.Native.Nat.{ℕ, ◌+◌, ◌-◌, ◌/◌, ◌%◌, ◌≤◌, ◌<◌}
 use native.Mathlib.Omega.{arith}
 use borrow.Author.Tests.{lt-ltb, le-ltb}
-use lib.ListN.{length, take, replicate, length-append, length-replicate}
+use lib.ListN.{length, take, drop, replicate, length-append, length-take, length-replicate}
+use Rattle.std.proofs.lemmas.List.{length-drop}
+use borrow.Rule.Slice.PartMut.{put_mid}
 use Rattle.records.specs.Nodes.{low_first}
 use Rattle.records.specs.Stores.{written}
-use Rattle.records.specs.Written.{written_more}
+use Rattle.records.specs.Written.{put_written, length_written, written_more}
 use Rattle.operand.specs.declared.layouts.Layout.{Layout}
 use Rattle.operand.specs.Layouts.{operand_size}
 use Rattle.operand.specs.Layout.{bytes_of, head_laid}
@@ -34,36 +36,32 @@ three O P Q R x y z j k p q r e f h =
     two O Q R (x ++ y) z k (two O P Q x y j p q (omega arith) (omega arith)) r (simp length-append (omega arith)) (simp length-append (omega arith))
     ∙ ap (written O 0) (append_assoc x y z)
 
--- the longest record, with the mask
-pub zeros_enough : (w : Layout) → operand_size w + 2 ≤ 32
-zeros_enough Layout.Narrow = omega arith
-zeros_enough Layout.Wide = omega arith
+-- the longest answer
+pub answer_few : (w : Layout) → answer_bytes w ≤ 39
+answer_few Layout.Narrow = omega arith
+answer_few Layout.Wide = omega arith
 
-pub zeros_part : (w : Layout) (k : ℕ) → k ≡ operand_size w → take {A = ℕ} (k + 2) (replicate 32 0) ≡ replicate (operand_size w + 2) 0
-zeros_part w k e = ap (λ n. take {A = ℕ} (n + 2) (replicate 32 0)) e ∙ go w
-  where
-    go : (w : Layout) → take {A = ℕ} (operand_size w + 2) (replicate 32 0) ≡ replicate (operand_size w + 2) 0
-    go Layout.Narrow = refl
-    go Layout.Wide = refl
-
-module _ (w : Layout) (x : Answer) (O P Q : List ℕ) (j : ℕ) (room : answer_bytes w ≤ length O) (is : j ≡ head_size w) where
-  pub operand_put : (o : OperandRecord) → x.operand ≡ Some o → (R : List ℕ) (k : ℕ) → k ≡ operand_size w
+module _ (w : Layout) (x : Answer) (O P : List ℕ) (j : ℕ) (room : answer_bytes w ≤ length O) (is : j ≡ head_size w) where
+  pub operand_put : (o : OperandRecord) → x.operand ≡ Some o → (Q R : List ℕ) (k : ℕ) → k ≡ operand_size w
       → P ≡ written O 0 (head_laid w 0 x.cursor x.nodes x.diagnostics) → Q ≡ written P j (bytes_of w o)
       → R ≡ written Q (j + k) (o.mask % 256 ∷ o.mask / 256 % 256 ∷ []) → R ≡ out_after w (given w (Ok x)) O
   unfolding given out_after answer_laid low_first
-  operand_put o e R k f p q r =
+  operand_put o e Q R k f p q r =
       let head = length_head w 0 x.cursor x.nodes x.diagnostics in
       let record-long = length_bytes w o in
       rw e (three O P Q R _ _ _ j (j + k) p q r (omega (arith, head)) (omega (arith, head, record-long)) (omega (arith, head, record-long, answer_bytes_lem w)))
 
-  pub none_put : x.operand ≡ None → (Z : List ℕ) → Z ≡ replicate (operand_size w + 2) 0
-      → P ≡ written O 0 (head_laid w 1 x.cursor 0 x.diagnostics) → Q ≡ written P j Z → Q ≡ out_after w (given w (Ok x)) O
+  pub none_put : x.operand ≡ None → P ≡ written O 0 (head_laid w 1 x.cursor 0 x.diagnostics) → (Z : List ℕ) (n : ℕ) → n ≡ answer_bytes w
+      → Z ≡ replicate (length (take (n - j) (drop j P))) 0 → put_mid j (n - j) P Z ≡ out_after w (given w (Ok x)) O
   unfolding given out_after answer_laid
-  none_put e Z z p q =
+  none_put e p Z n end z =
       let head = length_head w 1 x.cursor 0 x.diagnostics in
       let Y : List ℕ = replicate (operand_size w + 2) 0 in
       let long : length Y ≡ operand_size w + 2 = length-replicate (operand_size w + 2) 0 in
-      rw e (two O P Q _ _ j p (q ∙ ap (written P j) z) (omega (arith, head)) (omega (arith, head, long, answer_bytes_lem w)))
+      let kept : length P ≡ length O = ap length p ∙ length_written O 0 (head_laid w 1 x.cursor 0 x.diagnostics) (omega (arith, head, answer_bytes_lem w)) in
+      let part : length (take (n - j) (drop j P)) ≡ operand_size w + 2 = simp (length-take, length-drop) (omega (arith, kept, answer_bytes_lem w)) in
+      let put = put_written P j (n - j) Z Y (z ∙ ap (λ k. replicate k 0) part) (omega (arith, long, answer_bytes_lem w)) (omega (arith, long, kept, answer_bytes_lem w)) in
+      rw e (two O P (put_mid j (n - j) P Z) _ _ j p put (omega (arith, head)) (omega (arith, head, long, answer_bytes_lem w)))
 
 -- ---- the whole
 

@@ -39,14 +39,14 @@ overflow_cast-depth c =
     let v = valid a c.requires.passed (sym (decoded_good _ _ _ _ _ _ c.in_ok-decode_tokens.ensures c.requires.tokens)) (sym (rw (c.token_count-count.ensures ∙ sym (numbers_count c.args.given.layout c.args.tokens.now)) at c.in_ok-refuse_start_stores_and_limit.ensures)) in
     omega (arith, valid_limit a v)
 
-pub returns-in-Some : goal.returns-in-Some
-returns-in-Some c =
+pub returns : goal.returns
+returns c =
     let a : Input = call c.args.given.layout c.args.line.now c.args.tokens.now c.args.given.start c.args.given.mark c.args.given.limit c.args.nodes.now c.args.diagnostics.now c.args.given.used in
     let v = valid a c.requires.passed (sym (decoded_good _ _ _ _ _ _ c.in_ok-decode_tokens.ensures c.requires.tokens)) (sym (rw (c.token_count-count.ensures ∙ sym (numbers_count c.args.given.layout c.args.tokens.now)) at c.in_ok-refuse_start_stores_and_limit.ensures)) in
-    is_read a _ _ _ _ _ _ v c.requires c.decode_tokens.ensures.numbers (4 * c.token_count-count.result) (omega (arith, c.token_count-count.ensures, numbers_count c.args.given.layout c.args.tokens.now)) _ c.operand_at.ensures _ c.in-Some.is _ _ _ c.answered.ensures
+    is_read a _ _ _ _ _ _ v c.requires c.decode_tokens.ensures.numbers (4 * c.token_count-count.result) (omega (arith, c.token_count-count.ensures, numbers_count c.args.given.layout c.args.tokens.now)) _ c.operand_at-read.ensures _ (grind arith) _ _ _ c.answered.ensures
 
-pub returns-in-None : goal.returns-in-None
-returns-in-None c =
+pub returns-in_err-r : goal.returns-in_err-r
+returns-in_err-r c =
     let a : Input = call c.args.given.layout c.args.line.now c.args.tokens.now c.args.given.start c.args.given.mark c.args.given.limit c.args.nodes.now c.args.diagnostics.now c.args.given.used in
     let v = valid a c.requires.passed (sym (decoded_good _ _ _ _ _ _ c.in_ok-decode_tokens.ensures c.requires.tokens)) (sym (rw (c.token_count-count.ensures ∙ sym (numbers_count c.args.given.layout c.args.tokens.now)) at c.in_ok-refuse_start_stores_and_limit.ensures)) in
-    absurd (never_unfit a _ _ _ _ _ _ v c.requires c.decode_tokens.ensures.numbers (4 * c.token_count-count.result) (omega (arith, c.token_count-count.ensures, numbers_count c.args.given.layout c.args.tokens.now)) _ c.operand_at.ensures c.in-None.is)
+    absurd (never_unfit a _ _ _ _ _ _ v c.requires c.decode_tokens.ensures.numbers (4 * c.token_count-count.result) (omega (arith, c.token_count-count.ensures, numbers_count c.args.given.layout c.args.tokens.now)) _ c.operand_at-read.ensures (grind arith))

@@ -12,6 +12,6 @@ pub returns-then-held-lt-LONGEST : goal.returns-then-held-lt-LONGEST
 returns-then-held-lt-LONGEST c =
     hold_more _ _ _ (omega (arith, c.if-held-lt-LONGEST.true))
 
-pub returns : goal.returns
-returns c =
+pub returns-else-held-lt-LONGEST : goal.returns-else-held-lt-LONGEST
+returns-else-held-lt-LONGEST c =
     hold_long _ _ _ (omega (arith, c.if-held-lt-LONGEST.false))

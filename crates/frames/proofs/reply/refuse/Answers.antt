@@ -15,8 +15,8 @@ put-end-requires c =
 
 pub end_line-requires : goal.end_line-requires
 end_line-requires c =
-    omega (arith, c.requires, c.open_line-from.auto, next_opening c.args.layout c.open_line-from.ensures, c.put-end.auto, next_digits (refused c.number.result) c.put-end.ensures)
+    omega (arith, c.requires, c.open_line-from.auto, next_opening c.args.layout c.open_line-from.ensures, c.put-end.auto, next_digits (refused c.from.result) c.put-end.ensures)
 
 pub returns : goal.returns
 returns c =
-    rw c.number.ensures at (line_put c.args.layout (refused c.number.result) c.open_line-from.ensures (omega (arith, c.open_line-from.auto)) c.put-end.ensures c.end_line.ensures (omega (arith, c.requires)))
+    rw c.from.ensures at (line_put c.args.layout (refused c.from.result) c.open_line-from.ensures (omega (arith, c.open_line-from.auto)) c.put-end.ensures c.end_line.ensures (omega (arith, c.requires)))

@@ -22,4 +22,4 @@ returns-in-Ok c =
 pub returns-in-Err : goal.returns-in-Err
 returns-in-Err c =
     let a : Input = call c.args.layout c.args.line.now c.args.tokens.now c.args.start c.args.mark c.args.limit c.args.nodes.now c.args.diagnostics.now c.args.used in
-    refusal_told a _ _ _ (omega (arith, c.if-out-answer_bytes.false, c.answer_bytes.ensures)) _ _ (rw c.in-Err.is at c.parse_operand.ensures) c.number.ensures
+    refusal_told a _ _ _ (omega (arith, c.if-out-answer_bytes.false, c.answer_bytes.ensures)) _ _ (rw c.in-Err.is at c.parse_operand.ensures) c.from.ensures

@@ -1,14 +1,17 @@
 -- `operand::layouts::Layout::free_records` meets its contract.
 -- Assumes nothing.
-use Rattle.operand.specs.Layouts.{free_records}
+use native.Mathlib.Omega.{arith}
+use Rattle.operand.specs.Layouts.{most_tokens_lem, free_records_lem}
 use Rattle.operand.proofs.layouts.Layout.free_records.Goals as goal
 
-pub returns-in-Narrow : goal.returns-in-Narrow
-unfolding free_records
-returns-in-Narrow c =
-    rw c.in-Narrow.is
+pub overflow_mul-result : goal.overflow_mul-result
+overflow_mul-result c =
+    omega (arith, c.most_tokens.ensures, most_tokens_lem c.args.self)
 
-pub returns-in-Wide : goal.returns-in-Wide
-unfolding free_records
-returns-in-Wide c =
-    rw c.in-Wide.is
+pub overflow_add-result : goal.overflow_add-result
+overflow_add-result c =
+    omega (arith, c.most_tokens.ensures, most_tokens_lem c.args.self)
+
+pub returns : goal.returns
+returns c =
+    omega (arith, c.most_tokens.ensures, free_records_lem c.args.self)
