@@ -120,27 +120,29 @@ fn closed(
     base: BaseRegister,
     close: Token,
 ) -> Option<OperandRecord>
-    requires { (out.old.counters.at ≤ 1023) × (out.old.counters.diagnostics < 65535) }
+    requires { Room source.now.tokens.now out.old.counters 0 1 }
     ensures lent { out.new.diagnostics.ghost_name ≡ out.old.diagnostics.ghost_name }
     ensures told { BaseBy (λ y. closed source.now.setting base y close) source.now out.old out.new d result }
 {
-    if let BaseRegister::Address(register) = base {
-        return Some(closed_base(source, out, d, register, close));
+    match base {
+        BaseRegister::Address(register) => Some(closed_base(source, out, d, register, close)),
+        _ => closed_counter(source, out, d, close),
     }
-    closed_counter(source, out, d, close)
 }
 
 // The shape of an operand whose parenthesis never closes behind its base.
+#[tactic(auto, unfolding(crate::specs::Bases::open_shape))]
 fn open_shape(base: BaseRegister, d: Option<Sized>) -> OperandShape
     ensures { (y : Displacement) → sized_of 0 y ≡ d → Shapes.number result ≡ open_shape base y }
 {
-    if let BaseRegister::Address(_) = base {
-        return base_shape(d);
+    match base {
+        BaseRegister::Address(_) => base_shape(d),
+        _ => OperandShape::PcDisplacement,
     }
-    OperandShape::PcDisplacement
 }
 
 // The shape and the form of an operand that has an index behind its base.
+#[tactic(auto, unfolding(crate::specs::Bases::index_shape))]
 fn index_shape(base: BaseRegister) -> OperandShape
     ensures { Shapes.number result ≡ index_shape base }
 {
@@ -151,6 +153,7 @@ fn index_shape(base: BaseRegister) -> OperandShape
 }
 
 // Apart from `index_shape`: together they would be a pair that is taken apart again.
+#[tactic(auto, unfolding(crate::specs::Bases::index_form))]
 fn index_form(base: BaseRegister) -> Form
     ensures { FormNumbers.number result ≡ index_form base }
 {
@@ -172,49 +175,32 @@ fn after_base(
     ensures lent { out.new.diagnostics.ghost_name ≡ out.old.diagnostics.ghost_name }
     ensures told { BaseBy (λ y. behind_base source.now.setting paren base y) source.now out.old out.new d result }
 {
-    let Some(t) = source.peek(out.counters) else {
-        unclosed(
-            source,
-            out,
-            paren,
-            open_shape(base, d),
-            Problem::ParenMissing,
-        );
-        return None;
-    };
-    match t.kind {
-        kinds::RIGHT_PAREN => {
+    match source.peek(out.counters) {
+        Some(t) if t.kind == kinds::RIGHT_PAREN => {
             out.counters.step_over(t);
             closed(source, out, d, base, t)
         }
-        kinds::COMMA => {
+        Some(t) if t.kind == kinds::COMMA => {
             out.counters.step_over(t);
             base_and_index(source, out, paren, d, base)
         }
         _ => {
-            unclosed(
-                source,
-                out,
-                paren,
-                open_shape(base, d),
-                Problem::ParenMissing,
-            );
+            let shape = open_shape(base, d);
+            unclosed(source, out, paren, shape, Problem::ParenMissing);
             None
         }
     }
 }
 
-// The base that a token is where none may be suppressed: an address register or the program counter.
+// The base that a token is where none may be suppressed: an address register or the program counter. `Omitted` is none, as in `base_at`: no `Option` beside it.
 fn unsuppressed_base(source: &Source, token: Token) -> BaseRegister
     ensures { result ≡ unsuppressed_base token (text_of source.now.line.now token.start token.end) }
 {
-    if let Some(index) = address_register_at(source, token) {
-        return BaseRegister::Address(register_of(index, token));
+    match address_register_at(source, token) {
+        Some(index) => BaseRegister::Address(register_of(index, token)),
+        None if program_counter_at(source, token) => BaseRegister::ProgramCounter,
+        None => BaseRegister::Omitted,
     }
-    if program_counter_at(source, token) {
-        return BaseRegister::ProgramCounter;
-    }
-    BaseRegister::Omitted
 }
 
 pub(crate) fn parse_base_and_index(

@@ -92,11 +92,10 @@ pub(crate) fn parse_base_and_index_registers(
     ensures lent { out.new.diagnostics.ghost_name ≡ out.old.diagnostics.ghost_name }
     ensures told { Tells (λ z. z) (Same out.old.counters.nodes) (parse_base_and_index_registers source.now.setting (Shapes.number shape)) source.now out.old out.new result }
 {
-    let at = usize::from(out.counters.at);
-    let Some(t) = source.token_at(at) else {
+    let Some(t) = source.peek(out.counters) else {
         return no_base(source, out, shape);
     };
-    let base = base_at(source, at, t);
+    let base = base_at(source, usize::from(out.counters.at), t);
     if is_base(base) {
         out.counters.step_over(t);
         return after_base_register(source, out, shape, base);

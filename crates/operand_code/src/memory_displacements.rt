@@ -20,6 +20,7 @@ fn sized(source: &Source, out: &mut Progress, start: u16) -> Sized
 {
     let suffix = take_size_suffix(source, out, start);
     let node = out.counters.nodes - 1;
+    // Tried: `map_or` with a closure, whose fact the proof takes apart into these two cases again.
     match suffix {
         Some(x) => Sized { node, size: x.size },
         None => Sized { node, size: 0 },

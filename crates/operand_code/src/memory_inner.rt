@@ -82,14 +82,9 @@ pub(crate) fn parse_inner(
     ensures told { InnerBy (parse_inner source.now.setting) source.now nodes.old out.old nodes.new out.new result }
 {
     let at = usize::from(out.counters.at);
-    let Some(t) = source.token_at(at) else {
-        return inner_displacement(source, nodes, out);
-    };
-    if t.kind == kinds::RIGHT_BRACKET {
-        return Some(bare_inner(None));
+    match source.peek(out.counters) {
+        Some(t) if t.kind == kinds::RIGHT_BRACKET => Some(bare_inner(None)),
+        Some(t) if is_a_base_or_an_index(source, t, at) => inner_registers(source, out, None),
+        _ => inner_displacement(source, nodes, out),
     }
-    if is_a_base_or_an_index(source, t, at) {
-        return inner_registers(source, out, None);
-    }
-    inner_displacement(source, nodes, out)
 }

@@ -57,16 +57,15 @@ fn outer_indexed(
     ensures lent { out.new.diagnostics.ghost_name ≡ out.old.diagnostics.ghost_name }
     ensures told { OuterBy (outer_indexed source.now.setting x) source.now nodes.old out.old nodes.new out.new result }
 {
-    let alone = OuterPart {
-        index: Some(x),
-        indirection: POSTINDEXED,
-        displacement: None,
-    };
     let Some(t) = source.peek_kind(out.counters, kinds::COMMA) else {
-        return Some(alone);
+        return Some(OuterPart {
+            index: Some(x),
+            indirection: POSTINDEXED,
+            displacement: None,
+        });
     };
     out.counters.step_over(t);
-    outer_displaced(source, nodes, out, Some(x), alone.indirection)
+    outer_displaced(source, nodes, out, Some(x), POSTINDEXED)
 }
 
 // An index goes inside the brackets or behind them, not both.
@@ -100,17 +99,16 @@ pub(crate) fn parse_outer(
     ensures lent { out.new.diagnostics.ghost_name ≡ out.old.diagnostics.ghost_name }
     ensures told { OuterBy (parse_outer source.now.setting index) source.now nodes.old out.old nodes.new out.new result }
 {
-    let alone = OuterPart {
-        index,
-        indirection: PREINDEXED,
-        displacement: None,
-    };
     let Some(t) = source.peek_kind(out.counters, kinds::COMMA) else {
-        return Some(alone);
+        return Some(OuterPart {
+            index,
+            indirection: PREINDEXED,
+            displacement: None,
+        });
     };
     out.counters.step_over(t);
     if is_an_index_at(source, usize::from(out.counters.at)) {
         return outer_index(source, nodes, out, index);
     }
-    outer_displaced(source, nodes, out, index, alone.indirection)
+    outer_displaced(source, nodes, out, index, PREINDEXED)
 }

@@ -14,15 +14,15 @@ use Rattle.expressions.proofs.Costs.{true_false}
 use Rattle.expressions.specs.declared.reading.Setting.{Setting}
 use Rattle.operand.specs.Operands.{Operand, Displacement}
 use Rattle.operand.specs.Operand.{an_address_register, a_program_counter, register_from, closed_counter, after_base, after_counter, parse_base_and_index}
-use Rattle.operand.specs.Forms.{sized_of}
+use Rattle.operand.specs.Forms.{sized_of, record_of}
+use Rattle.operand.specs.Records.{size_o, nodes_o}
 use Rattle.operand.specs.declared.forms.Register.{Register}
 use Rattle.operand.specs.declared.forms.BaseRegister.{BaseRegister}
 use Rattle.expressions.specs.Told.{Told}
 use Rattle.operand_code.specs.Operands.{Plain}
 use Rattle.operand_code.specs.Lookahead.{is_base}
-use Rattle.operand_code.specs.Bases.{address_or, unsuppressed_base, is_unsuppressed, open_shape, index_shape, index_form, closed, indexed_by, behind_base}
+use Rattle.operand_code.specs.Bases.{unsuppressed_base, is_unsuppressed, open_shape, index_shape, index_form, closed, indexed_by, behind_base}
 use Rattle.expressions.specs.Paths.{hit, miss}
-use Rattle.operand_code.proofs.bases.Tails.{index_plain, counter_plain}
 use Rattle.std.specs.Prelude.{Some, Option}
 use Rattle.operand.specs.declared.forms.Sized.{Sized}
 
@@ -33,13 +33,6 @@ Other b = (r : Register) → b ≡ BaseRegister.Address r → ⊥
 no_other : (r : Register) → Other (BaseRegister.Address r) → ⊥
 no_other r h = h r refl
 
-pub other_is : {A : Type 0} (a c : A) (b : BaseRegister) → Other b → c ≡ address_or a c b
-other_is a c (BaseRegister.Address r) h = absurd (no_other r h)
-other_is a c BaseRegister.ProgramCounter h = refl
-other_is a c (BaseRegister.SuppressedAddress n) h = refl
-other_is a c BaseRegister.SuppressedProgramCounter h = refl
-other_is a c BaseRegister.Omitted h = refl
-
 pub other_closed : (s : Setting) (b : BaseRegister) (y : Displacement) (k : Token) → Other b → closed_counter s y k ≡ closed s b y k
 unfolding closed
 other_closed s (BaseRegister.Address r) y k h = absurd (no_other r h)
@@ -49,13 +42,13 @@ other_closed s BaseRegister.SuppressedProgramCounter y k h = refl
 other_closed s BaseRegister.Omitted y k h = refl
 
 -- what an index makes with such a base
-pub plain_with : {d : Option Sized} {form : ℕ} (b : BaseRegister) (y : Displacement) → form ≡ index_form b → is_unsuppressed b ≡ true → sized_of 0 y ≡ d → Plain form d b y (indexed_by b y)
-unfolding is_unsuppressed index_form indexed_by
-plain_with (BaseRegister.Address r) y f p e = rw f (index_plain r y e)
-plain_with BaseRegister.ProgramCounter y f p e = rw f (counter_plain y e)
-plain_with (BaseRegister.SuppressedAddress n) y f p e = absurd (true_false (sym p))
-plain_with BaseRegister.SuppressedProgramCounter y f p e = absurd (true_false (sym p))
-plain_with BaseRegister.Omitted y f p e = absurd (true_false (sym p))
+pub plain_with : {d : Option Sized} (b : BaseRegister) (y : Displacement) → is_unsuppressed b ≡ true → sized_of 0 y ≡ d → Plain (index_form b) d b y (indexed_by b y)
+unfolding is_unsuppressed index_form indexed_by record_of nodes_o size_o
+plain_with (BaseRegister.Address r) y p e = λ x z. (rw (sym e), refl, refl)
+plain_with BaseRegister.ProgramCounter y p e = λ x z. (rw (sym e), refl, refl)
+plain_with (BaseRegister.SuppressedAddress n) y p e = absurd (true_false (sym p))
+plain_with BaseRegister.SuppressedProgramCounter y p e = absurd (true_false (sym p))
+plain_with BaseRegister.Omitted y p e = absurd (true_false (sym p))
 
 -- the base that a token is, by what the token passes
 module _ (t : Token) (x : List ℕ) where
@@ -68,22 +61,14 @@ module _ (t : Token) (x : List ℕ) where
       go false true e = ap is_unsuppressed e
       go false false e = absurd (true_false (sym h ∙ ap is_base e))
 
-  pub no_register : (b : BaseRegister) → b ≡ unsuppressed_base t x → is_base b ≡ false → an_address_register t x ≡ false
+  pub no_unsuppressed : (b : BaseRegister) → b ≡ unsuppressed_base t x → is_base b ≡ false → (an_address_register t x ≡ false) × (a_program_counter t x ≡ false)
   unfolding unsuppressed_base is_base
-  no_register b e h = go (an_address_register t x) e
+  no_unsuppressed b e h = go (an_address_register t x) (a_program_counter t x) e
     where
-      go : (p : Bool) → b ≡ pick p (BaseRegister.Address (register_from t x)) (pick (a_program_counter t x) BaseRegister.ProgramCounter BaseRegister.Omitted) → p ≡ false
-      go true e = absurd (true_false (sym (ap is_base e) ∙ h))
-      go false e = refl
-
-  pub no_counter : (b : BaseRegister) → b ≡ unsuppressed_base t x → is_base b ≡ false → a_program_counter t x ≡ false
-  unfolding unsuppressed_base is_base
-  no_counter b e h = go (an_address_register t x) (a_program_counter t x) e
-    where
-      go : (p q : Bool) → b ≡ pick p (BaseRegister.Address (register_from t x)) (pick q BaseRegister.ProgramCounter BaseRegister.Omitted) → q ≡ false
+      go : (p q : Bool) → b ≡ pick p (BaseRegister.Address (register_from t x)) (pick q BaseRegister.ProgramCounter BaseRegister.Omitted) → (p ≡ false) × (q ≡ false)
       go true q e = absurd (true_false (sym (ap is_base e) ∙ h))
       go false true e = absurd (true_false (sym (ap is_base e) ∙ h))
-      go false false e = refl
+      go false false e = (refl, refl)
 
 -- behind the base at the cursor
 pub opened : {E : Type 0} {f : Option Operand → E} {Q : Option Operand → Counters → Type 0} {L T D D' : List ℕ} {c c₁ : Counters} {v : E} {r : Counters} {t : Token} (s : Setting) (k : Token) (y : Displacement) (b : BaseRegister)

@@ -5,28 +5,26 @@ use mathlib.Core.Bool.{true, false}
 use mathlib.Core.List.{List, append-nil}
 use Prim.Native.Nat.{ℕ}
 use native.Mathlib.Omega.{arith}
-use borrow.Author.Tests.{eq-eqb}
 use Rattle.names.specs.Kinds
 use Rattle.names.specs.Choice.{pick}
 use Rattle.names.specs.Tokens.{token_at}
-use Rattle.names.specs.Places.{place}
 use Rattle.names.specs.declared.tokens.Token.{Token}
 use Rattle.records.specs.Problems
 use Rattle.records.specs.Shapes
 use Rattle.records.specs.Diagnostics.{malformed_operand, malformed_open}
-use Rattle.records.specs.Spans.{span, no_span}
+use Rattle.records.specs.Rooms.{Room}
+use Rattle.records.specs.Spans.{span, span_of, no_span}
 use Rattle.expressions.specs.Trees.{Expr}
-use Rattle.records.specs.Counters.{stepped}
-use Rattle.expressions.specs.Reader.{is, Reader, answer}
-use Rattle.expressions.specs.Laws.{holds}
+use Rattle.records.specs.Counters.{stepped, Over, over_is}
+use Rattle.expressions.proofs.Costs.{true_false}
+use Rattle.expressions.specs.Reader.{of_kind, Reader, answer}
 use Rattle.records.specs.declared.spans.Span.{Span}
-use Rattle.records.specs.declared.diagnostics.Diagnostic.{Diagnostic}
 use Rattle.records.specs.declared.counters.Counters.{Counters}
 use Rattle.expressions.specs.declared.reading.Setting.{Setting}
 use Rattle.operand.specs.FormNumbers
 use Rattle.operand.specs.Operands.{Displacement, displaced, undisplaced, Operand}
 use Rattle.operand.specs.Operands as O
-use Rattle.operand.specs.Operand.{base_shape, indexed_operand, closed_base, closed_counter}
+use Rattle.operand.specs.Operand.{base_shape, indexed_operand, closed_base, closed_counter, unclosed, not_an_address_register}
 use Rattle.operand.specs.Forms.{sized_of, form_of, record_of}
 use Rattle.operand.specs.Records.{size_d, nodes_d, size_o, nodes_o}
 use Rattle.operand_code.specs.Lookahead.{is_base}
@@ -38,29 +36,27 @@ use Rattle.operand.specs.declared.forms.BaseRegister.{BaseRegister}
 use Rattle.operand.specs.declared.forms.Sized.{Sized}
 use Rattle.operand.specs.declared.forms.Registers.{Registers}
 use Rattle.operand.specs.declared.forms.OperandRecord.{OperandRecord}
-use Rattle.expressions.specs.Paths.{renamed, reheld, raised_as, answered, hit, missed, raised_same}
-use Rattle.operand_code.proofs.malformed.Failures.{failed_malformed}
-use Rattle.std.specs.Prelude.{Option, Some, None, option_map}
+use Rattle.expressions.specs.Paths.{renamed, reheld, raised_as, answered, hit_kind, miss_kind, raised_same}
+use Rattle.operand_code.proofs.malformed.Failures.{failed_malformed, failed_unclosed, failed_register}
+use Rattle.operand_code.proofs.Rooms.{room_step}
+use Rattle.std.specs.Prelude.{Option, Some, None, is_some, option_map}
 
 -- ---- the shape
 
-pub shape_displaced : (y : Displacement) {x : Sized} → sized_of 0 y ≡ Some x → 5 ≡ base_shape y
+pub shape_of : (y : Displacement) (d : Option Sized) → sized_of 0 y ≡ d → pick (is_some d) Shapes.displacement Shapes.indirect ≡ base_shape y
 unfolding sized_of base_shape
-shape_displaced (displaced e n) h = refl
-shape_displaced undisplaced h = let z : ◌≡◌ {A = ℕ} 0 1 = cc in absurd (omega arith)
+shape_of (displaced e n) d h = rw (sym h) refl
+shape_of undisplaced d h = rw (sym h) refl
 
-pub shape_undisplaced : (y : Displacement) → sized_of 0 y ≡ None → 2 ≡ base_shape y
-unfolding sized_of base_shape
-shape_undisplaced (displaced e n) h = let z : ◌≡◌ {A = ℕ} 0 1 = cc in absurd (omega arith)
-shape_undisplaced undisplaced h = refl
+-- ---- a displacement, or none
 
-not_displaced : {x : Sized} → sized_of 0 undisplaced ≡ Some x → ⊥
+not_displaced : {d : Option Sized} → sized_of 0 undisplaced ≡ d → is_some d ≡ true → ⊥
 unfolding sized_of
-not_displaced h = let z : ◌≡◌ {A = ℕ} 0 1 = cc in omega arith
+not_displaced h i = true_false (sym i ∙ ap is_some (sym h))
 
-not_undisplaced : (e : Expr) (n : ℕ) → sized_of 0 (displaced e n) ≡ None → ⊥
+not_undisplaced : (e : Expr) (n : ℕ) {d : Option Sized} → sized_of 0 (displaced e n) ≡ d → is_some d ≡ false → ⊥
 unfolding sized_of
-not_undisplaced e n h = let z : ◌≡◌ {A = ℕ} 0 1 = cc in omega arith
+not_undisplaced e n h i = true_false (ap is_some h ∙ i)
 
 -- ---- an operand that is read
 
@@ -75,58 +71,59 @@ unfolding HeldBy
 operand_told x y a e k p q = answered (a.0 ∙ ap Some e) a.1 (k, (p, q))
 
 module _ {L T D : List ℕ} {c : Counters} {n : ℕ} {u : OperandRecord} {d : Option Sized} (y : Displacement) (e : sized_of 0 y ≡ d) (k : c.nodes ≡ n) where
-  -- an index written suppressed makes it a full index
-  pub indexed_full : (z : Span) (base : BaseRegister) (x : IndexRegister) (plain : IndexRegister → Span → Operand) → x.suppressed ≡ true → u ≡ form_of FormNumbers.full_index z d base (Some x)
-      → Told (option_map record_of) (Kept n y) (answer (Some (indexed_operand y base plain x z))) L T D D c (Some u) c
-  unfolding indexed_operand record_of size_o nodes_o sized_of nodes_d size_d
-  indexed_full z base x plain s w =
-      let full = O.full_index y base (Some x) 0 undisplaced z in
-      renamed (ap (λ b. answer (Some (pick b full (plain x z)))) (sym s)) (operand_told full y (refl, refl) (w ∙ rw (sym e)) k (append-nil (nodes_d 0 y)) (omega arith))
+  module _ {s z : Span} (a : s ≡ z) {form : ℕ} {base : BaseRegister} {x : IndexRegister} (w : u ≡ form_of form s d base (Some x)) (plain : IndexRegister → Span → Operand) where
+    -- an index written suppressed makes it a full index
+    pub indexed_full : x.suppressed ≡ true → form ≡ FormNumbers.full_index
+        → Told (option_map record_of) (Kept n y) (answer (Some (indexed_operand y base plain x z))) L T D D c (Some u) c
+    unfolding indexed_operand record_of size_o nodes_o sized_of nodes_d size_d
+    indexed_full b f =
+        let full = O.full_index y base (Some x) 0 undisplaced z in
+        renamed (ap (λ b. answer (Some (pick b full (plain x z)))) (sym b)) (operand_told full y (refl, refl) (w ∙ rw (a, f, sym e)) k (append-nil (nodes_d 0 y)) (omega arith))
 
-  pub indexed_plain : (z : Span) (form : ℕ) (base : BaseRegister) (x : IndexRegister) (plain : IndexRegister → Span → Operand) → x.suppressed ≡ false → u ≡ form_of form z d base (Some x) → Plain form d base y plain
-      → Told (option_map record_of) (Kept n y) (answer (Some (indexed_operand y base plain x z))) L T D D c (Some u) c
-  unfolding indexed_operand
-  indexed_plain z form base x plain s w g =
-      let h = g x z in
-      let full = O.full_index y base (Some x) 0 undisplaced z in
-      renamed (ap (λ b. answer (Some (pick b full (plain x z)))) (sym s)) (operand_told (plain x z) y (refl, refl) (w ∙ sym h.0) k h.1 h.2)
+    pub indexed_plain : {f : ℕ} → x.suppressed ≡ false → form ≡ f → Plain f d base y plain
+        → Told (option_map record_of) (Kept n y) (answer (Some (indexed_operand y base plain x z))) L T D D c (Some u) c
+    unfolding indexed_operand
+    indexed_plain b f g =
+        let h = g x z in
+        let full = O.full_index y base (Some x) 0 undisplaced z in
+        renamed (ap (λ b. answer (Some (pick b full (plain x z)))) (sym b)) (operand_told (plain x z) y (refl, refl) (w ∙ rw (a, f) (sym h.0)) k h.1 h.2)
 
 -- ---- a base alone
 
-module _ {L T D : List ℕ} {c : Counters} {n : ℕ} {u : OperandRecord} {d : Option Sized} (t₀ : Setting) (q : Register) (close : Token) where
-  pub base_displaced : (y : Displacement) {x : Sized} → sized_of 0 y ≡ d → Unsized y → d ≡ Some x → c.nodes ≡ n → u ≡ form_of FormNumbers.displacement (span t₀.start close.end) d (BaseRegister.Address q) None
+module _ {L T D : List ℕ} {c : Counters} {n : ℕ} {u : OperandRecord} {d : Option Sized} {s : Span} (t₀ : Setting) (q : Register) (close : Token) where
+  pub base_displaced : (y : Displacement) → sized_of 0 y ≡ d → Unsized y → is_some d ≡ true → c.nodes ≡ n → s ≡ span t₀.start close.end → u ≡ form_of FormNumbers.displacement s d (BaseRegister.Address q) None
       → Told (option_map record_of) (Kept n y) (closed_base t₀ q y close) L T D D c (Some u) c
   unfolding closed_base record_of size_o nodes_o nodes_d size_d Unsized
-  base_displaced (displaced e m) h z i k w = operand_told (O.displacement e q (span t₀.start close.end)) (displaced e m) (refl, refl) (w ∙ rw (sym h, z)) k refl refl
-  base_displaced undisplaced h z i k w = absurd (not_displaced (h ∙ i))
+  base_displaced (displaced e m) h z i k g w = operand_told (O.displacement e q (span t₀.start close.end)) (displaced e m) (refl, refl) (w ∙ rw (g, sym h, z)) k refl refl
+  base_displaced undisplaced h z i k g w = absurd (not_displaced h i)
 
-  pub base_indirect : (y : Displacement) → sized_of 0 y ≡ d → d ≡ None → c.nodes ≡ n → u ≡ form_of FormNumbers.indirect (span t₀.start close.end) d (BaseRegister.Address q) None → holds (is Kinds.plus) (place L T c.at) ≡ false
+  pub base_indirect : (y : Displacement) → sized_of 0 y ≡ d → is_some d ≡ false → c.nodes ≡ n → s ≡ span t₀.start close.end → u ≡ form_of FormNumbers.indirect s d (BaseRegister.Address q) None → of_kind Kinds.plus (token_at T c.at) ≡ None
       → Told (option_map record_of) (Kept n y) (closed_base t₀ q y close) L T D D c (Some u) c
-  unfolding closed_base record_of size_o nodes_o nodes_d size_d
-  base_indirect (displaced e m) h i k w g = absurd (not_undisplaced e m (h ∙ i))
-  base_indirect undisplaced h i k w g = missed g (operand_told (O.indirect q (span t₀.start close.end)) undisplaced (refl, refl) (w ∙ rw i) k refl refl)
+  unfolding closed_base record_of size_o nodes_o nodes_d size_d sized_of
+  base_indirect (displaced e m) h i k g w f = absurd (not_undisplaced e m h i)
+  base_indirect undisplaced h i k g w f = miss_kind Kinds.plus f (operand_told (O.indirect q (span t₀.start close.end)) undisplaced (refl, refl) (w ∙ rw (g, sym h)) k refl refl)
 
-  pub base_postincrement : (y : Displacement) {t : Token} {c₁ : Counters} → sized_of 0 y ≡ d → d ≡ None → c₁.nodes ≡ n → u ≡ form_of FormNumbers.postincrement (span t₀.start t.end) d (BaseRegister.Address q) None
-      → token_at T c₁.at ≡ Some t → t.kind ≡ Kinds.plus → c ≡ stepped c₁ t
+  pub base_postincrement : (y : Displacement) {t : Token} {c₁ : Counters} → sized_of 0 y ≡ d → is_some d ≡ false → c₁.nodes ≡ n → s ≡ span t₀.start t.end → u ≡ form_of FormNumbers.postincrement s d (BaseRegister.Address q) None
+      → of_kind Kinds.plus (token_at T c₁.at) ≡ Some t → c ≡ stepped c₁ t
       → Told (option_map record_of) (Kept n y) (closed_base t₀ q y close) L T D D c₁ (Some u) c
-  unfolding closed_base record_of size_o nodes_o nodes_d size_d
-  base_postincrement (displaced e m) h i k w g f s = absurd (not_undisplaced e m (h ∙ i))
-  base_postincrement undisplaced {t} h i k w g f s =
-      hit g (eq-eqb t.kind Kinds.plus f) s (operand_told (O.postincrement q (span t₀.start t.end)) undisplaced (refl, refl) (w ∙ rw i) (ap (λ z. z.nodes) s ∙ k) refl refl)
+  unfolding closed_base record_of size_o nodes_o nodes_d size_d sized_of
+  base_postincrement (displaced e m) h i k g w f p = absurd (not_undisplaced e m h i)
+  base_postincrement undisplaced {t} h i k g w f p =
+      hit_kind Kinds.plus f p (operand_told (O.postincrement q (span t₀.start t.end)) undisplaced (refl, refl) (w ∙ rw (g, sym h)) (ap (λ z. z.nodes) p ∙ k) refl refl)
 
 -- ---- the program counter alone
 
 module _ {L T : List ℕ} {c : Counters} {n : ℕ} {d : Option Sized} (t₀ : Setting) (close : Token) where
-  pub counter_displaced : {D : List ℕ} {u : OperandRecord} (y : Displacement) {x : Sized} → sized_of 0 y ≡ d → Unsized y → d ≡ Some x → c.nodes ≡ n → u ≡ form_of FormNumbers.pc_displacement (span t₀.start close.end) d BaseRegister.ProgramCounter None
+  pub counter_displaced : {D : List ℕ} {u : OperandRecord} {s : Span} (y : Displacement) → sized_of 0 y ≡ d → Unsized y → is_some d ≡ true → c.nodes ≡ n → s ≡ span t₀.start close.end → u ≡ form_of FormNumbers.pc_displacement s d BaseRegister.ProgramCounter None
       → Told (option_map record_of) (Kept n y) (closed_counter t₀ y close) L T D D c (Some u) c
   unfolding closed_counter record_of size_o nodes_o nodes_d size_d Unsized
-  counter_displaced (displaced e m) h z i k w = operand_told (O.pc_displacement e (span t₀.start close.end)) (displaced e m) (refl, refl) (w ∙ rw (sym h, z)) k refl refl
-  counter_displaced undisplaced h z i k w = absurd (not_displaced (h ∙ i))
+  counter_displaced (displaced e m) h z i k g w = operand_told (O.pc_displacement e (span t₀.start close.end)) (displaced e m) (refl, refl) (w ∙ rw (g, sym h, z)) k refl refl
+  counter_displaced undisplaced h z i k g w = absurd (not_displaced h i)
 
-  pub counter_alone : {D D' : List ℕ} {m : Counters} (y : Displacement) → sized_of 0 y ≡ d → d ≡ None → Raised D D' c (malformed_operand Shapes.pc_displacement Problems.the_displacement_missing (span t₀.start c.end) no_span) m → c.nodes ≡ n
+  pub counter_alone : {D D' : List ℕ} {m : Counters} (y : Displacement) → sized_of 0 y ≡ d → is_some d ≡ false → Raised D D' c (malformed_operand Shapes.pc_displacement Problems.the_displacement_missing (span t₀.start c.end) no_span) m → c.nodes ≡ n
       → Told (option_map record_of) (Kept n y) (closed_counter t₀ y close) L T D D' c None m
   unfolding closed_counter HeldBy
-  counter_alone (displaced e m) h i g k = absurd (not_undisplaced e m (h ∙ i))
+  counter_alone (displaced e m) h i g k = absurd (not_undisplaced e m h i)
   counter_alone undisplaced h i g k = failed_malformed t₀ Shapes.pc_displacement Problems.the_displacement_missing g refl refl (raised_same g ∙ k, tt)
 
 -- ---- from a call
@@ -135,35 +132,27 @@ module _ {L T : List ℕ} {c : Counters} {n : ℕ} {d : Option Sized} (t₀ : Se
 pub kept_from : {p : Reader (Option Operand)} {L T D D' : List ℕ} {n m : ℕ} {c : Counters} {v : Option OperandRecord} {r : Counters} (y : Displacement) → m ≡ n → Told (option_map record_of) (Kept m y) p L T D D' c v r → Told (option_map record_of) (Kept n y) p L T D D' c v r
 kept_from y e h = reheld (λ q. (q.0 ∙ e, q.1)) h
 
--- the shape is that of the definition's displacement
-pub unclosed_shape : {D D' : List ℕ} {c m : Counters} {sh shape : ℕ} (problem : ℕ) (o : ℕ) (z : Span) → sh ≡ shape → Raised D D' c (malformed_open sh problem (span o c.end) z) m → Raised D D' c (malformed_open shape problem (span o c.end) z) m
-unclosed_shape {c = c} problem o z e h = raised_as (ap (λ w. malformed_open w problem (span o c.end) z) e) h
-
-pub register_shape : {D D' : List ℕ} {c m : Counters} {sh shape : ℕ} (o : ℕ) (z : Span) → sh ≡ shape → Raised D D' c (malformed_operand sh Problems.not_an_address_register (span o c.end) z) m → Raised D D' c (malformed_operand shape Problems.not_an_address_register (span o c.end) z) m
-register_shape {c = c} o z e h = raised_as (ap (λ w. malformed_operand w Problems.not_an_address_register (span o c.end) z) e) h
-
--- the operands that an index makes
-pub index_plain : {d : Option Sized} (q : Register) (y : Displacement) → sized_of 0 y ≡ d → Plain FormNumbers.index d (BaseRegister.Address q) y (λ x. O.index y q x)
-unfolding record_of nodes_o size_o
-index_plain q y e x z = (rw (sym e), refl, refl)
-
-pub counter_plain : {d : Option Sized} (y : Displacement) → sized_of 0 y ≡ d → Plain FormNumbers.pc_index d BaseRegister.ProgramCounter y (λ x. O.pc_index y x)
-unfolding record_of nodes_o size_o
-counter_plain y e x z = (rw (sym e), refl, refl)
-
--- the code's answer that there is no operand, from a diagnostic
-pub no_operand_held : {D D' : List ℕ} {c : Counters} {x : Diagnostic} {m : Counters} (y : Displacement) → Raised D D' c x m → Kept c.nodes y None m
-unfolding HeldBy
-no_operand_held y h = (raised_same h, tt)
-
-pub full_index_told : {L T D : List ℕ} {c : Counters} {n : ℕ} {u : OperandRecord} {d : Option Sized} (y : Displacement) (z : Span) (x : Registers) → sized_of 0 y ≡ d → c.nodes ≡ n → u ≡ form_of FormNumbers.full_index z d x.base x.index
+pub full_index_told : {L T D : List ℕ} {c : Counters} {n : ℕ} {u : OperandRecord} {d : Option Sized} {s z : Span} (y : Displacement) (x : Registers) → sized_of 0 y ≡ d → c.nodes ≡ n → s ≡ z → u ≡ form_of FormNumbers.full_index s d x.base x.index
     → Told (option_map record_of) (Kept n y) (answer (Some (O.full_index y x.base x.index 0 undisplaced z))) L T D D c (Some u) c
 unfolding record_of size_o nodes_o sized_of nodes_d size_d
-full_index_told y z x e k w = operand_told (O.full_index y x.base x.index 0 undisplaced z) y (refl, refl) (w ∙ rw (sym e)) k (append-nil (nodes_d 0 y)) (omega arith)
+full_index_told {z = z} y x e k g w = operand_told (O.full_index y x.base x.index 0 undisplaced z) y (refl, refl) (w ∙ rw (g, sym e)) k (append-nil (nodes_d 0 y)) (omega arith)
 
-pub no_operand_behind : {D D' : List ℕ} {c : Counters} {x : Diagnostic} {m : Counters} {n : ℕ} (y : Displacement) → c.nodes ≡ n → Raised D D' c x m → Kept n y None m
+-- ---- no operand, from a diagnostic, whose shape is that of the definition's displacement
+
+pub unclosed_told : {L T D D' : List ℕ} {c m : Counters} {sh shape : ℕ} (s : Setting) (k : Token) (problem : ℕ) (y : Displacement) → sh ≡ shape → Raised D D' c (malformed_open sh problem (span s.start c.end) (span_of k)) m
+    → Told (option_map record_of) (Kept c.nodes y) (unclosed s k shape problem) L T D D' c None m
 unfolding HeldBy
-no_operand_behind y e h = (raised_same h ∙ e, tt)
+unclosed_told {c = c} s k problem y e h = failed_unclosed s k _ problem (raised_as (ap (λ w. malformed_open w problem (span s.start c.end) (span_of k)) e) h) refl refl (raised_same h, tt)
+
+pub register_told : {L T D D' : List ℕ} {c m : Counters} {n sh shape : ℕ} (s : Setting) (k : Token) (y : Displacement) → c.nodes ≡ n → sh ≡ shape → Raised D D' c (malformed_operand sh Problems.not_an_address_register (span s.start c.end) (span_of k)) m
+    → Told (option_map record_of) (Kept n y) (not_an_address_register s shape k) L T D D' c None m
+unfolding HeldBy
+register_told {c = c} s k y q e h = failed_register s _ k (raised_as (ap (λ w. malformed_operand w Problems.not_an_address_register (span s.start c.end) (span_of k)) e) h) refl refl (raised_same h ∙ q, tt)
+
+-- ---- room behind a token
+
+pub room_over : {T : List ℕ} {c c₁ : Counters} {k : Token} {n : ℕ} → Room T c n 1 → token_at T c.at ≡ Some k → Over c k c₁ → Room T c₁ n 1
+room_over h t e = room_step h t (over_is (omega (arith, h)) e)
 
 -- a register as the code has it
 pub register_at_base : {n : ℕ} {s z : Span} {q : Register} → s ≡ z → q ≡ record { index = n; span = z } → ◌≡◌ {A = Register} (record { index = n; span = s }) q
@@ -173,12 +162,12 @@ register_at_base {n} e h = ap (λ w. record { index = n; span = w }) e ∙ sym h
 
 pub some_base : (b : BaseRegister) → is_base b ≡ true → b ≡ BaseRegister.Omitted → ⊥
 unfolding is_base
-some_base b h e = let z : is_base BaseRegister.Omitted ≡ true = ap is_base (sym e) ∙ h in let y : ◌≡◌ {A = ℕ} 0 1 = cc in omega arith
+some_base b h e = true_false (sym h ∙ ap is_base e)
 
 pub no_base_lem : (b : BaseRegister) → is_base b ≡ false → b ≡ BaseRegister.Omitted
 unfolding is_base
-no_base_lem (BaseRegister.Address r) h = let z : ◌≡◌ {A = ℕ} 0 1 = cc in absurd (omega arith)
-no_base_lem BaseRegister.ProgramCounter h = let z : ◌≡◌ {A = ℕ} 0 1 = cc in absurd (omega arith)
-no_base_lem (BaseRegister.SuppressedAddress n) h = let z : ◌≡◌ {A = ℕ} 0 1 = cc in absurd (omega arith)
-no_base_lem BaseRegister.SuppressedProgramCounter h = let z : ◌≡◌ {A = ℕ} 0 1 = cc in absurd (omega arith)
+no_base_lem (BaseRegister.Address r) h = absurd (true_false h)
+no_base_lem BaseRegister.ProgramCounter h = absurd (true_false h)
+no_base_lem (BaseRegister.SuppressedAddress n) h = absurd (true_false h)
+no_base_lem BaseRegister.SuppressedProgramCounter h = absurd (true_false h)
 no_base_lem BaseRegister.Omitted h = refl

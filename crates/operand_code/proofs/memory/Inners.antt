@@ -12,15 +12,14 @@ use Rattle.names.specs.declared.tokens.Token.{Token}
 use Rattle.records.specs.Problems
 use Rattle.records.specs.Shapes
 use Rattle.records.specs.declared.counters.Counters.{Counters}
-use Rattle.records.specs.Spans.{span}
 use Rattle.records.specs.declared.spans.Span.{Span}
 use Rattle.expressions.specs.declared.reading.Setting.{Setting}
 use Rattle.expressions.specs.Expressions.{take_size_suffix}
-use Rattle.expressions.proofs.Costs.{all_clean}
-use Rattle.expressions.specs.Reader.{Test, Reader, answer, here, bump, peek, run, ◌>>=◌}
+use Rattle.expressions.proofs.Costs.{all_clean, true_false}
+use Rattle.expressions.specs.Reader.{is, of_kind, Reader, answer, here, bump, peek, run, ◌>>=◌}
 use Rattle.expressions.specs.Laws as laws
 use Rattle.expressions.specs.Laws.{Law, law_run, holds}
-use Rattle.records.specs.Counters.{stepped}
+use Rattle.records.specs.Counters.{stepped, Over, over_is}
 use Rattle.expressions.specs.Trees.{Expr, span_e}
 use Rattle.operand.specs.Operands.{Displacement, displaced, undisplaced}
 use Rattle.operand.specs.Operands as O
@@ -37,10 +36,10 @@ use Rattle.operand.specs.declared.forms.Registers.{Registers}
 use Rattle.operand.specs.declared.forms.IndexRegister.{IndexRegister}
 use Rattle.operand_code.specs.declared.memory_inner.InnerPart.{InnerPart}
 use Rattle.operand_code.specs.declared.memory_outer.OuterPart.{OuterPart}
-use Rattle.expressions.specs.Paths.{held_as, answered, hereby, hit, passed, unseen}
+use Rattle.expressions.specs.Paths.{held_as, answered, hereby, kind_token, hit_kind, passed, unseen}
 use Rattle.operand_code.proofs.Rooms.{left_room}
 use Rattle.operand_code.proofs.expressed.Trees.{TreeRead}
-use Rattle.std.specs.Prelude.{Option, Some, None, option_map}
+use Rattle.std.specs.Prelude.{Option, Some, None, is_some, option_map}
 use Rattle.operand.specs.declared.forms.OperandRecord.{OperandRecord}
 use Rattle.operand.specs.declared.forms.Sized.{Sized}
 
@@ -66,6 +65,9 @@ stored_first {N} {N'} {y = y} {c = c} e st =
 -- behind a token
 pub node_step : {T N : List ℕ} {c c₁ : Counters} {k : Token} {n : ℕ} → NodeRoom T N c n 0 1 → token_at T c.at ≡ Some k → c₁ ≡ stepped c k → NodeRoom T N c₁ n 0 1
 node_step {T} {c = c} {k = k} h t e = let l = live T c.at k t in rw e (omega (arith, h, l))
+
+pub node_over : {T N : List ℕ} {c c₁ : Counters} {k : Token} (kind : ℕ) {n : ℕ} → NodeRoom T N c n 0 1 → of_kind kind (token_at T c.at) ≡ Some k → Over c k c₁ → NodeRoom T N c₁ n 0 1
+node_over kind h t e = node_step h (kind_token kind _ t).0 (over_is (omega (arith, h)) e)
 
 -- behind a reader that has answered a displacement, or what holds one
 part_room : {A B : Type 0} {f : Option A → B} {p : Reader (Option A)} {L T N D N₁ D₁ : List ℕ} {c : Counters} {v : B} {c₁ : Counters} (g : A → Displacement) (least far : ℕ) {x : A}
@@ -135,26 +137,28 @@ unfolding outer_of
 outer_answered x i y e w u st = answered (w ∙ ap (λ z. Some (record { index = x; indirection = i; displacement = z })) (sym e)) u st
 
 -- behind a token that is stepped over
-pub outer_hit : {L T N D N' D' : List ℕ} {c c₁ : Counters} {v : Option OuterPart} {r : Counters} {t : Test} {y : Token → List ℕ → Reader (Option Outer)} {n : Unit {0} → Reader (Option Outer)} {k : Token}
-    → token_at T c.at ≡ Some k → t k (text_of L k.start k.end) ≡ true → c₁ ≡ stepped c k
-    → OuterTold (y k (text_of L k.start k.end)) L T N D N' D' c₁ v r → OuterTold (bump t y n) L T N D N' D' c v r
-outer_hit {L} {T} {N} {D} {N'} {D'} {v = v} {r = r} {y = y} {k = k} h q e g =
+pub outer_hit : {L T N D N' D' : List ℕ} {c c₁ : Counters} {v : Option OuterPart} {r : Counters} (kind : ℕ) {y : Token → List ℕ → Reader (Option Outer)} {n : Unit {0} → Reader (Option Outer)} {k : Token}
+    → of_kind kind (token_at T c.at) ≡ Some k → c₁ ≡ stepped c k
+    → OuterTold (y k (text_of L k.start k.end)) L T N D N' D' c₁ v r → OuterTold (bump (is kind) y n) L T N D N' D' c v r
+outer_hit {L} {T} {N} {D} {N'} {D'} {v = v} {r = r} kind {y = y} {k = k} h e g =
     let w = subst (λ z. OuterTold (y k (text_of L k.start k.end)) L T N D N' D' z v r) e g in
-    record { told = hit h q refl w.told }
+    record { told = hit_kind kind h refl w.told }
 
 -- from counters that count n nodes
 pub outer_from : {p : Reader (Option Outer)} {L T N D N' D' : List ℕ} {c : Counters} {v : Option OuterPart} {r : Counters} {n : ℕ} → c.nodes ≡ n → OuterTold p L T N D N' D' c v r → Told (option_map (outer_of n)) (StoredPart outer_d N N' n) p L T D D' c v r
 outer_from {p} {L} {T} {N} {D} {N'} {D'} {c} {v} {r} e h = subst (λ n. Told (option_map (outer_of n)) (StoredPart outer_d N N' n) p L T D D' c v r) e h.told
 
 -- an index, where there is one between the brackets and where there is none
-module _ {E : Type 0} {f : Option Outer → E} {Q : Option Outer → Counters → Type 0} (s : Setting) {L T D D' : List ℕ} {c : Counters} {v : E} {r : Counters} {i : Option IndexRegister} where
-  pub outer_twice : {x : IndexRegister} → i ≡ Some x → Told f Q (stepped_over s Shapes.memory_indirect Problems.index_twice) L T D D' c v r → Told f Q (outer_index s i) L T D D' c v r
+module _ {E : Type 0} {f : Option Outer → E} {Q : Option Outer → Counters → Type 0} (s : Setting) {L T D D' : List ℕ} {c : Counters} {v : E} {r : Counters} where
+  pub outer_twice : (i : Option IndexRegister) → is_some i ≡ true → Told f Q (stepped_over s Shapes.memory_indirect Problems.index_twice) L T D D' c v r → Told f Q (outer_index s i) L T D D' c v r
   unfolding outer_index
-  outer_twice e h = subst (λ z. Told f Q (outer_index s z) L T D D' c v r) (sym e) h
+  outer_twice (Some x) e h = h
+  outer_twice None e h = absurd (true_false (sym e))
 
-  pub outer_once : i ≡ None → Told f Q (parse_index_register s Shapes.memory_indirect >>=? outer_indexed s) L T D D' c v r → Told f Q (outer_index s i) L T D D' c v r
+  pub outer_once : (i : Option IndexRegister) → is_some i ≡ false → Told f Q (parse_index_register s Shapes.memory_indirect >>=? outer_indexed s) L T D D' c v r → Told f Q (outer_index s i) L T D D' c v r
   unfolding outer_index
-  outer_once e h = subst (λ z. Told f Q (outer_index s z) L T D D' c v r) (sym e) h
+  outer_once (Some x) e h = absurd (true_false e)
+  outer_once None e h = h
 
 -- an index stands at the cursor, or none
 abbrev maybe_index : Setting → Reader (Option Outer) → Reader (Option Outer) → Reader (Option Outer)
@@ -175,14 +179,14 @@ outer_of_lem s x {n} {L} {T} {N} {D} {N'} {D'} {c} {v} {r} e h = subst (λ (z : 
 
 -- ---- the operand
 
--- the parenthesis closes at e
-pub operand_closed : (start e : ℕ) {L T N D : List ℕ} {c c₁ : Counters} {n : InnerPart} {u : OuterPart} {v : Option OperandRecord} {r : Counters} (x : Inner) (y : Outer) → inner_of 0 x ≡ n
+-- the parenthesis closes at the end of the span
+pub operand_closed : {L T N D : List ℕ} {c c₁ : Counters} {n : InnerPart} {u : OuterPart} {s z : Span} {o : OperandRecord} (x : Inner) (y : Outer) → inner_of 0 x ≡ n
     → outer_of (size_d x.displacement) y ≡ u → StoredBoth N x.displacement y.displacement c → c₁.nodes ≡ c.nodes
-    → v ≡ Some (indirect_record start e n u)
-    → r ≡ c₁ → Told (option_map record_of) (Stored N) (answer (Some (O.full_index x.displacement x.registers.base y.index y.indirection y.displacement (span start e)))) L T D D c₁ v r
+    → s ≡ z → o ≡ indirect_record s.start s.end n u
+    → Told (option_map record_of) (Stored N) (answer (Some (O.full_index x.displacement x.registers.base y.index y.indirection y.displacement z))) L T D D c₁ (Some o) c₁
 unfolding record_of HeldBy nodes_o size_o inner_of outer_of
-operand_closed start e {N = N} {n = n} {u = u} x y a b st h w q =
-    answered (w ∙ ap₂ (λ (i : InnerPart) (j : OuterPart). Some (indirect_record start e i j)) (sym a) (sym b)) q
+operand_closed {N = N} {n = n} {u = u} {s = s} {z = z} x y a b st h e w =
+    answered (ap Some (w ∙ rw (e, sym a, sym b))) refl
     (sym (ap (λ m. take (10 * m) N) h ∙ st.bytes), sym (h ∙ st.total))
 
 -- both displacements

@@ -11,6 +11,6 @@ unfolding closed
 returns-in-Address-clause-told c =
     record { told = λ y e z. renamed (ap (λ b. closed c.args.source.now.setting b y c.args.close) (sym c.in-Address.is)) (c.closed_base.ensures.told.told y e z) }
 
-pub returns-clause-told : goal.returns-clause-told
-returns-clause-told c =
+pub returns-in_default-clause-told : goal.returns-in_default-clause-told
+returns-in_default-clause-told c =
     record { told = λ y e z. renamed (other_closed _ _ y _ c.in_default.not-Address) (c.closed_counter.ensures.told.told y e z) }

@@ -11,12 +11,12 @@ unfolding unsuppressed_base
 returns-in-Some c =
     let h = address_hit _ _ (sym c.address_register_at.ensures ∙ c.in-Some.is) in rw h.0 (ap BaseRegister.Address (c.register_of.ensures ∙ sym h.1))
 
-pub returns-then-program_counter_at : goal.returns-then-program_counter_at
+pub returns-in-None : goal.returns-in-None
 unfolding unsuppressed_base
-returns-then-program_counter_at c =
-    rw (address_miss _ _ (sym c.address_register_at.ensures ∙ c.in_default.is), sym c.program_counter_at.ensures ∙ c.if-program_counter_at.true)
+returns-in-None c =
+    rw (address_miss _ _ (sym c.address_register_at.ensures ∙ c.in-None.is), sym c.program_counter_at.ensures ∙ c.if-program_counter_at.true)
 
-pub returns : goal.returns
+pub returns-in-None-2 : goal.returns-in-None-2
 unfolding unsuppressed_base
-returns c =
-    rw (address_miss _ _ (sym c.address_register_at.ensures ∙ c.in_default.is), sym c.program_counter_at.ensures ∙ c.if-program_counter_at.false)
+returns-in-None-2 c =
+    rw (address_miss _ _ (sym c.address_register_at.ensures ∙ c.in-None.is), sym c.program_counter_at.ensures ∙ c.if-program_counter_at.false)

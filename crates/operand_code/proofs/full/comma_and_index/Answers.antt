@@ -2,25 +2,21 @@
 -- Assumes nothing.
 use mathlib.Core.Path.{refl, sym, ◌∙◌}
 use native.Mathlib.Omega.{arith}
-use borrow.Author.Tests.{eq-eqb, ne_eqb}
 use Rattle.names.specs.Kinds
 use Rattle.records.specs.Counters.{over_is}
-use Rattle.expressions.specs.Paths.{answered, hit_same, miss, done}
-use Rattle.operand_code.proofs.Rooms.{room_step}
+use Rattle.expressions.specs.Paths.{answered, kind_token, hit_same, miss_kind}
+use Rattle.operand_code.proofs.bases.Tails.{room_over}
 use Rattle.operand_code.proofs.full.comma_and_index.Goals as goal
 
 pub returns-in_default-clause-told : goal.returns-in_default-clause-told
 returns-in_default-clause-told c =
-    done (sym c.peek.ensures ∙ c.in_default.is) (answered refl refl refl)
-
-pub returns-then-t-ne-COMMA-clause-told : goal.returns-then-t-ne-COMMA-clause-told
-returns-then-t-ne-COMMA-clause-told c =
-    miss (sym c.peek.ensures ∙ c.in-Some.is) (ne_eqb _ Kinds.comma c.if-t-ne-COMMA.true) (answered refl refl refl)
+    miss_kind Kinds.comma (sym c.peek_kind.ensures ∙ c.in_default.is) (answered refl refl refl)
 
 pub with_index-requires : goal.with_index-requires
 with_index-requires c =
-    room_step c.requires (sym c.peek.ensures ∙ c.in-Some.is) (over_is (omega (arith, c.requires)) c.step_over.ensures)
+    room_over c.requires (kind_token Kinds.comma _ (sym c.peek_kind.ensures ∙ c.in-Some.is)).0 c.step_over.ensures
 
 pub returns-clause-told : goal.returns-clause-told
 returns-clause-told c =
-    hit_same (sym c.peek.ensures ∙ c.in-Some.is) (eq-eqb _ Kinds.comma c.if-t-ne-COMMA.false) (over_is (omega (arith, c.requires)) c.step_over.ensures) c.with_index.ensures.told
+    let h = kind_token Kinds.comma _ (sym c.peek_kind.ensures ∙ c.in-Some.is) in
+    hit_same h.0 h.1 (over_is (omega (arith, c.requires)) c.step_over.ensures) c.with_index.ensures.told

@@ -11,18 +11,23 @@ use Rattle.operand_code.proofs.full.parse_full_index.Goals as goal
 pub returns-in_err-x-clause-told : goal.returns-in_err-x-clause-told
 unfolding parse_full_index or_none HeldBy
 returns-in_err-x-clause-told c =
-    record { told = λ y e. bound c.parse_base_and_index_registers.ensures.told (sym c.parse_base_and_index_registers.ensures.told.what ∙ (c.in_err-x.was)) (answered c.from_residual.ensures refl (c.parse_base_and_index_registers.ensures.told.held, tt)) }
+    let t = c.parse_base_and_index_registers.ensures.told in
+    record { told = λ y e. bound t (sym t.what ∙ c.in_err-x.was) (answered c.from_residual.ensures refl (t.held, tt)) }
 
 pub expect_close-requires : goal.expect_close-requires
 expect_close-requires c =
-    registers_room _ _ c.requires c.parse_base_and_index_registers.ensures.told (c.in_ok-x.was)
+    registers_room _ _ c.requires c.parse_base_and_index_registers.ensures.told c.in_ok-x.was
 
 pub returns-in_err-end-clause-told : goal.returns-in_err-end-clause-told
 unfolding parse_full_index or_none HeldBy
 returns-in_err-end-clause-told c =
-    record { told = λ y e. bound c.parse_base_and_index_registers.ensures.told (sym c.parse_base_and_index_registers.ensures.told.what ∙ (c.in_ok-x.was)) (bound c.expect_close.ensures.told (sym c.expect_close.ensures.told.what ∙ (c.in_err-end.was)) (answered c.from_residual-in_err-end.ensures refl (c.expect_close.ensures.told.held ∙ c.parse_base_and_index_registers.ensures.told.held, tt))) }
+    let t = c.parse_base_and_index_registers.ensures.told in
+    let k = c.expect_close.ensures.told in
+    record { told = λ y e. bound t (sym t.what ∙ c.in_ok-x.was) (bound k (sym k.what ∙ c.in_err-end.was) (answered c.from_residual-in_err-end.ensures refl (k.held ∙ t.held, tt))) }
 
 pub returns-clause-told : goal.returns-clause-told
 unfolding parse_full_index or_none HeldBy
 returns-clause-told c =
-    record { told = λ y e. bound c.parse_base_and_index_registers.ensures.told (sym c.parse_base_and_index_registers.ensures.told.what ∙ (c.in_ok-x.was)) (bound c.expect_close.ensures.told (sym c.expect_close.ensures.told.what ∙ (c.in_ok-end.was)) (full_index_told y _ _ e (c.expect_close.ensures.told.held ∙ c.parse_base_and_index_registers.ensures.told.held) c.indexed.ensures)) }
+    let t = c.parse_base_and_index_registers.ensures.told in
+    let k = c.expect_close.ensures.told in
+    record { told = λ y e. bound t (sym t.what ∙ c.in_ok-x.was) (bound k (sym k.what ∙ c.in_ok-end.was) (full_index_told y _ e (k.held ∙ t.held) c.span_to-span.ensures c.indexed.ensures)) }

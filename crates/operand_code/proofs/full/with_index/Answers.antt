@@ -8,9 +8,11 @@ use Rattle.operand_code.proofs.full.with_index.Goals as goal
 pub returns-in_err-x-clause-told : goal.returns-in_err-x-clause-told
 unfolding or_none
 returns-in_err-x-clause-told c =
-    bound c.parse_index_register.ensures.told (sym c.parse_index_register.ensures.told.what ∙ (c.in_err-x.was)) (answered c.from_residual.ensures refl c.parse_index_register.ensures.told.held)
+    let t = c.parse_index_register.ensures.told in
+    bound t (sym t.what ∙ c.in_err-x.was) (answered c.from_residual.ensures refl t.held)
 
 pub returns-clause-told : goal.returns-clause-told
 unfolding or_none
 returns-clause-told c =
-    bound c.parse_index_register.ensures.told (sym c.parse_index_register.ensures.told.what ∙ (c.in_ok-x.was)) (answered refl refl c.parse_index_register.ensures.told.held)
+    let t = c.parse_index_register.ensures.told in
+    bound t (sym t.what ∙ c.in_ok-x.was) (answered refl refl t.held)

@@ -1,12 +1,11 @@
 -- `operand_code::memory::close_indirect` meets its contract.
 -- Assumes nothing.
-use mathlib.Core.Path.{refl, sym, ◌∙◌, ap}
+use mathlib.Core.Path.{refl, sym, ◌∙◌}
 use Rattle.operand.specs.Operand.{or_none}
 use Rattle.operand_code.specs.Operands.{HeldBy}
 use Rattle.expressions.specs.Paths.{answered, bound}
 use Rattle.operand_code.proofs.memory.Inners.{operand_closed}
 use Rattle.operand_code.proofs.memory.close_indirect.Goals as goal
-use Rattle.std.specs.Prelude.{Some}
 
 pub returns-in_err-end-clause-told : goal.returns-in_err-end-clause-told
 unfolding or_none HeldBy
@@ -18,4 +17,4 @@ pub returns-clause-told : goal.returns-clause-told
 unfolding or_none HeldBy
 returns-clause-told c =
     let t = c.expect_close.ensures.told in
-    record { told = λ N x y a b st. bound t (sym t.what ∙ c.in_ok-end.was) (operand_closed _ _ x y a b st t.held (ap Some c.memory_indirect.ensures) refl) }
+    record { told = λ N x y a b st. bound t (sym t.what ∙ c.in_ok-end.was) (operand_closed x y a b st t.held c.span_to.ensures c.memory_indirect.ensures) }

@@ -10,16 +10,16 @@ use Rattle.operand_code.proofs.Rooms.{index_room}
 use Rattle.operand_code.proofs.memory.Inners.{same_room, outer_from, outer_twice, outer_once}
 use Rattle.operand_code.proofs.memory_outer.outer_index.Goals as goal
 
-pub returns-in-Some-clause-told : goal.returns-in-Some-clause-told
+pub returns-then-is_some-clause-told : goal.returns-then-is_some-clause-told
 unfolding or_none
-returns-in-Some-clause-told c =
-    record { told = outer_twice _ c.in-Some.is (failed_over _ Shapes.memory_indirect Problems.index_twice c.stepped_over.ensures.told refl refl tt) }
+returns-then-is_some-clause-told c =
+    record { told = outer_twice _ _ (sym c.is_some.ensures ∙ c.if-is_some.true) (failed_over _ Shapes.memory_indirect Problems.index_twice c.stepped_over.ensures.told refl refl tt) }
 
 pub returns-in_err-x-clause-told : goal.returns-in_err-x-clause-told
 unfolding or_none
 returns-in_err-x-clause-told c =
     let t = c.parse_index_register.ensures.told in
-    record { told = outer_once _ c.in_default.is (bound t (sym t.what ∙ c.in_err-x.was) (answered c.from_residual.ensures refl tt)) }
+    record { told = outer_once _ _ (sym c.is_some.ensures ∙ c.if-is_some.false) (bound t (sym t.what ∙ c.in_err-x.was) (answered c.from_residual.ensures refl tt)) }
 
 pub outer_indexed-requires : goal.outer_indexed-requires
 outer_indexed-requires c =
@@ -30,4 +30,4 @@ pub returns-clause-told : goal.returns-clause-told
 unfolding or_none
 returns-clause-told c =
     let t = c.parse_index_register.ensures.told in
-    record { told = outer_once _ c.in_default.is (bound t (sym t.what ∙ c.in_ok-x.was) (outer_from t.held c.outer_indexed.ensures.told)) }
+    record { told = outer_once _ _ (sym c.is_some.ensures ∙ c.if-is_some.false) (bound t (sym t.what ∙ c.in_ok-x.was) (outer_from t.held c.outer_indexed.ensures.told)) }

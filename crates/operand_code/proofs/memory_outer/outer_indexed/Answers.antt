@@ -2,31 +2,25 @@
 -- Assumes nothing.
 use mathlib.Core.Path.{refl, sym, ◌∙◌}
 use native.Mathlib.Omega.{arith}
-use borrow.Author.Tests.{eq-eqb, ne_eqb}
 use Rattle.names.specs.Kinds
 use Rattle.records.specs.Counters.{over_is}
 use Rattle.operand.specs.Operands.{undisplaced}
 use Rattle.operand.specs.Operand.{outer_indexed}
 use Rattle.operand.specs.Forms.{sized_of}
-use Rattle.expressions.specs.Paths.{miss, done}
-use Rattle.operand_code.proofs.memory.Inners.{node_step, stored_none, outer_answered, outer_hit}
+use Rattle.expressions.specs.Paths.{miss_kind}
+use Rattle.operand_code.proofs.memory.Inners.{node_over, stored_none, outer_answered, outer_hit}
 use Rattle.operand_code.proofs.memory_outer.outer_indexed.Goals as goal
 
 pub returns-in_default-clause-told : goal.returns-in_default-clause-told
 unfolding outer_indexed sized_of
 returns-in_default-clause-told c =
-    record { told = done (sym c.peek.ensures ∙ c.in_default.is) (outer_answered _ 2 undisplaced refl refl refl (stored_none _ _)) }
-
-pub returns-then-t-ne-COMMA-clause-told : goal.returns-then-t-ne-COMMA-clause-told
-unfolding outer_indexed sized_of
-returns-then-t-ne-COMMA-clause-told c =
-    record { told = miss (sym c.peek.ensures ∙ c.in-Some.is) (ne_eqb _ Kinds.comma c.if-t-ne-COMMA.true) (outer_answered _ 2 undisplaced refl refl refl (stored_none _ _)) }
+    record { told = miss_kind Kinds.comma (sym c.peek_kind.ensures ∙ c.in_default.is) (outer_answered _ 2 undisplaced refl refl refl (stored_none _ _)) }
 
 pub outer_displaced-requires : goal.outer_displaced-requires
 outer_displaced-requires c =
-    node_step c.requires (sym c.peek.ensures ∙ c.in-Some.is) (over_is (omega (arith, c.requires)) c.step_over.ensures)
+    node_over Kinds.comma c.requires (sym c.peek_kind.ensures ∙ c.in-Some.is) c.step_over.ensures
 
 pub returns-clause-told : goal.returns-clause-told
 unfolding outer_indexed sized_of
 returns-clause-told c =
-    outer_hit (sym c.peek.ensures ∙ c.in-Some.is) (eq-eqb _ Kinds.comma c.if-t-ne-COMMA.false) (over_is (omega (arith, c.requires)) c.step_over.ensures) c.outer_displaced.ensures.told
+    outer_hit Kinds.comma (sym c.peek_kind.ensures ∙ c.in-Some.is) (over_is (omega (arith, c.requires)) c.step_over.ensures) c.outer_displaced.ensures.told
