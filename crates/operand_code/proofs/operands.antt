@@ -1,2 +1,3 @@
 -- What the proofs of operands.rt share.
 pub mod Returns
+pub mod Behind

@@ -1,11 +1,14 @@
 -- What the public function promises: the answer, and every number of both stores.
 -- Assumes nothing.
 use Rattle.std.specs.Prelude.{◌≡◌, List, ◌++◌, ℕ, ◌-◌, ◌*◌, ◌≤◌, length, replicate, Option, Some, None, option_map}
-use Rattle.names.specs.Tokens.{count}
+use Rattle.names.specs.Tokens.{count, token_at}
 use Rattle.names.specs.Places.{place}
+use Rattle.names.specs.declared.tokens.Token.{Token}
 use Rattle.records.specs.declared.counters.Counters.{Counters}
 use Rattle.records.specs.Stores.{cleared, added}
+use Rattle.records.specs.declared.progress.Progress.{Progress}
 use Rattle.expressions.specs.Reader.{Reading}
+use Rattle.expressions.specs.declared.source.Source.{Source}
 use Rattle.operand.specs.Operands.{Operand}
 use Rattle.operand.specs.Operand.{reading_of}
 use Rattle.operand.specs.Records.{size_m, nodes_m}
@@ -35,6 +38,24 @@ pub record NothingTold (N N' : List ℕ) (c : Counters) (r : OperandStep) : Type
   pub operand : r.operand ≡ None
   pub counters : r.counters ≡ record { at = c.at; end = c.end; nodes = 0; diagnostics = c.diagnostics }
   pub nodes : N' ≡ cleared N (10 * 0) (length N)
+
+-- ---- behind the first token, by the source, and by how far the reading is
+
+-- the counters before anything is read
+abbrev pub first : ℕ → Counters
+first start = record { at = start; end = 0; nodes = 0; diagnostics = 0 }
+
+-- the token k begins the operand, and there is room for a reading
+pub record ReadAsks (a : Source) (N : List ℕ) (c : Counters) (k : Token) : Type 0 where
+  pub asks : OperandAsks a.tokens.now N c.at a.setting.limit
+  pub stands : token_at a.tokens.now c.at ≡ Some k
+  pub opens : a.setting.start ≡ k.start
+  pub fresh : c ≡ first c.at
+
+abbrev pub FitsBy : Source → List ℕ → Progress → List ℕ → Progress → OperandStep → Type 0
+FitsBy a N o N' o' r = OperandFits (reading_of a.setting.limit a.setting.mark (place a.line.now a.tokens.now) o.counters.at) N o.diagnostics.now N' o'.diagnostics.now r
+
+-- ---- the public function
 
 -- where there is room for a reading, the answer and both stores are the reading's; else nothing is read and nothing moves
 pub data OperandPromise (L T N D N' D' : List ℕ) (start mark limit : ℕ) (r : Option OperandStep) : Type 0 where

@@ -21,6 +21,7 @@ const LONG: u8 = SizeSuffix::Long as u8;
 
 const UNKNOWN: u8 = 0;
 
+#[tactic(auto, unfolding(operand::specs::Records::flag))]
 fn immediate(c: Counters, start: u16, end: u16, long: bool) -> OperandRecord
     requires { 0 < c.nodes }
     ensures { result ≡ immediate_record c start end (flag long) }

@@ -65,15 +65,15 @@ fn parse_register_operand(
     ensures lent { out.new.diagnostics.ghost_name ≡ out.old.diagnostics.ghost_name }
     ensures told { OperandBy (parse_register_operand source.now.setting r) source.now out.old nodes.new out.new result }
 {
-    let Some(t) = source.peek(out.counters) else {
-        return Some(register_direct(r));
-    };
-    match t.kind {
-        kinds::MINUS | kinds::SLASH => parse_register_list(source, nodes, out, r),
+    match source.peek(out.counters) {
+        Some(t) if t.kind == kinds::MINUS || t.kind == kinds::SLASH => {
+            parse_register_list(source, nodes, out, r)
+        }
         _ => Some(register_direct(r)),
     }
 }
 
+#[tactic(auto, unfolding(operand::specs::Operand::register_direct, operand::specs::Forms::record_of))]
 fn register_direct(r: Register) -> OperandRecord
     ensures { result ≡ record_of (register_direct r r.span) }
 {
@@ -87,6 +87,7 @@ fn register_direct(r: Register) -> OperandRecord
 
 // ---- operand
 
+#[tactic(auto, unfolding(operand::specs::Forms::record_of))]
 fn special_register(special: u8, span: Span) -> OperandRecord
     ensures { result ≡ record_of (O.special_register special span) }
 {
@@ -114,6 +115,7 @@ fn named_operand(
     match SpecialRegister::parse(source.text_of(token)) {
         Some(n) => {
             out.counters.step_over(token);
+            // Its discriminant is its number in the record.
             Some(special_register(n as u8, Span::from(token)))
         }
         None => parse_expression_operand(source, nodes, out),
@@ -132,19 +134,18 @@ fn minus_operand(
     ensures told { OperandBy (minus_operand source.now.setting minus) source.now out.old nodes.new out.new result }
 {
     let at = usize::from(out.counters.at);
-    let Some(paren) = source.token_of_kind(at + 1, kinds::LEFT_PAREN) else {
-        return parse_expression_operand(source, nodes, out);
-    };
-    let Some(t) = source.token_at(at + 2) else {
-        return parse_expression_operand(source, nodes, out);
-    };
-    if !is_register_at(source, t) {
-        return parse_expression_operand(source, nodes, out);
+    match (
+        source.token_of_kind(at + 1, kinds::LEFT_PAREN),
+        source.token_at(at + 2),
+    ) {
+        (Some(paren), Some(t)) if is_register_at(source, t) => {
+            out.counters.step_over(minus);
+            out.counters.step_over(paren);
+            out.counters.step_over(t);
+            parse_predecrement(source, out, minus, paren, t)
+        }
+        _ => parse_expression_operand(source, nodes, out),
     }
-    out.counters.step_over(minus);
-    out.counters.step_over(paren);
-    out.counters.step_over(t);
-    parse_predecrement(source, out, minus, paren, t)
 }
 
 // The operand whose first token stands at the cursor.

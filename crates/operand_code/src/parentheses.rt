@@ -64,16 +64,17 @@ fn unexpected(source: &Source, out: &mut Progress, paren: Token) -> Option<Opera
     ensures lent { out.new.diagnostics.ghost_name ≡ out.old.diagnostics.ghost_name }
     ensures told { FailBy (unexpected paren) source.now out.old out.new result }
 {
-    let Some(t) = source.peek(out.counters) else {
-        let span = Span::from(paren);
-        out.raise(plain(DiagnosticKind::UnclosedParenthesis, span, Span::default()));
-        return None;
-    };
-    if t.kind == kinds::ERROR {
-        return None;
+    match source.peek(out.counters) {
+        None => {
+            let span = Span::from(paren);
+            out.raise(plain(DiagnosticKind::UnclosedParenthesis, span, Span::default()));
+        }
+        Some(t) if t.kind == kinds::ERROR => (),
+        Some(t) => {
+            let span = Span::from(t);
+            out.raise(plain(DiagnosticKind::UnexpectedTokenInOperand, span, span));
+        }
     }
-    let span = Span::from(t);
-    out.raise(plain(DiagnosticKind::UnexpectedTokenInOperand, span, span));
     None
 }
 
@@ -128,20 +129,17 @@ fn after_expression(
     ensures lent { out.new.diagnostics.ghost_name ≡ out.old.diagnostics.ghost_name }
     ensures told { StandBy (λ e. value ≡ span_e e) (λ e. after_expression source.now.setting paren e) source.now nodes.old out.old nodes.new out.new result }
 {
-    let Some(t) = source.peek(out.counters) else {
-        return unexpected(source, out, paren);
-    };
-    match t.kind {
-        kinds::COMMA => {
+    match source.peek(out.counters) {
+        Some(t) if t.kind == kinds::COMMA => {
             let d = last_tree(out.counters, 0);
             out.counters.step_over(t);
             after_comma(source, out, paren, d)
         }
-        kinds::RIGHT_PAREN => {
+        Some(t) if t.kind == kinds::RIGHT_PAREN => {
             out.counters.step_over(t);
             grouped_operand(source, nodes, out, paren)
         }
-        kinds::SIZE_SUFFIX => sized_base(source, out, paren, value, t),
+        Some(t) if t.kind == kinds::SIZE_SUFFIX => sized_base(source, out, paren, value, t),
         _ => unexpected(source, out, paren),
     }
 }

@@ -1,9 +1,6 @@
 // The public function: the operand at a place, whose nodes stand alone in the store.
 ghost use Rattle.std.specs.Prelude.{◌≡◌, ◌≤◌, min};
-ghost use Rattle.names.specs.Tokens.{token_at};
-ghost use Rattle.names.specs.Places.{place};
-ghost use Rattle.operand.specs.Operand.{reading_of};
-ghost use Rattle.operand_code.specs.Reading.{OperandAsks, OperandFits, NothingTold, OperandPromise};
+ghost use Rattle.operand_code.specs.Reading.{first, ReadAsks, FitsBy, NothingTold, OperandPromise};
 
 use crate::operands::operand_from;
 use expressions::{Setting, Source};
@@ -49,7 +46,7 @@ pub fn operand_at(
     Some(read(&source, nodes, &mut out, token))
 }
 
-// The mark, or one past every list: these are read alike.
+// The mark, or one past every list: these are read alike. `as`, here and below: of at most 1,023, which `try_from` would never refuse.
 fn mark_within(mark: usize) -> u32
     ensures { result ≡ min mark 1023 }
 {
@@ -58,28 +55,24 @@ fn mark_within(mark: usize) -> u32
 
 // The operand whose first token is `token`.
 fn read(source: &Source, nodes: &mut [u16], out: &mut Progress, token: Token) -> OperandStep
-    requires { OperandAsks source.now.tokens.now nodes.old out.old.counters.at source.now.setting.limit × (token_at source.now.tokens.now out.old.counters.at ≡ Some token) × (source.now.setting.start ≡ token.start) × (out.old.counters ≡ record { at = out.old.counters.at; end = 0; nodes = 0; diagnostics = 0 }) }
+    requires { ReadAsks source.now nodes.old out.old.counters token }
     ensures lent { out.new.diagnostics.ghost_name ≡ out.old.diagnostics.ghost_name }
-    ensures told { OperandFits (reading_of source.now.setting.limit source.now.setting.mark (place source.now.line.now source.now.tokens.now) out.old.counters.at) nodes.old out.old.diagnostics.now nodes.new out.new.diagnostics.now result }
+    ensures told { FitsBy source.now nodes.old out.old nodes.new out.new result }
 {
-    let found = operand_from(source, nodes, out, token);
-    let e = out.counters;
-    match found {
-        Some(_) => {
-            clear_behind(nodes, e.nodes);
-            OperandStep {
-                operand: found,
-                counters: e,
-            }
-        }
-        None => nothing(nodes, e),
+    let Some(operand) = operand_from(source, nodes, out, token) else {
+        return nothing(nodes, out.counters);
+    };
+    clear_behind(nodes, out.counters.nodes);
+    OperandStep {
+        operand: Some(operand),
+        counters: out.counters,
     }
 }
 
 // Before the first token.
 fn first(start: usize) -> Counters
     requires { start ≤ 1023 }
-    ensures { result ≡ record { at = start; end = 0; nodes = 0; diagnostics = 0 } }
+    ensures { result ≡ first start }
 {
     Counters {
         at: start as u16,

@@ -26,8 +26,9 @@ use Rattle.records.specs.declared.counters.Counters.{Counters}
 use Rattle.records.specs.Diagnostics.{malformed_operand, dot_in_name}
 use Rattle.expressions.specs.Expressions.{Suffix, suffixed, bare, known, suffix_run, take_size_suffix}
 use Rattle.expressions.specs.Laws.{met_yes}
-use Rattle.expressions.specs.Reader.{is, Reading, Reader, answer, raise, choose, ◌>>=◌, run}
-use Rattle.records.specs.Counters.{stepped}
+use Rattle.expressions.specs.Reader.{is, of_kind, Reading, Reader, answer, raise, choose, ◌>>=◌, run}
+use Rattle.records.specs.Counters.{stepped, Over}
+use Rattle.records.specs.Rooms.{Room}
 use Rattle.records.specs.Spans.{span, no_span, span_of}
 use Rattle.expressions.specs.Trees.{Expr, span_e, size}
 use Rattle.expressions.specs.declared.reading.Setting.{Setting}
@@ -42,7 +43,8 @@ use Rattle.operand_code.specs.Lookahead.{reg_at}
 use Rattle.operand_code.specs.Absolutes.{immediate_record, absolute_record, SizeAt}
 use Rattle.operand.specs.declared.forms.Register.{Register}
 use Rattle.operand.specs.declared.forms.Suffixed.{Suffixed}
-use Rattle.expressions.specs.Paths.{bound, chosen, unchosen, hit, raised_same}
+use Rattle.expressions.specs.Paths.{bound, chosen, unchosen, hit, raised_same, kind_token}
+use Rattle.operand_code.proofs.indexes.Returns.{over_room, room_over}
 use Rattle.operand_code.proofs.malformed.Failures.{failed_malformed}
 use Rattle.operand_code.proofs.lookahead.Names.{reg_from}
 use Rattle.operand_code.proofs.Rooms.{suffix_is, suffix_not}
@@ -50,6 +52,11 @@ use Rattle.operand_code.proofs.bases.Tails.{operand_told, register_at_base}
 use Rattle.operand_code.proofs.Holdings.{kept_none, unstored_told, tree_is_lem}
 use Rattle.std.specs.Prelude.{Option, Some, None, option_map}
 use Rattle.operand.specs.declared.forms.OperandRecord.{OperandRecord}
+
+-- ---- a place by another number
+
+token_from_lem : (T : List ℕ) {i j : ℕ} {k : Token} → i ≡ j → token_at T j ≡ Some k → token_at T i ≡ Some k
+token_from_lem T e h = ap (token_at T) e ∙ h
 
 -- ---- a register
 
@@ -93,13 +100,18 @@ run_stays from k x at i l = go (leb 2 (length x))
     go false = known_stays k (size_of x) at i l
 
 -- a size that stands at the cursor is stepped over
-pub size_passed : (from : ℕ) {Q : Suffix → Counters → Type 0} {L T D D₁ : List ℕ} {c : Counters} {v : Option Suffixed} {c₁ : Counters} → {k : Token} → SizeAt T c.at k → Told suffix_read Q (take_size_suffix from) L T D D₁ c v c₁ → c₁.at ≡ c.at + 1
+size_passed : (from : ℕ) {Q : Suffix → Counters → Type 0} {L T D D₁ : List ℕ} {c : Counters} {v : Option Suffixed} {c₁ : Counters} → {k : Token} → SizeAt T c.at k → Told suffix_read Q (take_size_suffix from) L T D D₁ c v c₁ → c₁.at ≡ c.at + 1
 unfolding run take_size_suffix
 size_passed from {L = L} {T = T} {c = c} {k = k} h t =
     let x = text_of L k.start k.end in
     t.at
     ∙ ap (λ (r : Reading Suffix). r.cursor) (met_yes (is Kinds.size_suffix) (λ k x. run (suffix_run from k (run_of x)) (place L T) (c.at + 1) k.end) (λ u. run (answer bare) (place L T) c.at c.end) (place L T c.at) k x (there L T c.at k h.stands) (eq-eqb _ Kinds.size_suffix h.kind))
     ∙ run_stays from k (run_of x) (place L T) (c.at + 1) k.end
+
+-- what stood behind it stands at the cursor then
+pub behind_passed : (from kind : ℕ) {Q : Suffix → Counters → Type 0} {L T D D₁ : List ℕ} {c : Counters} {v : Option Suffixed} {c₁ : Counters} {k t : Token} {at : ℕ} → SizeAt T c.at k → Told suffix_read Q (take_size_suffix from) L T D D₁ c v c₁
+    → at ≡ c.at → of_kind kind (token_at T (at + 1)) ≡ Some t → token_at T c₁.at ≡ Some t
+behind_passed from kind {T = T} h g i e = token_from_lem T (size_passed from h g ∙ ap (λ z. z + 1) (sym i)) (kind_token kind _ e).0
 
 -- ---- an immediate or an absolute address: the tree that the last records hold
 
@@ -170,17 +182,37 @@ special_told N c t x z e q f w a =
 
 -- ---- a predecrement
 
-pub token_from_lem : (T : List ℕ) {i j : ℕ} {k : Token} → i ≡ j → token_at T j ≡ Some k → token_at T i ≡ Some k
-token_from_lem T e h = ap (token_at T) e ∙ h
+-- its three tokens are stepped over
+pub record Thrice (T : List ℕ) (c c₁ c₂ c₃ : Counters) (minus k t : Token) : Type 0 where
+  pub first : token_at T c.at ≡ Some minus
+  pub over_first : c₁ ≡ stepped c minus
+  pub second : token_at T c₁.at ≡ Some k
+  pub over_second : c₂ ≡ stepped c₁ k
+  pub third : token_at T c₂.at ≡ Some t
+  pub over_third : c₃ ≡ stepped c₂ t
+  pub room : Room T c₃ 0 1
 
--- behind its three tokens
-pub predecrement_told : (s : Setting) {minus k t : Token} {L T D D' : List ℕ} {c c₁ c₂ c₃ : Counters} {v : Option OperandRecord} {r : Counters} (N : List ℕ) → c.nodes ≡ 0
-    → token_at T c.at ≡ Some minus → token_at T (c.at + 1) ≡ Some k → token_at T (c.at + 2) ≡ Some t → c₁ ≡ stepped c minus → c₂ ≡ stepped c₁ k → c₃ ≡ stepped c₂ t
+pub stepped_thrice : (kind : ℕ) {T : List ℕ} {c c₁ c₂ c₃ : Counters} {minus k t : Token} {at : ℕ} → Room T c 0 1 → token_at T c.at ≡ Some minus → at ≡ c.at → of_kind kind (token_at T (at + 1)) ≡ Some k → token_at T (at + 2) ≡ Some t
+    → Over c minus c₁ → Over c₁ k c₂ → Over c₂ t c₃ → Thrice T c c₁ c₂ c₃ minus k t
+stepped_thrice kind {T} h p i q r a b d =
+    let room = room_over h a p in
+    let next = token_from_lem T (omega (arith, h, i, a)) (kind_token kind _ q).0 in
+    let room₂ = room_over room b next in
+    let last = token_from_lem T (omega (arith, h, room, i, a, b)) r in
+    record {
+      first = p;
+      over_first = over_room h a;
+      second = next;
+      over_second = over_room room b;
+      third = last;
+      over_third = over_room room₂ d;
+      room = room_over room₂ d last;
+    }
+
+pub predecrement_told : (s : Setting) {minus k t : Token} {L T D D' : List ℕ} {c c₁ c₂ c₃ : Counters} {v : Option OperandRecord} {r : Counters} (N : List ℕ) → c.nodes ≡ 0 → Thrice T c c₁ c₂ c₃ minus k t
     → Told (option_map record_of) (Kept c₃.nodes undisplaced) (predecrement_close s minus k t (register_from t (text_of L t.start t.end))) L T D D' c₃ v r
     → Told (option_map record_of) (Stored N) (parse_predecrement s minus k t (text_of L t.start t.end)) L T D D' c v r
 unfolding parse_predecrement over
-predecrement_told s {T = T} {c₃ = c₃} N z a b d e₁ e₂ e₃ h =
-    let at₁ = ap (λ y. y.at) e₁ in
-    let at₂ = ap (λ y. y.at) e₂ in
-    let none : c₃.nodes ≡ 0 = ap (λ y. y.nodes) e₃ ∙ ap (λ y. y.nodes) e₂ ∙ ap (λ y. y.nodes) e₁ ∙ z in
-    hit a refl e₁ (hit (token_from_lem T at₁ b) refl e₂ (hit (token_from_lem T (omega (arith, at₁, at₂)) d) refl e₃ (unstored_told N none h)))
+predecrement_told s {c₃ = c₃} N z w h =
+    let none : c₃.nodes ≡ 0 = ap (λ y. y.nodes) w.over_third ∙ ap (λ y. y.nodes) w.over_second ∙ ap (λ y. y.nodes) w.over_first ∙ z in
+    hit w.first refl w.over_first (hit w.second refl w.over_second (hit w.third refl w.over_third (unstored_told N none h)))

@@ -14,19 +14,16 @@ use Rattle.records.specs.Counters.{counters_are}
 use Rattle.records.specs.Stores.{cleared, added}
 use Rattle.records.specs.Written.{cleared_fits}
 use Rattle.expressions.specs.Reader.{Reading, run}
+use Rattle.expressions.specs.declared.source.Source.{Source}
 use Rattle.operand.specs.Operands.{Operand}
 use Rattle.operand.specs.Operand.{setting_from, operand_from, reading_of}
 use Rattle.operand.specs.Records.{size_m, nodes_m}
 use Rattle.operand.proofs.Readings.{nodes_few, within, started, ended}
 use Rattle.operand.specs.declared.forms.OperandRecord.{OperandRecord}
 use Rattle.operand_code.specs.Operands.{HeldBy, OperandTold}
-use Rattle.operand_code.specs.Reading.{OperandAsks, nodes_alone, OperandFits, NothingTold}
+use Rattle.operand_code.specs.Reading.{first, ReadAsks, nodes_alone, OperandFits, NothingTold}
 use Rattle.std.specs.Prelude.{Option, Some, None}
 use Rattle.operand.specs.declared.forms.OperandStep.{OperandStep}
-
--- the counters before the first token
-abbrev pub first : ℕ → Counters
-first start = record { at = start; end = 0; nodes = 0; diagnostics = 0 }
 
 -- a store whose first n records are b, cleared behind them
 alone : (v : Option Operand) (N N₁ N₂ : List ℕ) (n : ℕ) → take (10 * n) N₁ ≡ nodes_m v → n ≡ size_m v → length N₁ ≡ length N → 10 * n ≤ length N → N₂ ≡ cleared N₁ (10 * n) (length N₁) → N₂ ≡ nodes_alone v (length N)
@@ -42,22 +39,27 @@ alone v N N₁ N₂ n b e l f k =
 pub lent_back : {G : Type 0} {g k : G} {D₁ D₂ : List ℕ} → k ≡ g → (g ≡ k → D₂ ≡ D₁) → D₂ ≡ D₁
 lent_back e f = f (sym e)
 
-module _ {L T N D N₁ D₁ D₂ : List ℕ} {start limit : ℕ} (mark : ℕ) (k : Token) (asks : OperandAsks T N start limit) (here : token_at T start ≡ Some k) {v : Option OperandRecord} {r : Counters}
-    (told : OperandTold (operand_from (setting_from limit mark k)) L T D N₁ D₁ (first start) v r) (long : length N₁ ≡ length N) (back : D₂ ≡ D₁) where
+module _ {a : Source} {N N₁ D D₁ : List ℕ} {c : Counters} (k : Token) (h : ReadAsks a N c k) {v : Option OperandRecord} {r : Counters}
+    (told : OperandTold (operand_from a.setting) a.line.now a.tokens.now D N₁ D₁ c v r) (long : length N₁ ≡ length N) where
   abbrev whole : Reading (Option Operand)
-  whole = run (operand_from (setting_from limit mark k)) (place L T) start 0
+  whole = run (operand_from (setting_from a.setting.limit a.setting.mark k)) (place a.line.now a.tokens.now) c.at 0
 
-  reads : reading_of limit mark (place L T) start ≡ whole
-  reads = started limit mark (place L T) start k _ (there L T start k here)
+  reads : reading_of a.setting.limit a.setting.mark (place a.line.now a.tokens.now) c.at ≡ whole
+  reads = started a.setting.limit a.setting.mark (place a.line.now a.tokens.now) c.at k _ (there a.line.now a.tokens.now c.at k h.stands)
+
+  whole_told : OperandTold (operand_from (setting_from a.setting.limit a.setting.mark k)) a.line.now a.tokens.now D N₁ D₁ (first c.at) v r
+  whole_told =
+      subst (λ z. OperandTold (operand_from z) a.line.now a.tokens.now D N₁ D₁ (first c.at) v r) (ap (λ z. record { limit = a.setting.limit; mark = a.setting.mark; start = z }) h.opens)
+      (subst (λ z. OperandTold (operand_from a.setting) a.line.now a.tokens.now D N₁ D₁ z v r) h.fresh told)
 
   -- no more nodes than tokens
   fits : 10 * size_m whole.value ≤ length N
   fits =
       omega (
         arith,
-        asks,
-        rw reads at (nodes_few limit asks.deep mark (place L T) start),
-        rw reads at (within limit mark (place L T) (count T) start (λ j q x g. below L T j q x g) asks.within),
+        h.asks,
+        rw reads at (nodes_few a.setting.limit h.asks.deep a.setting.mark (place a.line.now a.tokens.now) c.at),
+        rw reads at (within a.setting.limit a.setting.mark (place a.line.now a.tokens.now) (count a.tokens.now) c.at (λ j q x g. below a.line.now a.tokens.now j q x g) h.asks.within),
       )
 
   module _ {x : OperandRecord} (e : v ≡ Some x) where
@@ -71,35 +73,35 @@ module _ {L T N D N₁ D₁ D₂ : List ℕ} {start limit : ℕ} (mark : ℕ) (k
       where
         go : (z : Option Operand) → whole.value ≡ z → Read
         go (Some y) q = record { read = y; value = q }
-        go None q = let z : ◌≡◌ {A = ℕ} 0 1 = cc (told.told.what, e) in absurd (omega arith)
+        go None q = let z : ◌≡◌ {A = ℕ} 0 1 = cc (whole_told.told.what, e) in absurd (omega arith)
 
     -- its nodes are the records that count
     held : (size_m whole.value ≡ r.nodes) × (nodes_m whole.value ≡ take (10 * r.nodes) N₁)
     unfolding HeldBy size_m nodes_m
-    held = let h = rw is_read.value at told.told.held in (rw is_read.value h.1, rw is_read.value h.0)
+    held = let w = rw is_read.value at whole_told.told.held in (rw is_read.value w.1, rw is_read.value w.0)
 
-    pub operand_kept : {N₂ : List ℕ} → N₂ ≡ cleared N₁ (10 * r.nodes) (length N₁) → OperandFits (reading_of limit mark (place L T) start) N D N₂ D₂ (record { operand = v; counters = r })
-    operand_kept {N₂} c =
+    pub operand_kept : {N₂ : List ℕ} → N₂ ≡ cleared N₁ (10 * r.nodes) (length N₁) → OperandFits (reading_of a.setting.limit a.setting.mark (place a.line.now a.tokens.now) c.at) N D N₂ D₁ (record { operand = Some x; counters = r })
+    operand_kept {N₂} e₂ =
         rw reads
         (record {
-          operand = told.told.what;
-          counters = counters_are r whole.cursor whole.end (size_m whole.value) (length whole.raised) told.told.at told.told.end (sym held.0) (omega (arith, told.told.seen));
-          nodes = alone whole.value N N₁ N₂ r.nodes (sym held.1) (sym held.0) long (omega (arith, fits, held.0)) c;
-          diagnostics = back ∙ told.told.more;
+          operand = sym e ∙ whole_told.told.what;
+          counters = counters_are r whole.cursor whole.end (size_m whole.value) (length whole.raised) whole_told.told.at whole_told.told.end (sym held.0) (omega (arith, whole_told.told.seen));
+          nodes = alone whole.value N N₁ N₂ r.nodes (sym held.1) (sym held.0) long (omega (arith, fits, held.0)) e₂;
+          diagnostics = whole_told.told.more;
         })
 
   -- without an operand no node is used
-  pub nothing_kept : {N₂ : List ℕ} {q : OperandStep} → v ≡ None → NothingTold N₁ N₂ r q → OperandFits (reading_of limit mark (place L T) start) N D N₂ D₂ q
+  pub nothing_kept : {N₂ : List ℕ} {q : OperandStep} → v ≡ None → NothingTold N₁ N₂ r q → OperandFits (reading_of a.setting.limit a.setting.mark (place a.line.now a.tokens.now) c.at) N D N₂ D₁ q
   unfolding size_m nodes_m
-  nothing_kept {N₂} {q} e c = rw reads (go whole.value refl)
+  nothing_kept {N₂} {q} e w = rw reads (go whole.value refl)
     where
-      go : (z : Option Operand) → whole.value ≡ z → OperandFits whole N D N₂ D₂ q
-      go (Some y) q = let z : ◌≡◌ {A = ℕ} 0 1 = cc (told.told.what, e) in absurd (omega arith)
+      go : (z : Option Operand) → whole.value ≡ z → OperandFits whole N D N₂ D₁ q
+      go (Some y) q = let z : ◌≡◌ {A = ℕ} 0 1 = cc (whole_told.told.what, e) in absurd (omega arith)
       go None q = record {
-        operand = c.operand ∙ sym e ∙ told.told.what;
-        counters = c.counters ∙ counters_are _ whole.cursor whole.end (size_m whole.value) (length whole.raised) told.told.at told.told.end (sym (ap size_m q)) (omega (arith, told.told.seen));
-        nodes = alone whole.value N N₁ N₂ 0 (sym (ap nodes_m q)) (sym (ap size_m q)) long (omega arith) c.nodes;
-        diagnostics = back ∙ told.told.more;
+        operand = w.operand ∙ sym e ∙ whole_told.told.what;
+        counters = w.counters ∙ counters_are _ whole.cursor whole.end (size_m whole.value) (length whole.raised) whole_told.told.at whole_told.told.end (sym (ap size_m q)) (omega (arith, whole_told.told.seen));
+        nodes = alone whole.value N N₁ N₂ 0 (sym (ap nodes_m q)) (sym (ap size_m q)) long (omega arith) w.nodes;
+        diagnostics = whole_told.told.more;
       }
 
 pub nothing_from : {N N' : List ℕ} {c c₁ : Counters} {r : OperandStep} → c₁ ≡ c → NothingTold N N' c₁ r → NothingTold N N' c r

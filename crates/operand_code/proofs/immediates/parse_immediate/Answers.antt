@@ -4,18 +4,14 @@ use mathlib.Core.Path.{refl, ◌∙◌, ap}
 use native.Mathlib.Omega.{arith}
 use Rattle.std.specs.Prelude.{Err}
 use Rattle.operand.specs.Operand.{parse_immediate, or_absent}
-use Rattle.expressions.specs.Paths.{raised}
 use Rattle.operand_code.proofs.expressed.Trees.{tree_read, absent_room}
 use Rattle.operand_code.proofs.Holdings.{nothing_stored, tree_stored, tree_stands, stands_size, behind_tree, behind_reported, behind_absent}
+use Rattle.operand_code.proofs.operands.Behind.{fails_stored}
 use Rattle.operand_code.proofs.immediates.parse_immediate.Goals as goal
 
 pub immediate_size-requires : goal.immediate_size-requires
 immediate_size-requires c =
     (tree_read _ _ c.requires.0 c.expression_at.ensures.told c.in-Ok.is (omega (arith, c.expression_at.auto))).room.room
-
-pub expression_expected-requires : goal.expression_expected-requires
-expression_expected-requires c =
-    omega (arith, absent_room _ _ c.requires.0 c.expression_at.ensures.told (c.in-Err-Absent.is ∙ ap Err c.in-Err-Absent.field-0-is))
 
 pub returns-in-Ok-clause-told : goal.returns-in-Ok-clause-told
 unfolding parse_immediate or_absent
@@ -31,4 +27,5 @@ returns-in-Err-Reported-clause-told c =
 pub returns-in-Err-Absent-clause-told : goal.returns-in-Err-Absent-clause-told
 unfolding parse_immediate or_absent
 returns-in-Err-Absent-clause-told c =
-    record { told = behind_absent _ _ c.requires.0 c.expression_at.ensures.told (c.in-Err-Absent.is ∙ ap Err c.in-Err-Absent.field-0-is) (raised c.expression_expected.ensures.told (nothing_stored _ refl refl)) }
+    let a = c.in-Err-Absent.is ∙ ap Err c.in-Err-Absent.field-0-is in
+    record { told = behind_absent _ _ c.requires.0 c.expression_at.ensures.told a (fails_stored (absent_room _ _ c.requires.0 c.expression_at.ensures.told a) c.expression_expected.ensures c.raise.ensures.told c.raise.ensures.counted _) }

@@ -9,11 +9,10 @@ use Rattle.names.specs.contracts.registers.SpecialRegister.{the_type}
 use Rattle.names.specs.declared.registers.SpecialRegister.{SpecialRegister}
 use Rattle.names.specs.declared.registers.SpecialRegister.TheVariants.{Sr, Ccr, Usp, Sfc, Dfc, Vbr, Cacr, Caar, Msp, Isp}
 use Rattle.names.specs.Registers.{special_of}
-use Rattle.records.specs.Counters.{over_is}
 use Rattle.operand.specs.Operand.{name_or_expression, parse_register_operand}
 use Rattle.expressions.specs.Paths.{renamed, hit, miss}
 use Rattle.operand_code.proofs.lookahead.Names.{reg_is, reg_not, reg_small}
-use Rattle.operand_code.proofs.Rooms.{room_step}
+use Rattle.operand_code.proofs.indexes.Returns.{over_room, room_over}
 use Rattle.operand_code.proofs.operands.Returns.{register_read, special_is, special_not, special_told}
 use Rattle.operand_code.proofs.operands.named_operand.Goals as goal
 
@@ -33,7 +32,7 @@ special_code Isp = refl
 pub parse_register_operand-requires : goal.parse_register_operand-requires
 parse_register_operand-requires c =
     record {
-      room = room_step c.requires.0.room c.requires.2 (over_is (omega (arith, c.requires.0)) c.step_over.ensures);
+      room = room_over c.requires.0.room c.step_over.ensures c.requires.2;
       long = omega (arith, c.requires.0, c.requires.1, c.step_over.ensures);
       none = c.step_over.ensures.nodes ∙ c.requires.1;
       behind = omega (arith, c.requires.0, c.step_over.ensures);
@@ -45,19 +44,19 @@ unfolding name_or_expression
 returns-in-Some-clause-told c =
     let q = sym c.register_at.ensures ∙ c.in-Some.is in
     record {
-      told = hit c.requires.2 (reg_is _ _ _ q) (over_is (omega (arith, c.requires.0)) c.step_over.ensures)
+      told = hit c.requires.2 (reg_is _ _ _ q) (over_room c.requires.0.room c.step_over.ensures)
           (renamed (ap (parse_register_operand c.args.source.now.setting) c.register_of.ensures ∙ register_read _ _ _ q refl) c.parse_register_operand.ensures.told.told);
     }
 
 pub returns-in-Some-parse-clause-told : goal.returns-in-Some-parse-clause-told
 unfolding name_or_expression
 returns-in-Some-parse-clause-told c =
-    let e = over_is (omega (arith, c.requires.0)) c.step_over-in-Some-parse.ensures in
+    let e = over_room c.requires.0.room c.step_over-in-Some-parse.ensures in
     let q = sym (c.parse.ensures.special ∙ ap special_of c.text_of.ensures) ∙ c.in-Some-parse.is in
     record {
       told = miss c.requires.2 (reg_not _ _ (sym c.register_at.ensures ∙ c.in_default.is))
           (hit c.requires.2 (special_is c.args.token _ c.requires.3 q) e
-          (special_told _ c.args.out.now.counters c.args.token _ c.requires.1 e q (special_code c.in-Some-parse.n) c.span_of.ensures (ap Some c.special_register.ensures, refl)));
+          (special_told _ c.args.out.now.counters c.args.token _ c.requires.1 e q (special_code c.in-Some-parse.n) c.from.ensures (ap Some c.special_register.ensures, refl)));
     }
 
 pub returns-in-None-clause-told : goal.returns-in-None-clause-told

@@ -1,34 +1,33 @@
 -- `operand_code::operands::operand_from` meets its contract.
 -- Assumes nothing.
-use mathlib.Core.Path.{refl, ◌∙◌, ap}
+use mathlib.Core.Path.{ap}
 use native.Mathlib.Omega.{arith}
 use borrow.Author.Tests.{ne_eqb}
 use lib.Dec.{eqb}
 use Rattle.names.specs.Kinds
 use Rattle.names.specs.Registers.{special_of}
 use Rattle.names.specs.Reserved.{is_special}
-use Rattle.records.specs.Counters.{over_is}
 use Rattle.operand.specs.Operand.{operand_from, name_or_expression}
-use Rattle.expressions.specs.Paths.{told_one, raised, raised_as, hit, miss, seen, other}
-use Rattle.operand_code.proofs.Holdings.{nothing_stored}
-use Rattle.operand_code.proofs.memory.Inners.{node_step}
+use Rattle.expressions.specs.Paths.{hit, miss, seen, other}
+use Rattle.operand_code.proofs.indexes.Returns.{over_room}
 use Rattle.operand_code.proofs.operands.Returns.{unnamed, unnamed_register}
+use Rattle.operand_code.proofs.operands.Behind.{fails_stored, blank, first_over}
 use Rattle.operand_code.proofs.operands.operand_from.Goals as goal
 
 pub parse_immediate-requires : goal.parse_immediate-requires
 parse_immediate-requires c =
-    (node_step c.requires.0 c.requires.2 (over_is (omega (arith, c.requires.0)) c.step_over.ensures), c.step_over.ensures.nodes ∙ c.requires.1)
+    first_over c.requires.0 c.requires.1 c.step_over.ensures c.requires.2
 
 pub parse_parenthesised_operand-requires : goal.parse_parenthesised_operand-requires
 parse_parenthesised_operand-requires c =
-    (node_step c.requires.0 c.requires.2 (over_is (omega (arith, c.requires.0)) c.step_over-in-7.ensures), c.step_over-in-7.ensures.nodes ∙ c.requires.1)
+    first_over c.requires.0 c.requires.1 c.step_over-in-7.ensures c.requires.2
 
 pub returns-in-6-clause-told : goal.returns-in-6-clause-told
 unfolding operand_from
 returns-in-6-clause-told c =
     record {
       told = seen (omega arith) c.requires.2 (ap (λ z. eqb z Kinds.comma) c.in-6.is)
-          (raised (raised_as (rw (c.diagnostic.ensures, c.span_of-span.ensures)) (told_one (omega (arith, c.requires.0)) c.raise.ensures.told c.raise.ensures.counted)) (nothing_stored _ refl refl));
+          (fails_stored c.requires.0.room (rw (c.plain.ensures, c.from-span.ensures, blank c.default.ensures)) c.raise.ensures.told c.raise.ensures.counted _);
     }
 
 pub returns-in-5-clause-told : goal.returns-in-5-clause-told
@@ -36,7 +35,7 @@ unfolding operand_from
 returns-in-5-clause-told c =
     record {
       told = other (omega arith) c.requires.2 (ap (λ z. eqb z Kinds.comma) c.in-5.is)
-          (hit c.requires.2 (ap (λ z. eqb z Kinds.hash) c.in-5.is) (over_is (omega (arith, c.requires.0)) c.step_over.ensures) c.parse_immediate.ensures.told.told);
+          (hit c.requires.2 (ap (λ z. eqb z Kinds.hash) c.in-5.is) (over_room c.requires.0.room c.step_over.ensures) c.parse_immediate.ensures.told.told);
     }
 
 pub returns-in-7-clause-told : goal.returns-in-7-clause-told
@@ -45,7 +44,7 @@ returns-in-7-clause-told c =
     record {
       told = other (omega arith) c.requires.2 (ap (λ z. eqb z Kinds.comma) c.in-7.is)
           (miss c.requires.2 (ap (λ z. eqb z Kinds.hash) c.in-7.is)
-          (hit c.requires.2 (ap (λ z. eqb z Kinds.left_paren) c.in-7.is) (over_is (omega (arith, c.requires.0)) c.step_over-in-7.ensures) c.parse_parenthesised_operand.ensures.told.told));
+          (hit c.requires.2 (ap (λ z. eqb z Kinds.left_paren) c.in-7.is) (over_room c.requires.0.room c.step_over-in-7.ensures) c.parse_parenthesised_operand.ensures.told.told));
     }
 
 pub returns-in-15-clause-told : goal.returns-in-15-clause-told
@@ -61,12 +60,11 @@ returns-in-0-clause-told c =
 pub returns-in_default-clause-told : goal.returns-in_default-clause-told
 unfolding operand_from name_or_expression
 returns-in_default-clause-told c =
-    let w = c.in_default.in_default-own.rest in
     record {
-      told = other (omega arith) c.requires.2 (ne_eqb _ Kinds.comma w.0.0.0.0.1)
-          (miss c.requires.2 (ne_eqb _ Kinds.hash w.0.0.0.1)
-          (miss c.requires.2 (ne_eqb _ Kinds.left_paren w.0.0.1)
-          (other (omega arith) c.requires.2 (ne_eqb _ Kinds.minus w.0.1)
-          (miss c.requires.2 (unnamed_register c.args.token _ w.1)
-          (miss c.requires.2 (unnamed (λ x. is_special (special_of x)) c.args.token _ w.1) c.parse_expression_operand.ensures.told.told)))));
+      told = other (omega arith) c.requires.2 (ne_eqb _ Kinds.comma (search))
+          (miss c.requires.2 (ne_eqb _ Kinds.hash (search))
+          (miss c.requires.2 (ne_eqb _ Kinds.left_paren (search))
+          (other (omega arith) c.requires.2 (ne_eqb _ Kinds.minus (search))
+          (miss c.requires.2 (unnamed_register c.args.token _ (search))
+          (miss c.requires.2 (unnamed (λ x. is_special (special_of x)) c.args.token _ (search)) c.parse_expression_operand.ensures.told.told)))));
     }

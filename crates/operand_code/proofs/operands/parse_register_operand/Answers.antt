@@ -1,6 +1,7 @@
 -- `operand_code::operands::parse_register_operand` meets its contract.
 -- Assumes nothing.
 use mathlib.Core.Path.{refl, sym, ◌∙◌, ap}
+use mathlib.Core.Logic.{inl, inr}
 use native.Mathlib.Omega.{arith}
 use borrow.Author.Tests.{ne_eqb}
 use Rattle.names.specs.Kinds
@@ -8,27 +9,21 @@ use Rattle.operand.specs.Operand.{parse_register_operand}
 use Rattle.expressions.specs.Paths.{seen, other, beyond}
 use Rattle.operand_code.proofs.operands.Returns.{direct_told}
 use Rattle.operand_code.proofs.operands.parse_register_operand.Goals as goal
+use Rattle.operand_code.proofs.operands.parse_register_operand.Goals.{in_default-via-in-Some+else-t-eq-SLASH, in_default-via-in_default}
 use Rattle.std.specs.Prelude.{Some}
+
+pub returns-in-Some-clause-told : goal.returns-in-Some-clause-told
+unfolding parse_register_operand
+returns-in-Some-clause-told c =
+    record { told = seen (omega arith) (sym c.peek.ensures ∙ c.in-Some.is) (elim c.if-t-eq-SLASH.either [ inl e ↦ rw e | inr e ↦ rw e.1 ]) c.parse_register_list.ensures.told.told }
 
 pub returns-in_default-clause-told : goal.returns-in_default-clause-told
 unfolding parse_register_operand
 returns-in_default-clause-told c =
-    record { told = beyond (omega arith) (sym c.peek.ensures ∙ c.in_default.is) (direct_told _ _ c.requires.none (ap Some c.register_direct.ensures, refl)) }
-
-pub returns-in-15-clause-told : goal.returns-in-15-clause-told
-unfolding parse_register_operand
-returns-in-15-clause-told c =
-    record { told = seen (omega arith) (sym c.peek.ensures ∙ c.in-Some.is) (rw c.in-15.is) c.parse_register_list.ensures.told.told }
-
-pub returns-in-17-clause-told : goal.returns-in-17-clause-told
-unfolding parse_register_operand
-returns-in-17-clause-told c =
-    record { told = seen (omega arith) (sym c.peek.ensures ∙ c.in-Some.is) (rw c.in-17.is) c.parse_register_list-in-17.ensures.told.told }
-
-pub returns-in_default-kind-clause-told : goal.returns-in_default-kind-clause-told
-unfolding parse_register_operand
-returns-in_default-kind-clause-told c =
-    let w = c.in_default-kind.in_default-kind-own.rest in
+    let d = direct_told _ _ c.requires.none (ap Some c.register_direct.ensures, refl) in
     record {
-      told = other (omega arith) (sym c.peek.ensures ∙ c.in-Some.is) (simp (ne_eqb _ Kinds.minus w.0.1, ne_eqb _ Kinds.slash w.1)) (direct_told _ _ c.requires.none (ap Some c.register_direct-in_default-kind.ensures, refl));
+      told = elim c.in_default.branch [
+        | in_default-via-in-Some+else-t-eq-SLASH w ↦ other (omega arith) (sym c.peek.ensures ∙ w.in-Some.is) (simp (ne_eqb w.in-Some.t.kind Kinds.minus w.if-t-eq-SLASH.false.0, ne_eqb w.in-Some.t.kind Kinds.slash w.if-t-eq-SLASH.false.1)) d
+        | in_default-via-in_default w ↦ beyond (omega arith) (sym c.peek.ensures ∙ w.in_default.is) d
+      ];
     }

@@ -1,0 +1,64 @@
+-- Behind a token that the code has stepped over, and behind a diagnostic that it has told.
+-- Assumes nothing.
+use mathlib.Core.Path.{◌≡◌, refl, ◌∙◌, ap₂}
+use mathlib.Core.List.{List}
+use Prim.Native.Nat.{ℕ, ◌-◌, ◌*◌}
+use native.Mathlib.Omega.{arith}
+use Rattle.names.specs.Tokens.{token_at}
+use Rattle.names.specs.declared.tokens.Token.{Token}
+use Rattle.records.specs.declared.counters.Counters.{Counters}
+use Rattle.records.specs.Counters.{Over, OneMore}
+use Rattle.records.specs.Diagnostics.{diagnostic_record}
+use Rattle.records.specs.Rooms.{Room, NodeRoom}
+use Rattle.records.specs.Spans.{span, no_span}
+use Rattle.records.specs.Stores.{written}
+use Rattle.records.specs.declared.diagnostics.Diagnostic.{Diagnostic}
+use Rattle.records.specs.declared.spans.Span.{Span}
+use Rattle.expressions.specs.Paths.{told_one, raised, raised_as, raised_same}
+use Rattle.expressions.specs.Reader.{Reader, answer, raise}
+use Rattle.expressions.specs.Told.{Raised, Told}
+use Rattle.expressions.specs.Trees.{Expr, size}
+use Rattle.operand.specs.Forms.{record_of}
+use Rattle.operand.specs.Operands.{Displacement, displaced, Operand}
+use Rattle.operand.specs.declared.forms.OperandRecord.{OperandRecord}
+use Rattle.operand.specs.declared.forms.Sized.{Sized}
+use Rattle.operand_code.specs.Operands.{Kept, Stored, BaseTold}
+use Rattle.operand_code.proofs.Holdings.{kept_none, nothing_stored, tree_is_lem, no_size}
+use Rattle.operand_code.proofs.bases.Tails.{kept_from}
+use Rattle.operand_code.proofs.indexes.Returns.{over_room}
+use Rattle.operand_code.proofs.malformed.Failures.{failed}
+use Rattle.operand_code.proofs.memory.Inners.{node_step}
+use Rattle.std.specs.Prelude.{Option, Some, None, option_map}
+
+-- ---- a token
+
+module _ {T : List ℕ} {c c₁ : Counters} {k : Token} where
+  -- there is room for nodes as before
+  pub node_over : {N : List ℕ} {n : ℕ} → NodeRoom T N c n 0 1 → Over c k c₁ → token_at T c.at ≡ Some k → NodeRoom T N c₁ n 0 1
+  node_over h o t = node_step h t (over_room h.room o)
+
+  -- and no node yet
+  pub first_over : {N : List ℕ} → NodeRoom T N c 0 0 1 → c.nodes ≡ 0 → Over c k c₁ → token_at T c.at ≡ Some k → (NodeRoom T N c₁ 0 0 1) × (c₁.nodes ≡ 0)
+  first_over h z o t = (node_over h o t, o.nodes ∙ z)
+
+  -- the tree of the last records is the displacement of a base
+  pub base_over : {p : Displacement → Reader (Option Operand)} {L D D' : List ℕ} (e : Expr) {d : Option Sized} {v : Option OperandRecord} {r : Counters} → c.nodes ≡ size e → d ≡ Some (record { node = c.nodes - 1; size = 0 }) → Over c k c₁
+      → BaseTold p L T D D' c₁ d v r → Told (option_map record_of) (Kept c.nodes (displaced e 0)) (p (displaced e 0)) L T D D' c₁ v r
+  base_over e h w o t = kept_from (displaced e 0) o.nodes (t.told (displaced e 0) (tree_is_lem e h w) (no_size e))
+
+-- ---- a diagnostic
+
+-- the code's value where there is no span
+pub blank : {s : Span} → (s.start ≡ 0) × (s.end ≡ 0) → s ≡ no_span
+blank h = ap₂ span h.0 h.1
+
+-- the diagnostic y, and no operand
+module _ {T D D' : List ℕ} {c r : Counters} {x y : Diagnostic} {n : ℕ} (h : Room T c n 1) (e : x ≡ y) (w : D' ≡ written D (10 * c.diagnostics) (diagnostic_record x)) (one : OneMore c r) where
+  told_as : Raised D D' c y r
+  told_as = raised_as e (told_one (omega (arith, h)) w one)
+
+  pub fails_kept : {L : List ℕ} (z : Displacement) → Told (option_map record_of) (Kept c.nodes z) (raise y (answer None)) L T D D' c None r
+  fails_kept z = failed told_as refl refl (kept_none z (raised_same told_as))
+
+  pub fails_stored : {L : List ℕ} (N : List ℕ) → Told (option_map record_of) (Stored N) (raise y (answer None)) L T D D' c None r
+  fails_stored N = raised told_as (nothing_stored N refl refl)
