@@ -2,11 +2,22 @@
 -- Assumes nothing.
 use mathlib.Core.Path.{refl, sym, ◌∙◌, ap}
 use native.Mathlib.Omega.{arith}
-use Rattle.names.specs.Tokens.{token_told}
-use Rattle.operand_code.specs.Reading.{OperandAsks, read}
+use Rattle.std.specs.Prelude.{◌≡◌}
+use Rattle.names.specs.Tokens.{token_at, token_told}
+use Rattle.operand_code.specs.Reading.{OperandAsks, first, read}
 use Rattle.operand_code.proofs.reading.Cleared.{lent_back, nothing_from, ended_kept}
 use Rattle.operand_code.proofs.reading.Marked.{as_given}
 use Rattle.operand_code.proofs.reading.operand_at.Goals as goal
+
+pub read-requires : goal.read-requires
+read-requires c =
+    let at : c.first-counters.result.at ≡ c.args.start = ap (λ z. z.at) c.first-counters.ensures in
+    record {
+      asks = omega (arith, c.if-count-gt-MOST_TOKENS.false, c.if-count-start.false, c.if-nodes-count.false, c.if-limit-eq0.false, at);
+      stands = ap (token_at c.args.tokens.now) at ∙ sym (token_told _ _ _ c.token_at.ensures) ∙ c.in-Some.is;
+      opens = refl;
+      fresh = c.first-counters.ensures ∙ ap first (sym at);
+    }
 
 pub returns-in_default : goal.returns-in_default
 returns-in_default c =
