@@ -1,5 +1,5 @@
 // Quoted literals.
-ghost use Rattle.std.specs.Prelude.{◌≡◌, [], length, MatchOption};
+ghost use Rattle.std.specs.Prelude.{◌≡◌, [], MatchOption};
 ghost use Rattle.std.specs.Iterator.{YieldsFirst, item_count};
 ghost use Rattle.names.specs.Literals.{quoted, FirstInner, literal_bytes, Stored};
 
