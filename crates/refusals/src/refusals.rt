@@ -1,7 +1,8 @@
 // The refusals of a call, but for those of its tokens: what is lent and given is looked at in the table's order, and nothing is written.
 ghost use Rattle.std.specs.Prelude.{◌≡◌, ◌+◌, ◌/◌, ltb};
+ghost use Rattle.names.specs.Choice.{either};
 ghost use Rattle.operand.specs.Layouts.{diagnostic_size, free_records};
-ghost use Rattle.operand.specs.Entry.{foreign, line_and_list, start_stores_and_limit, first_of};
+ghost use Rattle.operand.specs.Entry.{highest_limit, foreign, line_and_list, start_stores_and_limit, first_of};
 ghost use Rattle.operand.specs.RefusalNumbers;
 
 use operand::{Layout, Refusal};
@@ -12,13 +13,21 @@ const LOWEST_LIMIT: usize = 1;
 // The highest one.
 const HIGHEST_LIMIT: usize = 128;
 
+// Whether a byte is not printable.
+#[tactic(auto, using(crate::proofs::refusals::Checks::within, crate::proofs::refusals::Checks::below, crate::proofs::refusals::Checks::above))]
+fn is_foreign(byte: u8) -> bool
+    ensures { result ≡ either (ltb byte 32) (ltb 126 byte) }
+{
+    !matches!(byte, b' '..=b'~')
+}
+
 // Whether a byte of the line is not printable. All are looked at, and nothing branches, so that several are looked at in one step.
 fn foreign(line: &[u8]) -> bool
     ensures { result ≡ foreign line.now }
 {
     let mut found = false;
     for byte in line {
-        found |= !matches!(byte, b' '..=b'~');
+        found |= is_foreign(*byte);
     }
     found
 }
@@ -49,6 +58,15 @@ fn crowded(layout: Layout, bytes: usize, used: usize) -> bool
     records < free || records - free < used
 }
 
+// Whether a nesting limit is outside 1 to 128. A function, as `is_foreign` is: where the test stands in a caller, its proof names the range's ends,
+// and no edit of them says anything.
+#[tactic(auto, using(crate::proofs::refusals::Checks::within, crate::proofs::refusals::Checks::below, crate::proofs::refusals::Checks::above), unfolding(operand::specs::Entry::highest_limit))]
+fn out_of_range(limit: usize) -> bool
+    ensures { result ≡ either (ltb limit 1) (ltb highest_limit limit) }
+{
+    !matches!(limit, LOWEST_LIMIT..=HIGHEST_LIMIT)
+}
+
 // The refusal of the start, a store or the nesting limit, of number 5 to 7 or 18, if there is one: by the tokens' number and the stores' bytes.
 pub fn refuse_start_stores_and_limit(
     layout: Layout,
@@ -70,7 +88,7 @@ pub fn refuse_start_stores_and_limit(
     if crowded(layout, diagnostics, used) {
         return Err(Refusal::ShortDiagnostics);
     }
-    if !matches!(limit, LOWEST_LIMIT..=HIGHEST_LIMIT) {
+    if out_of_range(limit) {
         return Err(Refusal::BadLimit);
     }
     Ok(())
