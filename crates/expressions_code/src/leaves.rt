@@ -1,5 +1,5 @@
 // Terms of one token, and the nodes of terms.
-ghost use Rattle.std.specs.Prelude.{◌≡◌, ◌+◌, ◌*◌, ◌<◌};
+ghost use Rattle.std.specs.Prelude.{◌≡◌, ◌<◌};
 ghost use Rattle.names.specs.Places.{text_of};
 ghost use Rattle.names.specs.Registers.{reserved};
 ghost use Rattle.expressions.specs.Expressions.{number_term, named, leaf_term};
@@ -13,13 +13,6 @@ use crate::terms::TermError;
 use expressions::Source;
 use names::{NumberError, Token, kinds};
 use records::{ABSENT, Counters, DiagnosticKind, NodeKind, Progress, Span, plain, put_node};
-
-// A name's or a literal's own span, as the last four words of its record hold it.
-pub(crate) fn own(span: Span) -> u64
-    ensures { (result ≡ span.start + 65536 * span.end) × (span.start < 65536) × (span.end < 65536) }
-{
-    u64::from(span.start) + 65536 * u64::from(span.end)
-}
 
 // A node without children, and the term that it is. No struct holds what it is given, as none holds what `put_operator` is: a node is
 // written in the call that makes it, so that a struct would be taken apart at once.
@@ -103,7 +96,7 @@ pub(crate) fn name_leaf(
         NodeKind::Symbol,
         0,
         span,
-        own(span),
+        span.packed(),
     )
 }
 
@@ -137,7 +130,7 @@ pub(crate) fn parse_leaf(
             NodeKind::Literal,
             token.detail,
             span,
-            own(span),
+            span.packed(),
         ),
         kinds::IDENTIFIER => name_leaf(source, nodes, out, token),
         kinds::LOCAL_IDENTIFIER => read_leaf(
@@ -146,7 +139,7 @@ pub(crate) fn parse_leaf(
             NodeKind::Symbol,
             0,
             span,
-            own(span),
+            span.packed(),
         ),
         kinds::ERROR => Err(TermError::Reported),
         _ => {

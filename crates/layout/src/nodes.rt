@@ -9,10 +9,10 @@ ghost use Rattle.layout.specs.Nodes.{head_from, last_from, nodes_encoded};
 use crate::numbers::low;
 use crate::store::clear;
 use operand::Layout;
-use records::write;
+use records::{NodeKind, write};
 
-// A number's kind.
-const NUMBER: u16 = 1;
+// The kind of a node that has a value.
+const NUMBER: u16 = NodeKind::Number as u16;
 
 // Four numbers of two bytes, low byte first.
 #[tactic(auto, unfolding(records::specs::Nodes::low_first))]

@@ -8,12 +8,9 @@ ghost use Rattle.layout.specs.Record.{SizedAs, BaseAs, IndexAs, FilledFrom};
 
 use crate::numbers::{low, span_bytes};
 use operand::{BaseRegister, IndexRegister, Layout, OperandRecord, Register, Sized};
-use records::{Span, write};
+use records::{ABSENT, Span, write};
 
-// No node: a number, not an `Option`, as the record's bytes have it (docs/FORMAT.md).
-const ABSENT: u16 = 65535;
-
-// No register, likewise.
+// No register: a number, not an `Option`, as the record's bytes have it (docs/FORMAT.md).
 const NONE: u8 = 255;
 
 // The numbers that stand for a base without a span (docs/FORMAT.md): the first of the eight suppressed address registers, the program counter,
@@ -40,7 +37,7 @@ fn spanless(n: u8) -> Register
 {
     Register {
         index: n,
-        span: Span { start: 0, end: 0 },
+        span: Span::default(),
     }
 }
 
@@ -66,7 +63,7 @@ fn index_part(index: Option<IndexRegister>) -> IndexRegister
         size: 0,
         scale: 0,
         suppressed: false,
-        span: Span { start: 0, end: 0 },
+        span: Span::default(),
     })
 }
 

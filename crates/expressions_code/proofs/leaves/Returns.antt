@@ -1,7 +1,7 @@
 -- What the terms of one token tell.
 -- Assumes nothing.
 use Rattle.std.specs.Prelude.{Option, Some, None, Result, Ok, Err}
-use mathlib.Core.Path.{◌≡◌, refl, sym, ◌∙◌, ap, ap₂, subst}
+use mathlib.Core.Path.{◌≡◌, refl, sym, ◌∙◌, ap, subst}
 use mathlib.Core.Bool.{Bool, true, false}
 use mathlib.Core.List.{List, append-nil}
 use Prim.Native.Nat.{ℕ, ◌+◌, ◌*◌, ◌/◌, ◌%◌, ◌<◌}
@@ -16,7 +16,7 @@ use Rattle.names.specs.Places.{text_of}
 use Rattle.names.specs.Numbers.{number_of}
 use Rattle.names.specs.declared.tokens.Token.{Token}
 use Rattle.names.specs.declared.numbers.NumberError.{NumberError}
-use Rattle.records.specs.Spans.{span, span_of, span_or, no_span}
+use Rattle.records.specs.Spans.{span_of, span_or}
 use Rattle.expressions.specs.Trees.{Expr, number, character_literal, symbol, current_address, span_e, size}
 use Rattle.records.specs.declared.spans.Span.{Span}
 use Rattle.records.specs.declared.diagnostics.Diagnostic.{Diagnostic}
@@ -32,10 +32,6 @@ use Rattle.records.specs.Nodes.{node_record, words, own}
 use Rattle.expressions.specs.Records.{nodes}
 use Rattle.records.specs.Counters.{stepped, Over, counters_are, over_is}
 use Rattle.expressions_code.specs.Terms.{Parsed, parsed_of, size_t, nodes_t, Held, Said, LeafTold, DeepTold, ReaderTold, TokenTold, DepthTold, Spared}
-
--- the span that the code has where a record has none
-pub blank : {s : Span} → (s.start ≡ 0) × (s.end ≡ 0) → s ≡ no_span
-blank h = ap₂ span h.0 h.1
 
 -- ---- a term without nodes
 

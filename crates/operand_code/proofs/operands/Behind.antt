@@ -1,6 +1,6 @@
 -- Behind a token that the code has stepped over, and behind a diagnostic that it has told.
 -- Assumes nothing.
-use mathlib.Core.Path.{◌≡◌, refl, ◌∙◌, ap₂}
+use mathlib.Core.Path.{◌≡◌, refl, ◌∙◌}
 use mathlib.Core.List.{List}
 use Prim.Native.Nat.{ℕ, ◌-◌, ◌*◌}
 use native.Mathlib.Omega.{arith}
@@ -10,10 +10,8 @@ use Rattle.records.specs.declared.counters.Counters.{Counters}
 use Rattle.records.specs.Counters.{Over, OneMore}
 use Rattle.records.specs.Diagnostics.{diagnostic_record}
 use Rattle.records.specs.Rooms.{Room, NodeRoom}
-use Rattle.records.specs.Spans.{span, no_span}
 use Rattle.records.specs.Stores.{written}
 use Rattle.records.specs.declared.diagnostics.Diagnostic.{Diagnostic}
-use Rattle.records.specs.declared.spans.Span.{Span}
 use Rattle.expressions.specs.Paths.{told_one, raised, raised_as, raised_same}
 use Rattle.expressions.specs.Reader.{Reader, answer, raise}
 use Rattle.expressions.specs.Told.{Raised, Told}
@@ -47,10 +45,6 @@ module _ {T : List ℕ} {c c₁ : Counters} {k : Token} where
   base_over e h w o t = kept_from (displaced e 0) o.nodes (t.told (displaced e 0) (tree_is_lem e h w) (no_size e))
 
 -- ---- a diagnostic
-
--- the code's value where there is no span
-pub blank : {s : Span} → (s.start ≡ 0) × (s.end ≡ 0) → s ≡ no_span
-blank h = ap₂ span h.0 h.1
 
 -- the diagnostic y, and no operand
 module _ {T D D' : List ℕ} {c r : Counters} {x y : Diagnostic} {n : ℕ} (h : Room T c n 1) (e : x ≡ y) (w : D' ≡ written D (10 * c.diagnostics) (diagnostic_record x)) (one : OneMore c r) where

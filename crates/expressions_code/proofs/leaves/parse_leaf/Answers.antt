@@ -13,7 +13,7 @@ returns-in-2-clause-told c =
 
 pub returns-in-3-clause-told : goal.returns-in-3-clause-told
 returns-in-3-clause-told c =
-    string_told c.requires.1 c.step_over.ensures c.from-span.ensures c.own.ensures c.in-3.is c.read_leaf-in-3.ensures
+    string_told c.requires.1 c.step_over.ensures c.from-span.ensures c.packed.ensures c.in-3.is c.read_leaf-in-3.ensures
 
 pub returns-in-0-clause-told : goal.returns-in-0-clause-told
 returns-in-0-clause-told c =
@@ -21,7 +21,7 @@ returns-in-0-clause-told c =
 
 pub returns-in-1-clause-told : goal.returns-in-1-clause-told
 returns-in-1-clause-told c =
-    local_told c.requires.1 c.step_over.ensures c.from-span.ensures c.own-in-1.ensures c.in-1.is c.read_leaf-in-1.ensures
+    local_told c.requires.1 c.step_over.ensures c.from-span.ensures c.packed-in-1.ensures c.in-1.is c.read_leaf-in-1.ensures
 
 pub returns-in-29-clause-told : goal.returns-in-29-clause-told
 returns-in-29-clause-told c =

@@ -1,6 +1,7 @@
 -- `expressions_code::reports::too_deep` meets its contract.
 -- Assumes nothing.
-use Rattle.expressions_code.proofs.leaves.Returns.{blank, depth_told}
+use Rattle.records.specs.Spans.{blank}
+use Rattle.expressions_code.proofs.leaves.Returns.{depth_told}
 use Rattle.expressions_code.proofs.reports.too_deep.Goals as goal
 
 pub returns-clause-told : goal.returns-clause-told

@@ -6,7 +6,7 @@ use native.Mathlib.Omega.{arith}
 use mathlib.Core.Path.{refl, sym, ◌∙◌}
 use Rattle.expressions.specs.Paths.{told_one}
 use Rattle.names.specs.Places.{live}
-use Rattle.expressions_code.proofs.leaves.Returns.{blank}
+use Rattle.records.specs.Spans.{blank}
 use Rattle.expressions_code.proofs.terms.Returns.{err_given, absent_quiet, read_on, read_some, read_on_some, prefix_full, prefix_end, prefix_unary, prefix_plus, prefix_group, prefix_leaf, unary_reads, unary_fails, plus_reads, plus_fails, expression_reads, expression_fails}
 use Rattle.expressions_code.proofs.terms.Closings.{group_fails, group_tells}
 use Rattle.expressions_code.proofs.terms.Climbs.{climb_ends, climb_lows, operated_fails, operated_reads}

@@ -4,7 +4,8 @@ use mathlib.Core.Path.{refl, sym, ◌∙◌}
 use native.Mathlib.Omega.{arith}
 use Rattle.operand.specs.Operand.{no_expression}
 use Rattle.expressions.specs.Paths.{seen, beyond}
-use Rattle.operand_code.proofs.operands.Behind.{fails_kept, blank}
+use Rattle.records.specs.Spans.{blank}
+use Rattle.operand_code.proofs.operands.Behind.{fails_kept}
 use Rattle.operand_code.proofs.absolutes.no_expression.Goals as goal
 
 pub returns-in-Some-clause-told : goal.returns-in-Some-clause-told

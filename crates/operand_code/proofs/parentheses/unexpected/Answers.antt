@@ -7,7 +7,8 @@ use Rattle.names.specs.Kinds
 use Rattle.operand.specs.Operand.{unexpected}
 use Rattle.expressions.specs.Paths.{seen, other, beyond}
 use Rattle.operand_code.proofs.Holdings.{nothing_told}
-use Rattle.operand_code.proofs.operands.Behind.{fails_kept, blank}
+use Rattle.records.specs.Spans.{blank}
+use Rattle.operand_code.proofs.operands.Behind.{fails_kept}
 use Rattle.operand_code.proofs.parentheses.unexpected.Goals as goal
 
 pub returns-in-None-clause-told : goal.returns-in-None-clause-told
