@@ -14,13 +14,14 @@ use Rattle.expressions.proofs.Costs.{all_clean, suffix_cost}
 use Rattle.expressions.specs.Expressions.{Suffix, suffixed, bare, take_size_suffix}
 use Rattle.expressions.specs.Laws as laws
 use Rattle.expressions.specs.Laws.{Law, law_run}
-use Rattle.expressions.specs.Reader.{Reader, run}
-use Rattle.records.specs.Counters.{stepped}
+use Rattle.expressions.specs.Reader.{Reader, of_kind, run}
+use Rattle.expressions.specs.Paths.{kind_token}
+use Rattle.records.specs.Counters.{stepped, Over, over_is}
 use Rattle.operand.specs.Operand.{parse_index_register, parse_base_and_index_registers}
 use Rattle.operand.proofs.Costs.{Left}
 use Rattle.operand.proofs.Costs as cost
 use Rattle.operand.specs.Forms.{suffix_read}
-use Rattle.records.specs.Rooms.{Room}
+use Rattle.records.specs.Rooms.{Room, NodeRoom}
 use Rattle.expressions.specs.Told.{Told}
 use Rattle.operand.specs.declared.forms.IndexRegister.{IndexRegister}
 use Rattle.operand.specs.declared.forms.Registers.{Registers}
@@ -58,6 +59,25 @@ suffix_not bare h = refl
 -- behind a token
 pub room_step : {T : List ℕ} {c c₁ : Counters} {k : Token} {n : ℕ} → Room T c n 1 → token_at T c.at ≡ Some k → c₁ ≡ stepped c k → Room T c₁ n 1
 room_step {T} {c} {k = k} h t e = let l = live T c.at k t in rw e (omega (arith, h, l))
+
+-- behind a token that the code steps over
+module _ {T : List ℕ} {c c₁ : Counters} {k : Token} {n : ℕ} (h : Room T c n 1) (o : Over c k c₁) where
+  pub over_room : c₁ ≡ stepped c k
+  over_room = over_is (omega (arith, h)) o
+
+  pub room_over : token_at T c.at ≡ Some k → Room T c₁ n 1
+  room_over t = room_step h t over_room
+
+  pub room_over_kind : (kind : ℕ) → of_kind kind (token_at T c.at) ≡ Some k → Room T c₁ n 1
+  room_over_kind kind t = room_over (kind_token kind _ t).0
+
+-- with room for nodes
+module _ {T N : List ℕ} {c c₁ : Counters} {k : Token} {n : ℕ} (h : NodeRoom T N c n 0 1) (o : Over c k c₁) where
+  pub node_over : token_at T c.at ≡ Some k → NodeRoom T N c₁ n 0 1
+  node_over t = let l = live T c.at k t in rw (over_room h.room o) (omega (arith, h, l))
+
+  pub node_over_kind : (kind : ℕ) → of_kind kind (token_at T c.at) ≡ Some k → NodeRoom T N c₁ n 0 1
+  node_over_kind kind t = node_over (kind_token kind _ t).0
 
 -- behind a reader that has raised no more than it has consumed
 room_behind : {A B : Type 0} {f : A → B} {Q : A → Counters → Type 0} {p : Reader A} {L T D D₁ : List ℕ} {c : Counters} {v : B} {c₁ : Counters} {n : ℕ}

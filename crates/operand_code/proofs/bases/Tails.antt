@@ -12,10 +12,9 @@ use Rattle.names.specs.declared.tokens.Token.{Token}
 use Rattle.records.specs.Problems
 use Rattle.records.specs.Shapes
 use Rattle.records.specs.Diagnostics.{malformed_operand, malformed_open}
-use Rattle.records.specs.Rooms.{Room}
 use Rattle.records.specs.Spans.{span, span_of, no_span}
 use Rattle.expressions.specs.Trees.{Expr}
-use Rattle.records.specs.Counters.{stepped, Over, over_is}
+use Rattle.records.specs.Counters.{stepped}
 use Rattle.expressions.proofs.Costs.{true_false}
 use Rattle.expressions.specs.Reader.{of_kind, Reader, answer}
 use Rattle.records.specs.declared.spans.Span.{Span}
@@ -38,7 +37,6 @@ use Rattle.operand.specs.declared.forms.Registers.{Registers}
 use Rattle.operand.specs.declared.forms.OperandRecord.{OperandRecord}
 use Rattle.expressions.specs.Paths.{renamed, reheld, raised_as, answered, hit_kind, miss_kind, raised_same}
 use Rattle.operand_code.proofs.malformed.Failures.{failed_malformed, failed_unclosed, failed_register}
-use Rattle.operand_code.proofs.Rooms.{room_step}
 use Rattle.std.specs.Prelude.{Option, Some, None, is_some, option_map}
 
 -- ---- the shape
@@ -148,11 +146,6 @@ pub register_told : {L T D D' : List ℕ} {c m : Counters} {n sh shape : ℕ} (s
     → Told (option_map record_of) (Kept n y) (not_an_address_register s shape k) L T D D' c None m
 unfolding HeldBy
 register_told {c = c} s k y q e h = failed_register s _ k (raised_as (ap (λ w. malformed_operand w Problems.not_an_address_register (span s.start c.end) (span_of k)) e) h) refl refl (raised_same h ∙ q, tt)
-
--- ---- room behind a token
-
-pub room_over : {T : List ℕ} {c c₁ : Counters} {k : Token} {n : ℕ} → Room T c n 1 → token_at T c.at ≡ Some k → Over c k c₁ → Room T c₁ n 1
-room_over h t e = room_step h t (over_is (omega (arith, h)) e)
 
 -- a register as the code has it
 pub register_at_base : {n : ℕ} {s z : Span} {q : Register} → s ≡ z → q ≡ record { index = n; span = z } → ◌≡◌ {A = Register} (record { index = n; span = s }) q

@@ -12,8 +12,7 @@ use Rattle.names.specs.Kinds
 use Rattle.names.specs.Places.{text_of}
 use Rattle.names.specs.Tokens.{token_at}
 use Rattle.records.specs.DiagnosticKinds
-use Rattle.records.specs.Counters.{stepped, Over, over_is}
-use Rattle.records.specs.Rooms.{Room}
+use Rattle.records.specs.Counters.{stepped}
 use Rattle.names.specs.Cases.{size_number}
 use Rattle.names.specs.Sizes.{run_of, size_of}
 use Rattle.names.specs.Numbers.{number_of}
@@ -36,21 +35,10 @@ use Rattle.names.specs.Choice.{either}
 use Rattle.expressions.specs.Told.{Raised, Told, Same}
 use Rattle.operand_code.specs.Lookahead.{sized_index}
 use Rattle.expressions.specs.Paths.{answered, raised, raised_as, raised_same, chosen, unchosen, hit_same, kind_token, bound_as, same}
-use Rattle.operand_code.proofs.Rooms.{room_step}
 use Rattle.std.specs.Prelude.{None, Ok, Err, Option, Some}
 use Rattle.operand.specs.declared.forms.Suffixed.{Suffixed}
 
 -- ---- a token is stepped over
-
-module _ {T : List ℕ} {c c₁ : Counters} {k : Token} {n : ℕ} (h : Room T c n 1) (o : Over c k c₁) where
-  pub over_room : c₁ ≡ stepped c k
-  over_room = over_is (omega (arith, h)) o
-
-  pub room_over : token_at T c.at ≡ Some k → Room T c₁ n 1
-  room_over t = room_step h t over_room
-
-  pub room_over_kind : (kind : ℕ) → of_kind kind (token_at T c.at) ≡ Some k → Room T c₁ n 1
-  room_over_kind kind t = room_over (kind_token kind _ t).0
 
 -- one of a kind, and no node is written
 pub hit_kind_same : {A E : Type 0} {f : A → E} {L T D D' : List ℕ} {c : Counters} {v : E} {r : Counters} (kind : ℕ) {y : Token → List ℕ → Reader A} {n : Unit {0} → Reader A} {k : Token} {c₁ : Counters}

@@ -7,7 +7,7 @@ use Prim.Native.Nat.{ℕ, ◌+◌, ◌-◌, ◌*◌}
 use native.Mathlib.Omega.{arith}
 use lib.ListN.{length, take}
 use Rattle.names.specs.Tokens.{token_at}
-use Rattle.names.specs.Places.{text_of, place, live}
+use Rattle.names.specs.Places.{text_of, place}
 use Rattle.names.specs.declared.tokens.Token.{Token}
 use Rattle.records.specs.Problems
 use Rattle.records.specs.Shapes
@@ -19,7 +19,7 @@ use Rattle.expressions.proofs.Costs.{all_clean, true_false}
 use Rattle.expressions.specs.Reader.{is, of_kind, Reader, answer, here, bump, peek, run, ◌>>=◌}
 use Rattle.expressions.specs.Laws as laws
 use Rattle.expressions.specs.Laws.{Law, law_run, holds}
-use Rattle.records.specs.Counters.{stepped, Over, over_is}
+use Rattle.records.specs.Counters.{stepped}
 use Rattle.expressions.specs.Trees.{Expr, span_e}
 use Rattle.operand.specs.Operands.{Displacement, displaced, undisplaced}
 use Rattle.operand.specs.Operands as O
@@ -36,7 +36,7 @@ use Rattle.operand.specs.declared.forms.Registers.{Registers}
 use Rattle.operand.specs.declared.forms.IndexRegister.{IndexRegister}
 use Rattle.operand_code.specs.declared.memory_inner.InnerPart.{InnerPart}
 use Rattle.operand_code.specs.declared.memory_outer.OuterPart.{OuterPart}
-use Rattle.expressions.specs.Paths.{held_as, answered, hereby, kind_token, hit_kind, passed, unseen}
+use Rattle.expressions.specs.Paths.{held_as, answered, hereby, hit_kind, passed, unseen}
 use Rattle.operand_code.proofs.Rooms.{left_room}
 use Rattle.operand_code.proofs.expressed.Trees.{TreeRead}
 use Rattle.std.specs.Prelude.{Option, Some, None, is_some, option_map}
@@ -61,13 +61,6 @@ stored_first {N} {N'} {y = y} {c = c} e st =
     record { bytes = g.bytes; total = g.total }
 
 -- ---- room
-
--- behind a token
-pub node_step : {T N : List ℕ} {c c₁ : Counters} {k : Token} {n : ℕ} → NodeRoom T N c n 0 1 → token_at T c.at ≡ Some k → c₁ ≡ stepped c k → NodeRoom T N c₁ n 0 1
-node_step {T} {c = c} {k = k} h t e = let l = live T c.at k t in rw e (omega (arith, h, l))
-
-pub node_over : {T N : List ℕ} {c c₁ : Counters} {k : Token} (kind : ℕ) {n : ℕ} → NodeRoom T N c n 0 1 → of_kind kind (token_at T c.at) ≡ Some k → Over c k c₁ → NodeRoom T N c₁ n 0 1
-node_over kind h t e = node_step h (kind_token kind _ t).0 (over_is (omega (arith, h)) e)
 
 -- behind a reader that has answered a displacement, or what holds one
 part_room : {A B : Type 0} {f : Option A → B} {p : Reader (Option A)} {L T N D N₁ D₁ : List ℕ} {c : Counters} {v : B} {c₁ : Counters} (g : A → Displacement) (least far : ℕ) {x : A}

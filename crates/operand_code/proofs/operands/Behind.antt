@@ -23,19 +23,14 @@ use Rattle.operand.specs.declared.forms.Sized.{Sized}
 use Rattle.operand_code.specs.Operands.{Kept, Stored, BaseTold}
 use Rattle.operand_code.proofs.Holdings.{kept_none, nothing_stored, tree_is_lem, no_size}
 use Rattle.operand_code.proofs.bases.Tails.{kept_from}
-use Rattle.operand_code.proofs.indexes.Returns.{over_room}
+use Rattle.operand_code.proofs.Rooms.{node_over}
 use Rattle.operand_code.proofs.malformed.Failures.{failed}
-use Rattle.operand_code.proofs.memory.Inners.{node_step}
 use Rattle.std.specs.Prelude.{Option, Some, None, option_map}
 
 -- ---- a token
 
 module _ {T : List ℕ} {c c₁ : Counters} {k : Token} where
-  -- there is room for nodes as before
-  pub node_over : {N : List ℕ} {n : ℕ} → NodeRoom T N c n 0 1 → Over c k c₁ → token_at T c.at ≡ Some k → NodeRoom T N c₁ n 0 1
-  node_over h o t = node_step h t (over_room h.room o)
-
-  -- and no node yet
+  -- there is room for nodes as before, and none yet
   pub first_over : {N : List ℕ} → NodeRoom T N c 0 0 1 → c.nodes ≡ 0 → Over c k c₁ → token_at T c.at ≡ Some k → (NodeRoom T N c₁ 0 0 1) × (c₁.nodes ≡ 0)
   first_over h z o t = (node_over h o t, o.nodes ∙ z)
 

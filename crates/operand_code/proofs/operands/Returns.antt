@@ -44,10 +44,9 @@ use Rattle.operand_code.specs.Absolutes.{immediate_record, absolute_record, Size
 use Rattle.operand.specs.declared.forms.Register.{Register}
 use Rattle.operand.specs.declared.forms.Suffixed.{Suffixed}
 use Rattle.expressions.specs.Paths.{bound, chosen, unchosen, hit, raised_same, kind_token}
-use Rattle.operand_code.proofs.indexes.Returns.{over_room, room_over}
 use Rattle.operand_code.proofs.malformed.Failures.{failed_malformed}
 use Rattle.operand_code.proofs.lookahead.Names.{reg_from}
-use Rattle.operand_code.proofs.Rooms.{suffix_is, suffix_not}
+use Rattle.operand_code.proofs.Rooms.{suffix_is, suffix_not, over_room, room_over}
 use Rattle.operand_code.proofs.bases.Tails.{operand_told, register_at_base}
 use Rattle.operand_code.proofs.Holdings.{kept_none, unstored_told, tree_is_lem}
 use Rattle.std.specs.Prelude.{Option, Some, None, option_map}

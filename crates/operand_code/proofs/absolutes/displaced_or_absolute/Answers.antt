@@ -5,8 +5,8 @@ use native.Mathlib.Omega.{arith}
 use Rattle.names.specs.Kinds
 use Rattle.operand.specs.Operand.{displacement_tail}
 use Rattle.expressions.specs.Paths.{hit_kind, miss_kind}
-use Rattle.operand_code.proofs.indexes.Returns.{over_room, room_over_kind}
 use Rattle.operand_code.proofs.operands.Behind.{base_over}
+use Rattle.operand_code.proofs.Rooms.{over_room, room_over_kind}
 use Rattle.operand_code.proofs.absolutes.displaced_or_absolute.Goals as goal
 
 pub returns-in_default-clause-told : goal.returns-in_default-clause-told

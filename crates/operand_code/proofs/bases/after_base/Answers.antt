@@ -8,18 +8,19 @@ use Rattle.records.specs.Counters.{over_is}
 use Rattle.records.specs.Problems
 use Rattle.operand_code.specs.Bases.{behind_base}
 use Rattle.expressions.specs.Paths.{hit, miss, done}
-use Rattle.operand_code.proofs.bases.Tails.{kept_from, unclosed_told, room_over}
+use Rattle.operand_code.proofs.bases.Tails.{kept_from, unclosed_told}
 use Rattle.operand_code.proofs.bases.Opened.{plain_with}
 use Rattle.operand_code.proofs.bases.after_base.Goals as goal
+use Rattle.operand_code.proofs.Rooms.{room_over}
 use Rattle.operand_code.proofs.bases.after_base.Goals.{in_default-via-in-Some-2+else-t-eq-COMMA, in_default-via-in_default}
 
 pub closed-requires : goal.closed-requires
 closed-requires c =
-    room_over c.requires.0 (sym c.peek.ensures ∙ c.in-Some.is) c.step_over.ensures
+    room_over c.requires.0 c.step_over.ensures (sym c.peek.ensures ∙ c.in-Some.is)
 
 pub base_and_index-requires : goal.base_and_index-requires
 base_and_index-requires c =
-    room_over c.requires.0 (sym c.peek.ensures ∙ c.in-Some.is) c.step_over-in-Some-2.ensures
+    room_over c.requires.0 c.step_over-in-Some-2.ensures (sym c.peek.ensures ∙ c.in-Some.is)
 
 pub returns-in-Some-clause-told : goal.returns-in-Some-clause-told
 unfolding behind_base

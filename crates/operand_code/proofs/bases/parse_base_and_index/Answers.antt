@@ -6,8 +6,9 @@ use Rattle.operand.specs.Operand.{parse_base_and_index}
 use Rattle.records.specs.Counters.{over_is}
 use Rattle.records.specs.Problems
 use Rattle.expressions.specs.Paths.{hit, miss, done}
-use Rattle.operand_code.proofs.bases.Tails.{kept_from, unclosed_told, register_told, room_over}
+use Rattle.operand_code.proofs.bases.Tails.{kept_from, unclosed_told, register_told}
 use Rattle.operand_code.proofs.bases.Opened.{unsuppressed, no_unsuppressed, opened}
+use Rattle.operand_code.proofs.Rooms.{room_over}
 use Rattle.operand_code.proofs.bases.parse_base_and_index.Goals as goal
 
 pub returns-in_default-clause-told : goal.returns-in_default-clause-told
@@ -18,7 +19,7 @@ returns-in_default-clause-told c =
 
 pub after_base-requires : goal.after_base-requires
 after_base-requires c =
-    (room_over c.requires (sym c.peek.ensures ∙ c.in-Some.is) c.step_over.ensures, unsuppressed _ _ _ c.unsuppressed_base-base.ensures (sym c.is_base.ensures ∙ c.if-is_base.true))
+    (room_over c.requires c.step_over.ensures (sym c.peek.ensures ∙ c.in-Some.is), unsuppressed _ _ _ c.unsuppressed_base-base.ensures (sym c.is_base.ensures ∙ c.if-is_base.true))
 
 pub returns-then-is_base-clause-told : goal.returns-then-is_base-clause-told
 returns-then-is_base-clause-told c =

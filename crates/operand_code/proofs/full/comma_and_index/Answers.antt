@@ -5,7 +5,7 @@ use native.Mathlib.Omega.{arith}
 use Rattle.names.specs.Kinds
 use Rattle.records.specs.Counters.{over_is}
 use Rattle.expressions.specs.Paths.{answered, kind_token, hit_same, miss_kind}
-use Rattle.operand_code.proofs.bases.Tails.{room_over}
+use Rattle.operand_code.proofs.Rooms.{room_over}
 use Rattle.operand_code.proofs.full.comma_and_index.Goals as goal
 
 pub returns-in_default-clause-told : goal.returns-in_default-clause-told
@@ -14,7 +14,7 @@ returns-in_default-clause-told c =
 
 pub with_index-requires : goal.with_index-requires
 with_index-requires c =
-    room_over c.requires (kind_token Kinds.comma _ (sym c.peek_kind.ensures ∙ c.in-Some.is)).0 c.step_over.ensures
+    room_over c.requires c.step_over.ensures (kind_token Kinds.comma _ (sym c.peek_kind.ensures ∙ c.in-Some.is)).0
 
 pub returns-clause-told : goal.returns-clause-told
 returns-clause-told c =

@@ -5,7 +5,8 @@ use native.Mathlib.Omega.{arith}
 use Rattle.records.specs.Counters.{over_is}
 use Rattle.expressions.specs.Paths.{same}
 use Rattle.operand_code.proofs.lookahead.Starts.{base_read, base_none, base_end}
-use Rattle.operand_code.proofs.bases.Tails.{some_base, no_base_lem, room_over}
+use Rattle.operand_code.proofs.bases.Tails.{some_base, no_base_lem}
+use Rattle.operand_code.proofs.Rooms.{room_over}
 use Rattle.operand_code.proofs.full.parse_base_and_index_registers.Goals as goal
 
 pub returns-in_default-clause-told : goal.returns-in_default-clause-told
@@ -14,7 +15,7 @@ returns-in_default-clause-told c =
 
 pub after_base_register-requires : goal.after_base_register-requires
 after_base_register-requires c =
-    room_over c.requires (sym c.peek.ensures ∙ c.in-Some.is) c.step_over.ensures
+    room_over c.requires c.step_over.ensures (sym c.peek.ensures ∙ c.in-Some.is)
 
 pub returns-then-is_base-clause-told : goal.returns-then-is_base-clause-told
 returns-then-is_base-clause-told c =

@@ -7,7 +7,8 @@ use Rattle.records.specs.Problems
 use Rattle.operand.specs.Operand.{index_scale}
 use Rattle.expressions.specs.Paths.{answered, miss_kind}
 use Rattle.operand_code.proofs.malformed.Failures.{failed_over_same}
-use Rattle.operand_code.proofs.indexes.Returns.{over_room, room_over_kind, hit_kind_same}
+use Rattle.operand_code.proofs.indexes.Returns.{hit_kind_same}
+use Rattle.operand_code.proofs.Rooms.{over_room, room_over_kind}
 use Rattle.operand_code.proofs.indexes.index_scale.Goals as goal
 
 pub returns-in_default-clause-told : goal.returns-in_default-clause-told

@@ -8,7 +8,7 @@ use Rattle.operand.specs.Operand.{parse_index_register, index_register}
 use Rattle.expressions.specs.Paths.{renamed, hereby, hit_same, miss, done}
 use Rattle.operand_code.proofs.lookahead.Names.{reg_is, reg_not, suppressed_hit, suppressed_miss, suppressed_no_register, register_as, suppressed_as}
 use Rattle.operand_code.proofs.malformed.Failures.{failed_over_same}
-use Rattle.operand_code.proofs.indexes.Returns.{over_room, room_over}
+use Rattle.operand_code.proofs.Rooms.{over_room, room_over}
 use Rattle.operand_code.proofs.indexes.parse_index_register.Goals as goal
 
 pub returns-in_default-clause-told : goal.returns-in_default-clause-told

@@ -3,8 +3,8 @@
 use mathlib.Core.Path.{refl, sym, ◌∙◌, ap}
 use Rattle.operand_code.specs.Lists.{found, missing}
 use Rattle.operand.specs.Operand.{a_register}
-use Rattle.operand_code.proofs.indexes.Returns.{over_room}
 use Rattle.operand_code.proofs.lookahead.Names.{holds_at, holds_end, reg_not}
+use Rattle.operand_code.proofs.Rooms.{over_room}
 use Rattle.operand_code.proofs.lists.expect_register.Goals as goal
 use Rattle.std.specs.Prelude.{Some}
 

@@ -3,8 +3,8 @@
 use mathlib.Core.Path.{sym, ◌∙◌}
 use native.Mathlib.Omega.{arith}
 use Rattle.names.specs.Kinds
-use Rattle.operand_code.proofs.indexes.Returns.{over_room, room_over_kind}
 use Rattle.operand_code.proofs.lists.Ranges.{found_at, single_told, range_none, range_some}
+use Rattle.operand_code.proofs.Rooms.{over_room, room_over_kind}
 use Rattle.operand_code.proofs.lists.list_item.Goals as goal
 
 pub returns-in_default-clause-told : goal.returns-in_default-clause-told

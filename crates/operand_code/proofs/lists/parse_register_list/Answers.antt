@@ -3,9 +3,9 @@
 use mathlib.Core.Path.{refl, sym, ◌∙◌}
 use native.Mathlib.Omega.{arith}
 use Rattle.names.specs.Kinds
-use Rattle.operand_code.proofs.indexes.Returns.{over_room, room_over_kind}
 use Rattle.operand_code.proofs.lists.Ranges.{found_at}
 use Rattle.operand_code.proofs.lists.Turns.{started, item_behind, ends_none, reached, ends, ends_expected, again}
+use Rattle.operand_code.proofs.Rooms.{over_room, room_over_kind}
 use Rattle.operand_code.proofs.lists.parse_register_list.Goals as goal
 
 pub loop-item-init : goal.loop-item-init

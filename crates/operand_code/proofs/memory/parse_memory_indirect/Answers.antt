@@ -11,8 +11,8 @@ use Rattle.records.specs.Problems
 use Rattle.records.specs.Shapes
 use Rattle.expressions.specs.Paths.{held_as, answered, bound, hit_kind, miss_kind}
 use Rattle.operand_code.proofs.malformed.Failures.{failed_unclosed}
-use Rattle.operand_code.proofs.memory.Inners.{node_over, inner_room, stored_on, stored_first}
-use Rattle.operand_code.proofs.Rooms.{map_is, map_not}
+use Rattle.operand_code.proofs.memory.Inners.{inner_room, stored_on, stored_first}
+use Rattle.operand_code.proofs.Rooms.{map_is, map_not, node_over_kind}
 use Rattle.operand_code.proofs.memory.parse_memory_indirect.Goals as goal
 
 pub returns-in_err-n-clause-told : goal.returns-in_err-n-clause-told
@@ -37,7 +37,7 @@ pub after_inner-requires : goal.after_inner-requires
 after_inner-requires c =
     let t = c.parse_inner.ensures.told in
     let h = inner_room _ c.requires.0 t (map_is _ _ (sym t.told.what ∙ c.in_ok-n.was)).is (omega (arith, c.parse_inner.auto)) in
-    node_over Kinds.right_bracket h (sym c.peek_kind.ensures ∙ c.in-Some.is) c.step_over.ensures
+    node_over_kind h c.step_over.ensures Kinds.right_bracket (sym c.peek_kind.ensures ∙ c.in-Some.is)
 
 pub returns-clause-told : goal.returns-clause-told
 unfolding parse_memory_indirect or_none HeldBy

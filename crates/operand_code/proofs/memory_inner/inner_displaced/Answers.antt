@@ -6,8 +6,8 @@ use Rattle.names.specs.Kinds
 use Rattle.records.specs.Counters.{over_is}
 use Rattle.operand.specs.Operand.{inner_displaced}
 use Rattle.expressions.specs.Paths.{kind_token, hit_kind, miss_kind}
-use Rattle.operand_code.proofs.bases.Tails.{room_over}
 use Rattle.operand_code.proofs.memory.Inners.{stored_on, inner_answered}
+use Rattle.operand_code.proofs.Rooms.{room_over}
 use Rattle.operand_code.proofs.memory_inner.inner_displaced.Goals as goal
 use Rattle.std.specs.Prelude.{Some}
 
@@ -18,7 +18,7 @@ returns-in_default-clause-told c =
 
 pub inner_registers-requires : goal.inner_registers-requires
 inner_registers-requires c =
-    room_over c.requires (kind_token Kinds.comma _ (sym c.peek_kind.ensures ∙ c.in-Some.is)).0 c.step_over.ensures
+    room_over c.requires c.step_over.ensures (kind_token Kinds.comma _ (sym c.peek_kind.ensures ∙ c.in-Some.is)).0
 
 pub returns-clause-told : goal.returns-clause-told
 unfolding inner_displaced

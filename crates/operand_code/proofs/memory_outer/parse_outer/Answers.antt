@@ -8,7 +8,8 @@ use Rattle.operand.specs.Operands.{undisplaced}
 use Rattle.operand.specs.Operand.{parse_outer}
 use Rattle.operand.specs.Forms.{sized_of}
 use Rattle.expressions.specs.Paths.{miss_kind}
-use Rattle.operand_code.proofs.memory.Inners.{node_over, stored_none, outer_answered, outer_hit, outer_index_here, outer_no_index}
+use Rattle.operand_code.proofs.memory.Inners.{stored_none, outer_answered, outer_hit, outer_index_here, outer_no_index}
+use Rattle.operand_code.proofs.Rooms.{node_over_kind}
 use Rattle.operand_code.proofs.memory_outer.parse_outer.Goals as goal
 
 pub returns-in_default-clause-told : goal.returns-in_default-clause-told
@@ -18,7 +19,7 @@ returns-in_default-clause-told c =
 
 pub outer_index-requires : goal.outer_index-requires
 outer_index-requires c =
-    node_over Kinds.comma c.requires (sym c.peek_kind.ensures ∙ c.in-Some.is) c.step_over.ensures
+    node_over_kind c.requires c.step_over.ensures Kinds.comma (sym c.peek_kind.ensures ∙ c.in-Some.is)
 
 pub returns-then-is_an_index_at-clause-told : goal.returns-then-is_an_index_at-clause-told
 unfolding parse_outer sized_of
@@ -27,7 +28,7 @@ returns-then-is_an_index_at-clause-told c =
 
 pub outer_displaced-requires : goal.outer_displaced-requires
 outer_displaced-requires c =
-    node_over Kinds.comma c.requires (sym c.peek_kind.ensures ∙ c.in-Some.is) c.step_over.ensures
+    node_over_kind c.requires c.step_over.ensures Kinds.comma (sym c.peek_kind.ensures ∙ c.in-Some.is)
 
 pub returns-clause-told : goal.returns-clause-told
 unfolding parse_outer sized_of

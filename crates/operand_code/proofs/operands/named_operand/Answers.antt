@@ -12,8 +12,8 @@ use Rattle.names.specs.Registers.{special_of}
 use Rattle.operand.specs.Operand.{name_or_expression, parse_register_operand}
 use Rattle.expressions.specs.Paths.{renamed, hit, miss}
 use Rattle.operand_code.proofs.lookahead.Names.{reg_is, reg_not, reg_small}
-use Rattle.operand_code.proofs.indexes.Returns.{over_room, room_over}
 use Rattle.operand_code.proofs.operands.Returns.{register_read, special_is, special_not, special_told}
+use Rattle.operand_code.proofs.Rooms.{over_room, room_over}
 use Rattle.operand_code.proofs.operands.named_operand.Goals as goal
 
 -- its discriminant is its number

@@ -9,10 +9,10 @@ use Rattle.names.specs.Registers.{special_of}
 use Rattle.names.specs.Reserved.{is_special}
 use Rattle.operand.specs.Operand.{operand_from, name_or_expression}
 use Rattle.expressions.specs.Paths.{hit, miss, seen, other}
-use Rattle.operand_code.proofs.indexes.Returns.{over_room}
 use Rattle.operand_code.proofs.operands.Returns.{unnamed, unnamed_register}
 use Rattle.records.specs.Spans.{blank}
 use Rattle.operand_code.proofs.operands.Behind.{fails_stored, first_over}
+use Rattle.operand_code.proofs.Rooms.{over_room}
 use Rattle.operand_code.proofs.operands.operand_from.Goals as goal
 
 pub parse_immediate-requires : goal.parse_immediate-requires

@@ -8,9 +8,9 @@ use Rattle.operand.specs.Operands.{displaced}
 use Rattle.operand.specs.Operand.{after_expression, grouped_operand}
 use Rattle.expressions.specs.Paths.{renamed, hit, miss, done, seen, other, beyond}
 use Rattle.operand_code.proofs.Holdings.{tree_stored, stands_size, stands_from}
-use Rattle.operand_code.proofs.indexes.Returns.{over_room, room_over}
-use Rattle.operand_code.proofs.operands.Behind.{node_over, base_over}
+use Rattle.operand_code.proofs.operands.Behind.{base_over}
 use Rattle.operand_code.proofs.parentheses.after_expression.Goals as goal
+use Rattle.operand_code.proofs.Rooms.{node_over, over_room, room_over}
 use Rattle.operand_code.proofs.parentheses.after_expression.Goals.{in_default-via-in-Some-3+else-t-eq-SIZE_SUFFIX, in_default-via-in_default}
 
 pub after_comma-requires : goal.after_comma-requires

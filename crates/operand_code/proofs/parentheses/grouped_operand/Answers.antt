@@ -6,8 +6,8 @@ use Rattle.names.specs.Kinds
 use Rattle.operand.specs.Operand.{displacement_tail}
 use Rattle.expressions.specs.Paths.{hit_kind, miss_kind}
 use Rattle.operand_code.proofs.Holdings.{tree_stored, stands_size}
-use Rattle.operand_code.proofs.indexes.Returns.{over_room, room_over_kind}
 use Rattle.operand_code.proofs.operands.Behind.{base_over}
+use Rattle.operand_code.proofs.Rooms.{over_room, room_over_kind}
 use Rattle.operand_code.proofs.parentheses.grouped_operand.Goals as goal
 
 pub returns-in_default-clause-told : goal.returns-in_default-clause-told

@@ -4,8 +4,8 @@ use mathlib.Core.Path.{sym, ◌∙◌}
 use Rattle.names.specs.Kinds
 use Rattle.operand.specs.Operand.{parse_parenthesised_operand}
 use Rattle.expressions.specs.Paths.{kind_token, hit_kind, miss_kind}
-use Rattle.operand_code.proofs.indexes.Returns.{over_room}
 use Rattle.operand_code.proofs.operands.Behind.{first_over}
+use Rattle.operand_code.proofs.Rooms.{over_room}
 use Rattle.operand_code.proofs.parentheses.parse_parenthesised_operand.Goals as goal
 
 pub returns-in_default-clause-told : goal.returns-in_default-clause-told

@@ -6,8 +6,8 @@ use Rattle.names.specs.Kinds
 use Rattle.operand.specs.Operands.{displaced}
 use Rattle.operand.specs.Operand.{sized_base, over}
 use Rattle.expressions.specs.Paths.{hit, seen_kind, unseen_kind}
-use Rattle.operand_code.proofs.Rooms.{suffix_room}
-use Rattle.operand_code.proofs.indexes.Returns.{over_room, room_over, suffix_taken}
+use Rattle.operand_code.proofs.Rooms.{suffix_room, over_room, room_over}
+use Rattle.operand_code.proofs.indexes.Returns.{suffix_taken}
 use Rattle.operand_code.proofs.Holdings.{tree_is_lem, kept_sized}
 use Rattle.operand_code.proofs.operands.Returns.{behind_size, behind_passed}
 use Rattle.operand_code.proofs.parentheses.sized_base.Goals as goal

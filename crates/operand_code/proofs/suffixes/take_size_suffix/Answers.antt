@@ -5,7 +5,8 @@ use Rattle.names.specs.Kinds
 use Rattle.expressions.specs.Expressions.{take_size_suffix}
 use Rattle.operand.specs.Forms.{suffix_read}
 use Rattle.expressions.specs.Paths.{answered, miss_kind}
-use Rattle.operand_code.proofs.indexes.Returns.{over_room, hit_kind_same}
+use Rattle.operand_code.proofs.indexes.Returns.{hit_kind_same}
+use Rattle.operand_code.proofs.Rooms.{over_room}
 use Rattle.operand_code.proofs.suffixes.take_size_suffix.Goals as goal
 
 pub returns-in_err-t-clause-told : goal.returns-in_err-t-clause-told
