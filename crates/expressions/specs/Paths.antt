@@ -46,6 +46,7 @@ no_kind kind L T i e = go (token_at T i) e
     no : (k : Token) (b : Bool) → eqb k.kind kind ≡ b → then_some b k ≡ None → eqb k.kind kind ≡ false
     no k true q g = let z : ◌≡◌ {A = ℕ} 0 1 = cc in absurd (omega arith)
     no k false q g = q
+
     go : (o : Option Token) → of_kind kind o ≡ None → holds (is kind) (placed L o) ≡ false
     go None h = refl
     go (Some k) h = no k (eqb k.kind kind) refl h
