@@ -32,7 +32,8 @@ impl<'a, 'b> Source<'a, 'b> {
         self.token_at(usize::from(c.at))
     }
 
-    // The token at a place, if it is of this kind.
+    // The token at a place, if it is of this kind. A match with a guard: `filter` was tried, and what its closure says of a lent token did not
+    // give the clause.
     #[tactic(auto, unfolding(crate::specs::Reader::of_kind))]
     pub fn token_of_kind(&self, i: usize, kind: u16) -> Option<Token>
         ensures { result ≡ of_kind kind (token_at self.now.tokens.now i) }

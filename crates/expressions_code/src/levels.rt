@@ -20,7 +20,8 @@ pub(crate) fn precedence(kind: u16) -> u8
     }
 }
 
-// The number of a kind as a binary operator, 9 for a kind that is none: the definition's number, and asked of an operator alone.
+// The number of a kind as a binary operator, and 9, that of the last one, for a kind that is none: it is asked of an operator alone. A number, which
+// goes into the node as it is: an enum of the ten would be made the same number there.
 #[tactic(auto, unfolding(expressions::specs::Expressions::binary_operator))]
 pub(crate) fn binary_operator(kind: u16) -> u16
     ensures { result ≡ binary_operator kind }

@@ -27,7 +27,7 @@ fn absolute(c: Counters, span: Span, size: u8) -> OperandRecord
     )
 }
 
-// `finish_expression_operand`: an absolute address, and its size.
+// An absolute address, and its size.
 pub(crate) fn finish_expression_operand(
     source: &Source,
     out: &mut Progress,

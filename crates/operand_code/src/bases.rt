@@ -163,7 +163,7 @@ fn index_form(base: BaseRegister) -> Form
     }
 }
 
-// Behind an address register or the program counter. Both go on in one call, which the compiler then puts in place.
+// Behind an address register or the program counter.
 fn after_base(
     source: &Source,
     out: &mut Progress,
@@ -192,7 +192,8 @@ fn after_base(
     }
 }
 
-// The base that a token is where none may be suppressed: an address register or the program counter. `Omitted` is none, as in `base_at`: no `Option` beside it.
+// The base that a token is where none may be suppressed: an address register or the program counter. `Omitted`, which the Rust has among its bases,
+// is none here as in `base_at`.
 fn unsuppressed_base(source: &Source, token: Token) -> BaseRegister
     ensures { result ≡ unsuppressed_base token (text_of source.now.line.now token.start token.end) }
 {

@@ -16,9 +16,10 @@ use names::{SizeSuffix, Token};
 use operand::{BaseRegister, Form, OperandRecord};
 use records::{Counters, OperandShape, Problem, Progress, Span, expression_expected};
 
-// The one size that an immediate may have, and none that is known.
+// The one size that an immediate may have.
 const LONG: u8 = SizeSuffix::Long as u8;
 
+// A size that is not known.
 const UNKNOWN: u8 = 0;
 
 #[tactic(auto, unfolding(operand::specs::Records::flag))]

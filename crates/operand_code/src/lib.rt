@@ -1,5 +1,5 @@
-// The reader of one operand: every addressing mode. A cursor's `at` is widened by `as usize`: with `usize::from` each answer that reads it needs a
-// step more (tried). Its parts, in reading order:
+// The reader of one operand: every addressing mode. What a function asks of the room (`Room`, `NodeRoom`) is used up by it: behind a diagnostic
+// there is room for one less, behind a term for one node less. So it is a clause and no invariant of what is lent. Its parts, in reading order:
 #![tactic(auto)]
 
 // what the forms share

@@ -79,7 +79,7 @@ pub(crate) fn suppressed_index_at(source: &Source, token: Token, i: usize) -> Op
     }
 }
 
-// `is_an_index_at`. A `match` here and below: at `is_some_and` a closure that calls other functions needs their contract written once more (tried).
+// A register, or a suppressed one, that may be an index. A `match` here and below: at `is_some_and` a closure that calls other functions needs their contract written once more (tried).
 #[tactic(auto, using(crate::proofs::lookahead::Names::an_index_lem), unfolding(expressions::specs::Laws::holds, names::specs::Places::place, names::specs::Places::placed))]
 pub(crate) fn is_an_index_at(source: &Source, i: usize) -> bool
     ensures { result ≡ holds (an_index source.now.setting i) (place source.now.line.now source.now.tokens.now i) }
@@ -90,7 +90,7 @@ pub(crate) fn is_an_index_at(source: &Source, i: usize) -> bool
     }
 }
 
-// `is_a_base_or_an_index`
+// A register or the program counter, suppressed or not.
 #[tactic(auto, using(crate::proofs::lookahead::Names::a_base_or_an_index_lem))]
 pub(crate) fn is_a_base_or_an_index(source: &Source, token: Token, i: usize) -> bool
     ensures { result ≡ a_base_or_an_index source.now.setting i token (text_of source.now.line.now token.start token.end) }

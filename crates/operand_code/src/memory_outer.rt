@@ -18,7 +18,8 @@ const PREINDEXED: u8 = 1;
 
 const POSTINDEXED: u8 = 2;
 
-// What stands behind them. The indirection is the record's byte, into which alone it goes: an enum would be made the same number there.
+// What stands behind the brackets. The indirection is a number, as the definition has it, which does not bound it, so that an enum could not be
+// told of it; it goes into the record as it is.
 #[derive(Clone, Copy)]
 pub struct OuterPart {
     pub index: Option<IndexRegister>,

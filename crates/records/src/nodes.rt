@@ -9,7 +9,8 @@ use crate::stores::write;
 // In the place of a child that is not there (docs/FORMAT.md). A number, not an `Option`: `put_node` writes any.
 pub const ABSENT: u16 = 65535;
 
-// Writes the node record n, where it fits. The kind is a number: any may be given; the reader's are 1 to 8 (docs/FORMAT.md). The four last numbers are the words of the value, the low word first.
+// Writes the node record n, where it fits. Its parts in their order, and no struct: each node is written in the call that makes it, and handed
+// nowhere else. The kind is a number: any may be given. The four last numbers are the words of the value, the low word first.
 pub fn put_node(
     nodes: &mut [u16],
     n: u16,

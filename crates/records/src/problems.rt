@@ -1,5 +1,5 @@
-// The problems of malformed operands, by their texts in the Rust, in the order in which the functions that `parse_operand` reaches first have
-// them; and the signs that one kind of diagnostic has in a problem's place.
+// The problems of malformed operands, by their texts in the Rust; and the signs that one kind of diagnostic has in a problem's place.
+// docs/FORMAT.md has the numbers.
 ghost use Rattle.std.specs.Prelude.{◌≡◌};
 ghost use Rattle.records.specs.Problems;
 

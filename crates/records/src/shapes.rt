@@ -1,4 +1,4 @@
-// The shapes of operands that a malformed one is told by, in the order of the Rust's `OperandShape`. What a lent or given record has is a
+// The shapes of operands, by which a malformed one is told, all those of the Rust's `OperandShape`, in its order. What a lent or given record has is a
 // number: it may be any.
 ghost use Rattle.std.specs.Prelude.{◌≡◌};
 ghost use Rattle.records.specs.Shapes;
