@@ -64,7 +64,7 @@ fn prefix(base: u16) -> Option<u8>
     }
 }
 
-// Whether a number begins with the prefix of its base. Tried: `is_none_or`; its closure left a goal open.
+// Whether a number begins with the prefix of its base. Tried: `is_none_or`; the goal of what it returns stayed open.
 #[tactic(auto, using(crate::proofs::tokens::Checks::prefixed_none, crate::proofs::tokens::Checks::prefixed_empty, crate::proofs::tokens::Checks::prefixed_first))]
 fn prefixed(base: u16, text: &[u8]) -> bool
     ensures { result ≡ prefixed base text.now }
