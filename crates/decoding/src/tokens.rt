@@ -14,7 +14,8 @@ use names::{Token, kinds};
 use operand::{Layout, Refusal};
 use records::write;
 
-// The bases of a number, as its token's detail has them; 3 is octal.
+// The bases of a number, as its token's detail has them; 3 is octal. Constants, and no enum: the definition asks of any number, and the enum of
+// `names`, which refuses the others, would add a case for them.
 const DECIMAL: u16 = 0;
 
 const HEXADECIMAL: u16 = 1;
@@ -22,19 +23,19 @@ const HEXADECIMAL: u16 = 1;
 const BINARY: u16 = 2;
 
 // Whether a text is this byte alone.
-#[tactic(auto, unfolding(names::specs::Letters::same), using(crate::proofs::tokens::Checks::same_once, names::specs::Laws::differ))]
+#[tactic(auto, using(crate::proofs::tokens::Checks::same_slices))]
 fn once(text: &[u8], byte: u8) -> bool
     ensures { result ≡ same text.now (byte ∷ []) }
 {
-    matches!(text, [only] if *only == byte)
+    text == [byte].as_slice()
 }
 
 // Whether a text is this byte twice.
-#[tactic(auto, unfolding(names::specs::Letters::same), using(crate::proofs::tokens::Checks::same_twice, names::specs::Laws::differ))]
+#[tactic(auto, using(crate::proofs::tokens::Checks::same_slices))]
 fn twice(text: &[u8], byte: u8) -> bool
     ensures { result ≡ same text.now (byte ∷ byte ∷ []) }
 {
-    matches!(text, [first, second] if *first == byte && *second == byte)
+    text == [byte, byte].as_slice()
 }
 
 // Whether a sign is spelled as its kind says; a kind beyond the signs may be spelled in any way.
@@ -63,7 +64,7 @@ fn prefix(base: u16) -> Option<u8>
     }
 }
 
-// Whether a number begins with the prefix of its base.
+// Whether a number begins with the prefix of its base. Tried: `is_none_or`; the goal of what it returns stayed open.
 #[tactic(auto, using(crate::proofs::tokens::Checks::prefixed_none, crate::proofs::tokens::Checks::prefixed_empty, crate::proofs::tokens::Checks::prefixed_first))]
 fn prefixed(base: u16, text: &[u8]) -> bool
     ensures { result ≡ prefixed base text.now }
@@ -97,7 +98,7 @@ fn good_token(line: &[u8], last: u16, token: Token) -> bool
         && well_spelled(token.kind, token.detail, names::text_of(line, token))
 }
 
-// The numbers of a narrow list, at the front of `numbers`: its bytes.
+// The numbers of a narrow list, at the front of `numbers`: its bytes. By index: of what `iter_mut` lends the library says nothing afterwards.
 fn put_narrow(tokens: &[u8], numbers: &mut [u16])
     requires { length tokens.now ≤ length numbers.old }
     ensures { numbers.new ≡ written numbers.old 0 tokens.now }
@@ -131,7 +132,8 @@ fn put_tokens(layout: Layout, tokens: &[u8], numbers: &mut [u16], n: usize)
     }
 }
 
-// Whether each token of a list of numbers is good, the first one behind the line's start.
+// Whether each token of a list of numbers is good, the first one behind the line's start. All are looked at: leaving at the first bad one would add
+// a branch for each good one.
 fn good_tokens(line: &[u8], numbers: &[u16]) -> bool
     ensures { result ≡ good_tokens line.now 0 numbers.now }
 {

@@ -4,7 +4,7 @@ ghost use Rattle.records.specs.Stores.{written};
 ghost use Rattle.operand.specs.declared.layouts.Layout.TheVariants as layouts;
 ghost use Rattle.layout.specs.Diagnostics.{diagnostic_from, diagnostics_encoded};
 
-use crate::numbers::low;
+use crate::numbers::{low, two_words};
 use operand::Layout;
 use records::write;
 
@@ -22,28 +22,25 @@ fn narrow_record(numbers: &[u16; 10]) -> [u8; 10]
 fn wide_record(numbers: &[u16; 10]) -> [u8; 16]
     ensures { result ≡ diagnostic_from layouts.Wide numbers.now 0 }
 {
-    let start = numbers[3].to_le_bytes();
-    let end = numbers[4].to_le_bytes();
-    let text_start = numbers[5].to_le_bytes();
-    let text_end = numbers[6].to_le_bytes();
-    let related_start = numbers[7].to_le_bytes();
-    let related_end = numbers[8].to_le_bytes();
+    let span = two_words(numbers[3], numbers[4]);
+    let text = two_words(numbers[5], numbers[6]);
+    let related = two_words(numbers[7], numbers[8]);
     [
         low(numbers[0]),
         low(numbers[1]),
         low(numbers[2]),
-        start[0],
-        start[1],
-        end[0],
-        end[1],
-        text_start[0],
-        text_start[1],
-        text_end[0],
-        text_end[1],
-        related_start[0],
-        related_start[1],
-        related_end[0],
-        related_end[1],
+        span[0],
+        span[1],
+        span[2],
+        span[3],
+        text[0],
+        text[1],
+        text[2],
+        text[3],
+        related[0],
+        related[1],
+        related[2],
+        related[3],
         low(numbers[9]),
     ]
 }

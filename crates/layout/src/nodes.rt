@@ -47,7 +47,7 @@ fn write_parts(nodes: &mut [u8], at: usize, head: &[u8], rest: &[u8])
     write(nodes, at + head.len(), rest);
 }
 
-// What stands before them in the narrow layout: kind, detail, the children's numbers, the span. Each layout by itself, as in record.rt.
+// The bytes before the last eight in the narrow layout: kind, detail, the children's numbers, the span. Each layout by itself, as in record.rt.
 #[tactic(auto, unfolding(records::specs::Nodes::low_first, operand::specs::Layouts::number))]
 fn narrow_head(numbers: &[u16; 10]) -> [u8; 6]
     ensures { result ≡ head_from layouts.Narrow numbers.now 0 }

@@ -13,3 +13,4 @@ pub mod Rooms
 pub mod Stores
 -- the laws
 pub mod Written
+pub mod Chunks

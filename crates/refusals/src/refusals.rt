@@ -13,7 +13,7 @@ const LOWEST_LIMIT: usize = 1;
 // The highest one.
 const HIGHEST_LIMIT: usize = 128;
 
-// Whether a byte is not printable.
+// Whether a byte is not printable. A function of its own: where the range stands in the caller, the proof of the caller would have to name its ends.
 #[tactic(auto, using(crate::proofs::refusals::Checks::within, crate::proofs::refusals::Checks::below, crate::proofs::refusals::Checks::above))]
 fn is_foreign(byte: u8) -> bool
     ensures { result ≡ either (ltb byte 32) (ltb 126 byte) }
@@ -43,7 +43,7 @@ pub fn refuse_line_and_list(layout: Layout, line: &[u8], tokens: &[u8]) -> Resul
         return Err(Refusal::ForeignByte);
     }
     let count = layout.token_count(tokens.len());
-    if layout.token_size() * count != tokens.len() || layout.most_tokens() < count {
+    if tokens.len() % layout.token_size() != 0 || layout.most_tokens() < count {
         return Err(Refusal::BadList);
     }
     Ok(())
@@ -53,13 +53,13 @@ pub fn refuse_line_and_list(layout: Layout, line: &[u8], tokens: &[u8]) -> Resul
 fn crowded(layout: Layout, bytes: usize, used: usize) -> bool
     ensures { result ≡ ltb (bytes / diagnostic_size layout) (used + free_records layout) }
 {
-    let records = layout.diagnostic_count(bytes);
-    let free = layout.free_records();
-    records < free || records - free < used
+    layout
+        .diagnostic_count(bytes)
+        .checked_sub(layout.free_records())
+        .is_none_or(|left| left < used)
 }
 
-// Whether a nesting limit is outside 1 to 128. A function, as `is_foreign` is: where the test stands in a caller, its proof names the range's ends,
-// and no edit of them says anything.
+// Whether a nesting limit is outside 1 to 128. A function of its own, as `is_foreign` is.
 #[tactic(auto, using(crate::proofs::refusals::Checks::within, crate::proofs::refusals::Checks::below, crate::proofs::refusals::Checks::above), unfolding(operand::specs::Entry::highest_limit))]
 fn out_of_range(limit: usize) -> bool
     ensures { result ≡ either (ltb limit 1) (ltb highest_limit limit) }
@@ -67,7 +67,8 @@ fn out_of_range(limit: usize) -> bool
     !matches!(limit, LOWEST_LIMIT..=HIGHEST_LIMIT)
 }
 
-// The refusal of the start, a store or the nesting limit, of number 5 to 7 or 18, if there is one: by the tokens' number and the stores' bytes.
+// The refusal of the start, a store or the nesting limit, of number 5 to 7 or 18, if there is one: by the tokens' number and the stores' bytes. No
+// struct: the definition takes the seven so, and it would be a type for one call.
 pub fn refuse_start_stores_and_limit(
     layout: Layout,
     tokens: usize,

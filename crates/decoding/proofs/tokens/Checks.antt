@@ -1,7 +1,7 @@
 -- The tests of a token's text, each at what the code looks at: a sign's text, a number's prefix.
 -- Assumes nothing.
 use mathlib.Core.Path.{◌≡◌, refl, sym, ◌∙◌, ap}
-use mathlib.Core.Bool.{Bool, true, false}
+use mathlib.Core.Bool.{Bool, true, false, ◌&&◌}
 use mathlib.Core.List.{List, [], ◌∷◌, map}
 use Prim.Native.Nat.{ℕ, zero, suc, ◌+◌, ◌≤◌, ◌<◌}
 use Prim.Native.String.{String}
@@ -10,26 +10,26 @@ use borrow.Author.Tests.{eq-eqb, ne_eqb, eqb-true, eqb-false}
 use lib.Dec.{eqb}
 use lib.ListN.{length, get_or}
 use Rattle.std.proofs.lemmas.Grind.{get_or_default_zero}
+use lib.Pointwise.{pointwise}
 use Rattle.names.specs.Choice.{pick, both}
 use Rattle.names.specs.Letters.{bytes, same}
-use Rattle.names.specs.Laws.{both_true, same_true}
+use Rattle.names.specs.Laws.{same_true}
 use Rattle.expressions.proofs.Costs.{true_false}
 use Rattle.operand.specs.Entry.{signs, spelled_as, prefixed}
 
 -- ---- a sign's text
 
-pub same_once : (x : List ℕ) (b : ℕ) → length x ≡ 1 → same x (b ∷ []) ≡ eqb (get_or x 0 0) b
+-- the library's equality of slices
+pub same_slices : (x y : List ℕ) → pointwise eqb x y ≡ same x y
 unfolding same
-same_once [] b h = absurd (omega arith)
-same_once (c ∷ []) b h = both_true (eqb c b)
-same_once (c ∷ d ∷ x) b h = absurd (omega arith)
-
-pub same_twice : (x : List ℕ) (b : ℕ) → length x ≡ 2 → same x (b ∷ b ∷ []) ≡ both (eqb (get_or x 0 0) b) (eqb (get_or x 1 0) b)
-unfolding same
-same_twice [] b h = absurd (omega arith)
-same_twice (c ∷ []) b h = absurd (omega arith)
-same_twice (c ∷ d ∷ []) b h = ap (both (eqb c b)) (both_true (eqb d b))
-same_twice (c ∷ d ∷ e ∷ x) b h = absurd (omega arith)
+same_slices [] [] = refl
+same_slices [] (d ∷ y) = refl
+same_slices (c ∷ x) [] = refl
+same_slices (c ∷ x) (d ∷ y) = and_both (eqb c d) (pointwise eqb x y) ∙ ap (both (eqb c d)) (same_slices x y)
+  where
+    and_both : (a b : Bool) → (a && b) ≡ both a b
+    and_both true b = refl
+    and_both false b = refl
 
 -- ---- the table of the signs
 

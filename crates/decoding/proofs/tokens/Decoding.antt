@@ -7,9 +7,6 @@ use Prim.Native.Nat.{ℕ, zero, suc, ◌+◌, ◌*◌, ◌/◌, ◌≤◌, ◌<�
 use native.Mathlib.Omega.{arith}
 use borrow.Author.Tests.{le-leb, lt-leb}
 use lib.ListN.{length, take, drop, get_or}
-use Rattle.std.proofs.Common.{get_or-take, get_or-drop, drop-drop, add-zero}
-use native.Mathlib.Nat.{mul-zero, mul-suc}
-use Rattle.std.specs.Simd.{first_chunks}
 use lib.Seq.{length-take-le, take-add}
 use Rattle.names.specs.Choice.{pick, both}
 use Rattle.names.specs.Laws.{both_true}
@@ -31,21 +28,6 @@ and_both false b = refl
 both_assoc : (a b c : Bool) → both (both a b) c ≡ both a (both b c)
 both_assoc true b c = refl
 both_assoc false b c = refl
-
--- ---- tokens as chunks
-
-chunk : (n k : ℕ) (T : List ℕ) (i : ℕ) (x : List ℕ) → i < k → get_or (first_chunks n k T) i x ≡ take n (drop (n * i) T)
-chunk n zero T i x h = absurd (omega arith)
-chunk n (suc k) T zero x h = ap (λ j. take n (drop j T)) (sym (mul-zero n))
-chunk n (suc k) T (suc i) x h = chunk n k (drop n T) i x (omega arith) ∙ ap (take n) (drop-drop (n * i) n T) ∙ ap (λ j. take n (drop j T)) (omega (arith, mul-suc n i))
-
--- the j-th number of the i-th chunk
-module _ (n k : ℕ) (T : List ℕ) (C : List (List ℕ)) (front : C ≡ first_chunks n k T) (i : ℕ) (h : i < k) where
-  pub number : (j : ℕ) → j < n → get_or (get_or C i []) j 0 ≡ get_or T (n * i + j) 0
-  number j g = ap (λ x. get_or (get_or x i []) j 0) front ∙ ap (λ x. get_or x j 0) (chunk n k T i [] h) ∙ get_or-take n (drop (n * i) T) j 0 g ∙ get_or-drop (n * i) T j 0
-
-  pub first : 0 < n → get_or (get_or C i []) 0 0 ≡ get_or T (n * i) 0
-  first g = number 0 g ∙ ap (λ p. get_or T p 0) (add-zero (n * i))
 
 -- ---- decoded one behind the other
 

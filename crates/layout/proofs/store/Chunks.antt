@@ -1,27 +1,23 @@
 -- A record as a chunk of ten numbers.
 -- Assumes nothing.
-use Rattle.std.proofs.Common.{◌≡◌, refl, ◌∙◌, ap, List, ℕ, zero, suc, ◌+◌, ◌*◌, ◌/◌, ◌<◌, ◌≤◌, length, get_or, get_or-take, get_or-drop, take, drop, drop-drop, add-zero, arith}
+use Rattle.std.proofs.Common.{◌≡◌, refl, ◌∙◌, ap, List, ℕ, ◌+◌, ◌*◌, ◌/◌, ◌<◌, ◌≤◌, length, get_or, get_or-take, take, arith}
 use Rattle.std.specs.Simd.{first_chunks}
+use Rattle.records.specs.Chunks as Chunks
 use Rattle.records.specs.Stores.{written}
 use Rattle.operand.specs.declared.layouts.Layout.{Layout}
 use Rattle.operand.specs.Layout.{node_from}
 use Rattle.layout.specs.Diagnostics.{diagnostic_from}
 
-chunk : (k : ℕ) (M : List ℕ) (i : ℕ) (x : List ℕ) → i < k → get_or (first_chunks 10 k M) i x ≡ take 10 (drop (10 * i) M)
-chunk zero M i x h = absurd (omega arith)
-chunk (suc k) M zero x h = refl
-chunk (suc k) M (suc i) x h = chunk k (drop 10 M) i x (omega arith) ∙ ap (take 10) (drop-drop (10 * i) 10 M) ∙ ap (λ n. take 10 (drop n M)) (omega arith)
-
 -- r is the i-th of the first n chunks
 module _ (M : List ℕ) (C : List (List ℕ)) (n i : ℕ) (r x : List ℕ) (all : C ≡ first_chunks 10 (length M / 10) M) (len : length C ≡ length M / 10) (at : r ≡ get_or (take n C) i x) (h : i < n) (room : n ≤ length C) where
-  whole : r ≡ take 10 (drop (10 * i) M)
-  whole = at ∙ get_or-take n C i x h ∙ ap (λ X. get_or X i x) all ∙ chunk (length M / 10) M i x (omega arith)
+  whole : r ≡ get_or C i x
+  whole = at ∙ get_or-take n C i x h
 
   number : (j : ℕ) → j < 10 → get_or r j 0 ≡ get_or M (10 * i + j) 0
-  number j g = ap (λ l. get_or l j 0) whole ∙ get_or-take 10 (drop (10 * i) M) j 0 g ∙ get_or-drop (10 * i) M j 0
+  number j g = ap (λ l. get_or l j 0) whole ∙ Chunks.number 10 (length M / 10) M C all i x (omega arith) j g
 
   first : get_or r 0 0 ≡ get_or M (10 * i) 0
-  first = number 0 (omega arith) ∙ ap (λ p. get_or M p 0) (add-zero (10 * i))
+  first = ap (λ l. get_or l 0 0) whole ∙ Chunks.first 10 (length M / 10) M C all i x (omega arith) (omega arith)
 
   same_node : (w : Layout) → node_from w r 0 ≡ node_from w M (10 * i)
   unfolding node_from

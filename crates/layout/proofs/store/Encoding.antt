@@ -4,7 +4,7 @@ use mathlib.Core.Path.{◌≡◌, refl, sym, ◌∙◌, ap, ap₂}
 use mathlib.Core.Bool.{Bool, true, false}
 use mathlib.Core.List.{List, [], ◌++◌, append_assoc, append-nil}
 use Prim.Native.Nat.{ℕ, suc, ◌+◌, ◌-◌, ◌*◌, ◌/◌, ◌≤◌, ◌<◌}
-use native.Mathlib.Nat.{mul-suc, mul-add}
+use native.Mathlib.Nat.{mul-suc, mul-add, mul-le-mul_left}
 use native.Mathlib.Omega.{arith}
 use native.Mathlib.Numerals.{add-one}
 use borrow.Author.Tests.{leb-true, leb-false, le-leb, lt-leb}
@@ -23,15 +23,9 @@ use Rattle.layout.specs.Diagnostics.{diagnostic_from, diagnostics_encoded}
 
 -- ---- records one behind the other
 
-pub mul_le : (k i n : ℕ) → i ≤ n → k * i ≤ k * n
-mul_le k i n h =
-    let e : n ≡ i + (n - i) = omega arith in
-    let all : k * n ≡ k * i + k * (n - i) = ap (λ j. k * j) e ∙ mul-add k i (n - i) in
-    omega (arith, all)
-
--- it lies within what n of them take
+-- one lies within what n of them take
 pub place_within : (k i n : ℕ) → i < n → k * i + k ≤ k * n
-place_within k i n h = omega (arith, mul_le k (suc i) n (omega arith), mul-suc k i)
+place_within k i n h = omega (arith, mul-le-mul_left {m = suc i} {n = n} k h, mul-suc k i)
 
 module _ (f : List ℕ → ℕ → List ℕ) (k : ℕ) (M : List ℕ) (long : (p : ℕ) → length (f M p) ≡ k) (N : List ℕ) (from : ℕ) where
   pub records_none : N ≡ written N from (records_laid f M 0)

@@ -1,9 +1,9 @@
 -- The tests of the refusals, each at what the code looks at: a byte of the line, a number in a range, the list.
 -- Assumes nothing.
-use mathlib.Core.Path.{◌≡◌, refl, sym, ◌∙◌, ap₂}
+use mathlib.Core.Path.{◌≡◌, refl}
 use mathlib.Core.Bool.{Bool, true, false, not, ◌||◌}
 use mathlib.Core.List.{List}
-use Prim.Native.Nat.{ℕ, ◌+◌, ◌*◌, ◌/◌, ◌%◌, ◌≤◌, ◌<◌}
+use Prim.Native.Nat.{ℕ, ◌+◌, ◌/◌, ◌%◌, ◌≤◌, ◌<◌}
 use native.Mathlib.Omega.{arith}
 use borrow.Author.Tests.{lt-ltb, le-ltb, eq-eqb, ne_eqb}
 use lib.Dec.{eqb, ltb}
@@ -48,28 +48,13 @@ module _ (low high n : ℕ) where
 
 -- ---- the list
 
--- bytes that are whole tokens have no rest, and bytes that are not have one
-rest_none : (w : Layout) (bytes : ℕ) → token_size w * (bytes / token_size w) ≡ bytes → bytes % token_size w ≡ 0
-rest_none Layout.Narrow bytes h = omega arith
-rest_none Layout.Wide bytes h = omega arith
+module _ (w : Layout) (bytes s : ℕ) (size : s ≡ token_size w) where
+  pub no_tokens : (bytes % s ≡ 0 → ⊥) → either (not (eqb (bytes % token_size w) 0)) (ltb (most_tokens w) (bytes / token_size w)) ≡ true
+  no_tokens h = rw (ne_eqb (bytes % token_size w) 0 (rw size at h))
 
-rest_some : (w : Layout) (bytes : ℕ) → (token_size w * (bytes / token_size w) ≡ bytes → ⊥) → bytes % token_size w ≡ 0 → ⊥
-rest_some Layout.Narrow bytes h e = h (omega arith)
-rest_some Layout.Wide bytes h e = h (omega arith)
-
-module _ (w : Layout) (bytes s n : ℕ) (size : s ≡ token_size w) (count : n ≡ bytes / token_size w) where
-  whole : s * n ≡ bytes → token_size w * (bytes / token_size w) ≡ bytes
-  whole h = ap₂ (λ a b. a * b) (sym size) (sym count) ∙ h
-
-  part : token_size w * (bytes / token_size w) ≡ bytes → s * n ≡ bytes
-  part h = ap₂ (λ a b. a * b) size count ∙ h
-
-  pub no_tokens : (s * n ≡ bytes → ⊥) → either (not (eqb (bytes % token_size w) 0)) (ltb (most_tokens w) (bytes / token_size w)) ≡ true
-  no_tokens h = rw (ne_eqb (bytes % token_size w) 0 (rest_some w bytes (λ e. h (part e))))
-
-  module _ (m : ℕ) (most : m ≡ most_tokens w) where
+  module _ (n m : ℕ) (count : n ≡ bytes / token_size w) (most : m ≡ most_tokens w) where
     pub many_tokens : m < n → either (not (eqb (bytes % token_size w) 0)) (ltb (most_tokens w) (bytes / token_size w)) ≡ true
     many_tokens h = rw (lt-ltb (most_tokens w) (bytes / token_size w) (omega (arith, count, most))) (either_true _)
 
-    pub good_list : s * n ≡ bytes → n ≤ m → either (not (eqb (bytes % token_size w) 0)) (ltb (most_tokens w) (bytes / token_size w)) ≡ false
-    good_list e h = rw (eq-eqb (bytes % token_size w) 0 (rest_none w bytes (whole e)), le-ltb (most_tokens w) (bytes / token_size w) (omega (arith, count, most)))
+    pub good_list : bytes % s ≡ 0 → n ≤ m → either (not (eqb (bytes % token_size w) 0)) (ltb (most_tokens w) (bytes / token_size w)) ≡ false
+    good_list e h = rw (eq-eqb (bytes % token_size w) 0 (rw size at e), le-ltb (most_tokens w) (bytes / token_size w) (omega (arith, count, most)))

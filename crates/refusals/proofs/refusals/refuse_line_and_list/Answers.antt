@@ -12,7 +12,7 @@ use Rattle.operand.specs.Layouts.{token_size, longest_line, most_tokens}
 use Rattle.operand.specs.Entry.{line_and_list, first_of}
 use Rattle.refusals.proofs.refusals.Checks.{no_tokens, many_tokens, good_list}
 use Rattle.refusals.proofs.refusals.refuse_line_and_list.Goals as goal
-use Rattle.refusals.proofs.refusals.refuse_line_and_list.Goals.{then-token_size-count-via-then-token_size-count, then-token_size-count-via-else-token_size-count+then-most_tokens-count}
+use Rattle.refusals.proofs.refusals.refuse_line_and_list.Goals.{then-tokens-token_size-ne0-via-then-tokens-token_size-ne0, then-tokens-token_size-ne0-via-else-tokens-token_size-ne0+then-most_tokens-count}
 
 pub returns-then-longest_line-line : goal.returns-then-longest_line-line
 unfolding first_of line_and_list
@@ -24,15 +24,15 @@ unfolding first_of line_and_list
 returns-then-foreign c =
     rw (le-ltb (longest_line c.args.layout) (length c.args.line.now) (omega (arith, c.if-longest_line-line.false, c.longest_line.ensures)), sym c.foreign.ensures ∙ c.if-foreign.true)
 
-pub returns-then-token_size-count : goal.returns-then-token_size-count
+pub returns-then-tokens-token_size-ne0 : goal.returns-then-tokens-token_size-ne0
 unfolding first_of line_and_list
-returns-then-token_size-count c =
+returns-then-tokens-token_size-ne0 c =
     rw (
       le-ltb (longest_line c.args.layout) (length c.args.line.now) (omega (arith, c.if-longest_line-line.false, c.longest_line.ensures)),
       sym c.foreign.ensures ∙ c.if-foreign.false,
-      elim c.then-token_size-count.branch as (λ _. either (not (eqb (length c.args.tokens.now % token_size c.args.layout) 0)) (ltb (most_tokens c.args.layout) (length c.args.tokens.now / token_size c.args.layout)) ≡ true) [
-        | then-token_size-count-via-then-token_size-count w ↦ no_tokens c.args.layout _ _ _ c.token_size.ensures c.token_count-count.ensures w.if-token_size-count.true
-        | then-token_size-count-via-else-token_size-count+then-most_tokens-count w ↦ many_tokens c.args.layout _ _ _ c.token_size.ensures c.token_count-count.ensures _ w.most_tokens.ensures w.if-most_tokens-count.true
+      elim c.then-tokens-token_size-ne0.branch as (λ _. either (not (eqb (length c.args.tokens.now % token_size c.args.layout) 0)) (ltb (most_tokens c.args.layout) (length c.args.tokens.now / token_size c.args.layout)) ≡ true) [
+        | then-tokens-token_size-ne0-via-then-tokens-token_size-ne0 w ↦ no_tokens c.args.layout _ _ c.token_size.ensures w.if-tokens-token_size-ne0.true
+        | then-tokens-token_size-ne0-via-else-tokens-token_size-ne0+then-most_tokens-count w ↦ many_tokens c.args.layout _ _ c.token_size.ensures _ _ c.token_count-count.ensures w.most_tokens.ensures w.if-most_tokens-count.true
       ],
     )
 
@@ -42,5 +42,5 @@ returns c =
     rw (
       le-ltb (longest_line c.args.layout) (length c.args.line.now) (omega (arith, c.if-longest_line-line.false, c.longest_line.ensures)),
       sym c.foreign.ensures ∙ c.if-foreign.false,
-      good_list c.args.layout _ _ _ c.token_size.ensures c.token_count-count.ensures _ c.most_tokens.ensures c.if-token_size-count.false c.if-most_tokens-count.false,
+      good_list c.args.layout _ _ c.token_size.ensures _ _ c.token_count-count.ensures c.most_tokens.ensures c.if-tokens-token_size-ne0.false c.if-most_tokens-count.false,
     )
