@@ -63,15 +63,14 @@ fn show(rt: &impl Print, line: &[u8]) {
     put(rt, line);
     put(rt, b":");
     show_found(rt, b" register=", names::parse_register(line));
-    // `as` is how the language gives an enum's discriminant
-    let special = SpecialRegister::parse(line).map(|register| register as u8);
+    let special = SpecialRegister::parse(line).map(u8::from);
     show_found(rt, b" special=", special);
     put(rt, b" pc=");
     put_flag(rt, names::is_program_counter(line));
     show_suppressed(rt, line);
     put(rt, b" reserved=");
     put_flag(rt, names::is_reserved_name(line));
-    let size = SizeSuffix::from_run(names::suffix_run(line)).map(|size| size as u8);
+    let size = SizeSuffix::from_run(names::suffix_run(line)).map(u8::from);
     show_found(rt, b" size=", size);
     put(rt, b" numbers=");
     show_number(rt, 0, line);

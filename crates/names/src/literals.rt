@@ -52,6 +52,7 @@ pub fn string_literal_bytes(text: &[u8], out: &mut [u8]) -> Option<usize>
     if out.len() < n {
         return None;
     }
+    // by index, tried: of a store through `zip` with `iter_mut` nothing is told behind the adapter
     for (i, byte) in bytes.enumerate() {
         out[i] = byte;
     }

@@ -1,8 +1,8 @@
 // Registers by name. A register is its mask index: d0 to d7 are 0 to 7, a0 to a7 are 8 to 15, and `sp` is a7.
-ghost use Rattle.std.specs.Prelude.{◌≡◌, length};
+ghost use Rattle.std.specs.Prelude.{◌≡◌, Some, length};
 ghost use Rattle.names.specs.Letters.{lower};
 ghost use Rattle.names.specs.Registers.{first_of_bank, program_counter, special_of, reserved};
-ghost use Rattle.names.specs.Cases.{RegisterTold, SpecialTold, SuppressedTold};
+ghost use Rattle.names.specs.Cases.{special_number, RegisterTold, SpecialTold, SuppressedTold};
 
 use crate::letters::{lower, spells};
 
@@ -22,6 +22,15 @@ pub enum SpecialRegister {
     Caar,
     Msp,
     Isp,
+}
+
+// The number that a record has.
+impl From<SpecialRegister> for u8 {
+    ghost from_gives = { λ x n. n ≡ special_number (Some x) };
+
+    fn from(x: SpecialRegister) -> u8 {
+        x as u8
+    }
 }
 
 // What is written with a `z`: a register, by its mask index, or the program counter.
@@ -121,7 +130,7 @@ pub fn suppressed_register(name: &[u8]) -> Option<Suppressed>
     if is_program_counter(rest) {
         return Some(Suppressed::ProgramCounter);
     }
-    Some(Suppressed::Register(parse_register(rest)?))
+    parse_register(rest).map(Suppressed::Register)
 }
 
 // Whether a name is one of the 28 that no symbol may have. None has more than four letters, so a label is mostly left at once.

@@ -1,7 +1,7 @@
 // Size suffixes.
-ghost use Rattle.std.specs.Prelude.{◌≡◌};
+ghost use Rattle.std.specs.Prelude.{◌≡◌, Some};
 ghost use Rattle.names.specs.Sizes.{run_of};
-ghost use Rattle.names.specs.Cases.{SizeTold};
+ghost use Rattle.names.specs.Cases.{size_number, SizeTold};
 
 use crate::letters::lower;
 use crate::tokens::behind_first;
@@ -13,6 +13,15 @@ pub enum SizeSuffix {
     Word,
     Long,
     Short,
+}
+
+// The number that a record has.
+impl From<SizeSuffix> for u8 {
+    ghost from_gives = { λ x n. n ≡ size_number (Some x) };
+
+    fn from(x: SizeSuffix) -> u8 {
+        x as u8
+    }
 }
 
 // The run of a size suffix: its text behind the first byte, whatever that is.

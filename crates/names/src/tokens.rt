@@ -22,7 +22,7 @@ pub struct Token {
 }
 
 // The token at a place of the list, whose numbers may be bytes; from the list's end on there is none.
-// By index: `as_chunks` of any element asks that four fit the memory, and `get` with a pattern tests twice (docs/SPEED.md).
+// By index, tried: `as_chunks` of any element owes a proof that four fit the memory; `get` with a pattern is slower (docs/SPEED.md).
 pub fn token_at<T: Copy + Into<u16>>(tokens: &[T], i: usize) -> Option<Token>
     ensures { TokenRead T.converts tokens.now i result }
 {

@@ -115,8 +115,7 @@ fn named_operand(
     match SpecialRegister::parse(source.text_of(token)) {
         Some(n) => {
             out.counters.step_over(token);
-            // Its discriminant is its number in the record.
-            Some(special_register(n as u8, Span::from(token)))
+            Some(special_register(u8::from(n), Span::from(token)))
         }
         None => parse_expression_operand(source, nodes, out),
     }

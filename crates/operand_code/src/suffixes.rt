@@ -33,7 +33,7 @@ pub(crate) fn suffix_run(source: &Source, out: &mut Progress, from: u16, token: 
     }
     match SizeSuffix::from_run(run) {
         Some(n) => Suffixed {
-            size: n as u8,
+            size: u8::from(n),
             span,
         },
         None => {

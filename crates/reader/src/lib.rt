@@ -1,4 +1,4 @@
-// A thin reader: the lent line, its tokens and a place among them. A function over the struct leaves the work to one of plain parameters.
+// A thin reader: the lent line, its tokens and a place among them. A method leaves the work to a function of plain parameters.
 #![tactic(auto)]
 
 ghost use Rattle.std.specs.Prelude.{◌≡◌};
@@ -39,32 +39,34 @@ pub fn next_place(tokens: &[u8], place: usize) -> usize
     }
 }
 
-// A reader at a place, which does not pass the end.
-pub fn new<'a, 'b>(line: &'a [u8], tokens: &'b [u8], place: usize) -> Reader<'a, 'b>
-    ensures { (result.line ≡ line.entry) × (result.tokens ≡ tokens.entry) × (result.place ≡ place_in tokens.now place) }
-{
-    let place = place_in(tokens, place);
-    Reader {
-        line,
-        tokens,
-        place,
+impl<'a, 'b> Reader<'a, 'b> {
+    // A reader at a place, which does not pass the end.
+    pub fn new(line: &'a [u8], tokens: &'b [u8], place: usize) -> Reader<'a, 'b>
+        ensures { (result.line ≡ line.entry) × (result.tokens ≡ tokens.entry) × (result.place ≡ place_in tokens.now place) }
+    {
+        let place = place_in(tokens, place);
+        Reader {
+            line,
+            tokens,
+            place,
+        }
     }
-}
 
-// The text of the token at the reader's place: a part of the caller's line, for as long as the line is lent.
-pub fn text<'a, 'b>(r: Reader<'a, 'b>) -> &'a [u8]
-    ensures { result.now ≡ text_at r.entry.line.now r.entry.tokens.now r.entry.place }
-{
-    text_at(r.line, r.tokens, r.place)
-}
+    // The text of the token at the reader's place: a part of the caller's line, for as long as the line is lent.
+    pub fn text(self) -> &'a [u8]
+        ensures { result.now ≡ text_at self.entry.line.now self.entry.tokens.now self.entry.place }
+    {
+        text_at(self.line, self.tokens, self.place)
+    }
 
-// The reader behind the token at its place.
-pub fn advance<'a, 'b>(r: Reader<'a, 'b>) -> Reader<'a, 'b>
-    ensures { (result.line ≡ r.entry.line) × (result.tokens ≡ r.entry.tokens) × (result.place ≡ next_place r.entry.tokens.now r.entry.place) }
-{
-    Reader {
-        place: next_place(r.tokens, r.place),
-        ..r
+    // The reader behind the token at its place.
+    pub fn advance(self) -> Reader<'a, 'b>
+        ensures { (result.line ≡ self.entry.line) × (result.tokens ≡ self.entry.tokens) × (result.place ≡ next_place self.entry.tokens.now self.entry.place) }
+    {
+        Reader {
+            place: next_place(self.tokens, self.place),
+            ..self
+        }
     }
 }
 
@@ -72,5 +74,5 @@ pub fn advance<'a, 'b>(r: Reader<'a, 'b>) -> Reader<'a, 'b>
 pub fn next_text<'a, 'b>(line: &'a [u8], tokens: &'b [u8], place: usize) -> &'a [u8]
     ensures { result.now ≡ text_at line.now tokens.now (next_place tokens.now (place_in tokens.now place)) }
 {
-    text(advance(new(line, tokens, place)))
+    Reader::new(line, tokens, place).advance().text()
 }

@@ -1,6 +1,7 @@
 -- `names::registers::suppressed_register` meets its contract.
 -- Assumes nothing.
-use Rattle.std.proofs.Common.{sym, ◌∙◌, arith}
+use Rattle.std.proofs.Common.{◌≡◌, sym, ◌∙◌, arith}
+use Rattle.std.proofs.lemmas.Grind.{common_steps}
 use Rattle.names.specs.Registers.{suppressing}
 use Rattle.names.proofs.Cases.{told_suppressed}
 use Rattle.names.proofs.letters.Spelling.{lower_std}
@@ -19,12 +20,8 @@ pub returns-then-is_program_counter : goal.returns-then-is_program_counter
 returns-then-is_program_counter c =
     told_suppressed (rw (suppressed_some _ c.in-len1-up.len_at_least, ← lower_std, ← c.if-not-eq_ignore_ascii_case.ensures, ← c.if-is_program_counter.ensures))
 
-pub returns-in_err-parse_register : goal.returns-in_err-parse_register
-unfolding suppressing
-returns-in_err-parse_register c =
-    told_suppressed (c.from_residual.ensures ∙ rw (suppressed_some _ c.in-len1-up.len_at_least, ← lower_std, ← c.if-not-eq_ignore_ascii_case.ensures, ← c.if-is_program_counter.ensures, ← c.parse_register.ensures.register, c.in_err-parse_register.was))
-
 pub returns : goal.returns
 unfolding suppressing
 returns c =
-    told_suppressed (rw (suppressed_some _ c.in-len1-up.len_at_least, ← lower_std, ← c.if-not-eq_ignore_ascii_case.ensures, ← c.if-is_program_counter.ensures, ← c.parse_register.ensures.register, c.in_ok-parse_register.was))
+    let m : c.map.result ≡ suppressing c.parse_register.result = grind (arith, common_steps) in
+    told_suppressed (m ∙ rw (suppressed_some _ c.in-len1-up.len_at_least, ← lower_std, ← c.if-not-eq_ignore_ascii_case.ensures, ← c.if-is_program_counter.ensures, ← c.parse_register.ensures.register))

@@ -2,12 +2,7 @@
 -- Assumes nothing.
 use mathlib.Core.Path.{refl, sym, ◌∙◌, ap}
 use native.Mathlib.Omega.{arith}
-use denote.Enum.Declared.{tag_of}
-use Rattle.std.proofs.Common.{◌≡◌, ◌+◌, Some}
-use Rattle.names.specs.Cases.{special_number}
-use Rattle.names.specs.contracts.registers.SpecialRegister.{the_type}
-use Rattle.names.specs.declared.registers.SpecialRegister.{SpecialRegister}
-use Rattle.names.specs.declared.registers.SpecialRegister.TheVariants.{Sr, Ccr, Usp, Sfc, Dfc, Vbr, Cacr, Caar, Msp, Isp}
+use Rattle.std.proofs.Common.{Some}
 use Rattle.names.specs.Registers.{special_of}
 use Rattle.operand.specs.Operand.{name_or_expression, parse_register_operand}
 use Rattle.expressions.specs.Paths.{renamed, hit, miss}
@@ -15,19 +10,6 @@ use Rattle.operand_code.proofs.lookahead.Names.{reg_is, reg_not, reg_small}
 use Rattle.operand_code.proofs.operands.Returns.{register_read, special_is, special_not, special_told}
 use Rattle.operand_code.proofs.Rooms.{over_room, room_over}
 use Rattle.operand_code.proofs.operands.named_operand.Goals as goal
-
--- its discriminant is its number
-special_code : (r : SpecialRegister) → special_number (Some r) ≡ tag_of the_type r + 1
-special_code Sr = refl
-special_code Ccr = refl
-special_code Usp = refl
-special_code Sfc = refl
-special_code Dfc = refl
-special_code Vbr = refl
-special_code Cacr = refl
-special_code Caar = refl
-special_code Msp = refl
-special_code Isp = refl
 
 pub parse_register_operand-requires : goal.parse_register_operand-requires
 parse_register_operand-requires c =
@@ -56,7 +38,7 @@ returns-in-Some-parse-clause-told c =
     record {
       told = miss c.requires.2 (reg_not _ _ (sym c.register_at.ensures ∙ c.in_default.is))
           (hit c.requires.2 (special_is c.args.token _ c.requires.3 q) e
-          (special_told _ c.args.out.now.counters c.args.token _ c.requires.1 e q (special_code c.in-Some-parse.n) c.from.ensures (ap Some c.special_register.ensures, refl)));
+          (special_told _ c.args.out.now.counters c.args.token _ c.requires.1 e q (sym c.from.ensures) c.from-in-Some-parse.ensures (ap Some c.special_register.ensures, refl)));
     }
 
 pub returns-in-None-clause-told : goal.returns-in-None-clause-told

@@ -1,24 +1,11 @@
 -- `operand_code::suffixes::suffix_run` meets its contract.
 -- Assumes nothing.
-use mathlib.Core.Path.{refl, sym, ◌∙◌, ap}
+use mathlib.Core.Path.{sym, ◌∙◌, ap}
 use native.Mathlib.Omega.{arith}
-use denote.Enum.Declared.{tag_of}
-use Rattle.std.proofs.Common.{◌≡◌, ◌+◌, Some}
-use Rattle.names.specs.Cases.{size_number}
 use Rattle.names.specs.Sizes.{run_of, size_of}
-use Rattle.names.specs.contracts.sizes.SizeSuffix.{the_type}
-use Rattle.names.specs.declared.sizes.SizeSuffix.{SizeSuffix}
-use Rattle.names.specs.declared.sizes.SizeSuffix.TheVariants.{Byte, Word, Long, Short}
 use Rattle.expressions.specs.Paths.{told_one}
 use Rattle.operand_code.proofs.indexes.Returns.{suffix_dotted, suffix_known, suffix_unknown}
 use Rattle.operand_code.proofs.suffixes.suffix_run.Goals as goal
-
--- its discriminant is its number
-size_code : (z : SizeSuffix) → size_number (Some z) ≡ tag_of the_type z + 1
-size_code Byte = refl
-size_code Word = refl
-size_code Long = refl
-size_code Short = refl
 
 pub returns-then-run-ge2-clause-told : goal.returns-then-run-ge2-clause-told
 returns-then-run-ge2-clause-told c =
@@ -26,7 +13,7 @@ returns-then-run-ge2-clause-told c =
 
 pub returns-in-Some-clause-told : goal.returns-in-Some-clause-told
 returns-in-Some-clause-told c =
-    suffix_known _ _ _ c.args.out.now.diagnostics.now _ _ _ (c.suffix_run-run.ensures ∙ ap run_of c.text_of.ensures) c.if-run-ge2.false c.from-span.ensures (sym (ap size_of (c.suffix_run-run.ensures ∙ ap run_of c.text_of.ensures)) ∙ sym c.from_run.ensures.size ∙ c.in-Some.is) (size_code c.in-Some.n)
+    suffix_known _ _ _ c.args.out.now.diagnostics.now _ _ _ (c.suffix_run-run.ensures ∙ ap run_of c.text_of.ensures) c.if-run-ge2.false c.from-span.ensures (sym (ap size_of (c.suffix_run-run.ensures ∙ ap run_of c.text_of.ensures)) ∙ sym c.from_run.ensures.size ∙ c.in-Some.is) (sym c.from.ensures)
 
 pub returns-in-None-clause-told : goal.returns-in-None-clause-told
 returns-in-None-clause-told c =
