@@ -1,5 +1,5 @@
 // What stands at a place, as the Rust's `register_at` and its like ask. A token has been looked at already.
-ghost use Rattle.std.specs.Prelude.{◌≡◌, true, false, not, ◌+◌, ◌≤◌, eqb};
+ghost use Rattle.std.specs.Prelude.{◌≡◌, true, false, not, ◌+◌, eqb};
 ghost use Rattle.names.specs.Choice.{pick, both, either};
 ghost use Rattle.names.specs.Kinds;
 ghost use Rattle.names.specs.Places.{text_of, place};
