@@ -63,8 +63,7 @@ fn after_base_register(
     ensures lent { out.new.diagnostics.ghost_name ≡ out.old.diagnostics.ghost_name }
     ensures told { Tells (λ z. z) (Same out.old.counters.nodes) (after_base_register source.now.setting (Shapes.number shape) base) source.now out.old out.new result }
 {
-    let at = usize::from(out.counters.at);
-    if is_an_index_at(source, at + 1) {
+    if is_an_index_at(source, out.counters.at + 1) {
         return comma_and_index(source, out, shape, base);
     }
     Some(Registers { base, index: None })
@@ -76,7 +75,7 @@ fn no_base(source: &Source, out: &mut Progress, shape: OperandShape) -> Option<R
     ensures lent { out.new.diagnostics.ghost_name ≡ out.old.diagnostics.ghost_name }
     ensures told { Tells (λ z. z) (Same out.old.counters.nodes) (no_base source.now.setting (Shapes.number shape)) source.now out.old out.new result }
 {
-    if is_an_index_at(source, usize::from(out.counters.at)) {
+    if is_an_index_at(source, out.counters.at) {
         return with_index(source, out, shape, BaseRegister::Omitted);
     }
     stepped_over(source, out, shape, Problem::BaseOrIndexMissing);
@@ -95,7 +94,7 @@ pub(crate) fn parse_base_and_index_registers(
     let Some(t) = source.peek(out.counters) else {
         return no_base(source, out, shape);
     };
-    let base = base_at(source, usize::from(out.counters.at), t);
+    let base = base_at(source, out.counters.at, t);
     if is_base(base) {
         out.counters.step_over(t);
         return after_base_register(source, out, shape, base);

@@ -148,8 +148,7 @@ pub(crate) fn parse_index_register(
         stepped_over(source, out, shape, Problem::IndexMissing);
         return None;
     };
-    let at = usize::from(out.counters.at);
-    if let Some(index) = suppressed_index_at(source, t, at) {
+    if let Some(index) = suppressed_index_at(source, t, out.counters.at) {
         out.counters.step_over(t);
         return index_register(source, out, shape, register_of(index, t), true);
     }

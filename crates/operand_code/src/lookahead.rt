@@ -1,5 +1,5 @@
 // What stands at a place, as the Rust's `register_at` and its like ask. A token has been looked at already.
-ghost use Rattle.std.specs.Prelude.{◌≡◌, true, false, not, ◌+◌, ◌≤◌, eqb};
+ghost use Rattle.std.specs.Prelude.{◌≡◌, true, false, not, ◌+◌, eqb};
 ghost use Rattle.names.specs.Choice.{pick, both, either};
 ghost use Rattle.names.specs.Kinds;
 ghost use Rattle.names.specs.Places.{text_of, place};
@@ -57,12 +57,12 @@ pub(crate) fn program_counter_at(source: &Source, token: Token) -> bool
     token.kind == kinds::IDENTIFIER && names::is_program_counter(source.text_of(token))
 }
 
-// The mark may turn the place i into a symbol. It is a `u32`, of which there is no `usize::from`.
+// The mark may turn the place i into a symbol.
 #[tactic(auto, unfolding(crate::specs::Lookahead::suppressed_at))]
-pub(crate) fn suppressed_register_at(source: &Source, token: Token, i: usize) -> Option<Suppressed>
+pub(crate) fn suppressed_register_at(source: &Source, token: Token, i: u16) -> Option<Suppressed>
     ensures { result ≡ suppressed_at source.now.setting i token (text_of source.now.line.now token.start token.end) }
 {
-    if source.setting.mark as usize == i || token.kind != kinds::IDENTIFIER {
+    if source.setting.mark == u32::from(i) || token.kind != kinds::IDENTIFIER {
         return None;
     }
     names::suppressed_register(source.text_of(token))
@@ -70,7 +70,7 @@ pub(crate) fn suppressed_register_at(source: &Source, token: Token, i: usize) ->
 
 // The suppressed register at the place i, if it is one that may be an index.
 #[tactic(auto, unfolding(crate::specs::Lookahead::suppressed_reg))]
-pub(crate) fn suppressed_index_at(source: &Source, token: Token, i: usize) -> Option<u8>
+pub(crate) fn suppressed_index_at(source: &Source, token: Token, i: u16) -> Option<u8>
     ensures { result ≡ suppressed_reg (suppressed_at source.now.setting i token (text_of source.now.line.now token.start token.end)) }
 {
     match suppressed_register_at(source, token, i) {
@@ -81,10 +81,10 @@ pub(crate) fn suppressed_index_at(source: &Source, token: Token, i: usize) -> Op
 
 // A register, or a suppressed one, that may be an index. A `match` here and below: at `is_some_and` a closure that calls other functions needs their contract written once more (tried).
 #[tactic(auto, using(crate::proofs::lookahead::Names::an_index_lem), unfolding(expressions::specs::Laws::holds, names::specs::Places::place, names::specs::Places::placed))]
-pub(crate) fn is_an_index_at(source: &Source, i: usize) -> bool
+pub(crate) fn is_an_index_at(source: &Source, i: u16) -> bool
     ensures { result ≡ holds (an_index source.now.setting i) (place source.now.line.now source.now.tokens.now i) }
 {
-    match source.token_at(i) {
+    match source.token_at(usize::from(i)) {
         Some(t) => is_register_at(source, t) || suppressed_index_at(source, t, i).is_some(),
         None => false,
     }
@@ -92,7 +92,7 @@ pub(crate) fn is_an_index_at(source: &Source, i: usize) -> bool
 
 // A register or the program counter, suppressed or not.
 #[tactic(auto, using(crate::proofs::lookahead::Names::a_base_or_an_index_lem))]
-pub(crate) fn is_a_base_or_an_index(source: &Source, token: Token, i: usize) -> bool
+pub(crate) fn is_a_base_or_an_index(source: &Source, token: Token, i: u16) -> bool
     ensures { result ≡ a_base_or_an_index source.now.setting i token (text_of source.now.line.now token.start token.end) }
 {
     program_counter_at(source, token)
@@ -113,16 +113,15 @@ pub(crate) fn closes_at(source: &Source, i: usize, paren: bool, comma: bool) -> 
     })
 }
 
-// A suppressed register, a data register that is no base, or an address register with a size or a scale. Here and below `i ≤ 1023` keeps
-// i + 1 in range: without it `i.saturating_add(1)` is not the contracts' i + 1 at every i (tried).
+// A suppressed register, a data register that is no base, or an address register with a size or a scale.
+// What stands one further is asked by a `usize`, which holds each i + 1.
 #[tactic(auto, using(crate::proofs::lookahead::Names::unmarked_is, crate::proofs::lookahead::Names::suppressed_asked), unfolding(crate::specs::Lookahead::full_index_starts, operand::specs::Operand::is_suppressed, expressions::specs::Laws::holds, names::specs::Places::place, names::specs::Places::placed))]
-pub(crate) fn starts_a_full_index(source: &Source, i: usize) -> bool
-    requires { i ≤ 1023 }
+pub(crate) fn starts_a_full_index(source: &Source, i: u16) -> bool
     ensures { result ≡ full_index_starts source.now.setting (place source.now.line.now source.now.tokens.now) i }
 {
-    match source.token_at(i) {
+    match source.token_at(usize::from(i)) {
         Some(t) => match suppressed_register_at(source, t, i) {
-            Some(_) => closes_at(source, i + 1, true, true),
+            Some(_) => closes_at(source, usize::from(i) + 1, true, true),
             None => register_starts(source, i, t),
         },
         None => false,
@@ -131,26 +130,24 @@ pub(crate) fn starts_a_full_index(source: &Source, i: usize) -> bool
 
 // A register that a full index begins with, by what follows it.
 #[tactic(auto, using(crate::proofs::lookahead::Names::reg_not, crate::proofs::lookahead::Names::address_none, crate::proofs::lookahead::Starts::register_starts))]
-fn register_starts(source: &Source, i: usize, token: Token) -> bool
-    requires { i ≤ 1023 }
+fn register_starts(source: &Source, i: u16, token: Token) -> bool
     ensures { result ≡ pick (an_address_register token (text_of source.now.line.now token.start token.end)) (holds (closes false false) (place source.now.line.now source.now.tokens.now (i + 1))) (both (a_register token (text_of source.now.line.now token.start token.end)) (holds (closes true false) (place source.now.line.now source.now.tokens.now (i + 1)))) }
 {
     match register_at(source, token) {
-        Some(index) => closes_at(source, i + 1, index < 8, false),
+        Some(index) => closes_at(source, usize::from(i) + 1, index < 8, false),
         None => false,
     }
 }
 
 // A register or the program counter, and then a parenthesis, a comma or the end.
 #[tactic(auto, unfolding(crate::specs::Lookahead::base_starts, expressions::specs::Laws::holds, names::specs::Places::place, names::specs::Places::placed))]
-pub(crate) fn starts_a_base(source: &Source, i: usize) -> bool
-    requires { i ≤ 1023 }
+pub(crate) fn starts_a_base(source: &Source, i: u16) -> bool
     ensures { result ≡ base_starts (place source.now.line.now source.now.tokens.now) i }
 {
-    match source.token_at(i) {
+    match source.token_at(usize::from(i)) {
         Some(t) => {
             (is_register_at(source, t) || program_counter_at(source, t))
-                && ends_a_base(source, i + 1)
+                && ends_a_base(source, usize::from(i) + 1)
         }
         None => false,
     }
@@ -168,8 +165,7 @@ fn ends_a_base(source: &Source, i: usize) -> bool
 
 // The base that the token at the place i is, if it is one: a size or a scale makes an address register an index.
 #[tactic(auto, unfolding(crate::specs::Lookahead::base_at, crate::specs::Lookahead::is_counter, crate::specs::Lookahead::suppressed_base))]
-pub(crate) fn base_at(source: &Source, i: usize, token: Token) -> BaseRegister
-    requires { i ≤ 1023 }
+pub(crate) fn base_at(source: &Source, i: u16, token: Token) -> BaseRegister
     ensures { result ≡ base_at source.now.setting (place source.now.line.now source.now.tokens.now) i token (text_of source.now.line.now token.start token.end) }
 {
     if program_counter_at(source, token) {
@@ -189,11 +185,10 @@ pub(crate) fn base_at(source: &Source, i: usize, token: Token) -> BaseRegister
 
 // An address register, or else the other base; none with a size or a scale.
 #[tactic(auto, using(crate::proofs::lookahead::Starts::closes_neither), unfolding(crate::specs::Lookahead::address_base, crate::specs::Lookahead::address_of))]
-fn address_at(source: &Source, i: usize, token: Token, other: BaseRegister) -> BaseRegister
-    requires { i ≤ 1023 }
+fn address_at(source: &Source, i: u16, token: Token, other: BaseRegister) -> BaseRegister
     ensures { result ≡ pick (holds size_or_scale (place source.now.line.now source.now.tokens.now (i + 1))) BaseRegister.Omitted (address_base (reg_at token (text_of source.now.line.now token.start token.end)) token other) }
 {
-    if closes_at(source, i + 1, false, false) {
+    if closes_at(source, usize::from(i) + 1, false, false) {
         return BaseRegister::Omitted;
     }
     match address_register_at(source, token) {

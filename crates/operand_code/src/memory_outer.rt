@@ -108,7 +108,7 @@ pub(crate) fn parse_outer(
         });
     };
     out.counters.step_over(t);
-    if is_an_index_at(source, usize::from(out.counters.at)) {
+    if is_an_index_at(source, out.counters.at) {
         return outer_index(source, nodes, out, index);
     }
     outer_displaced(source, nodes, out, index, PREINDEXED)

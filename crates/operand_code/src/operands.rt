@@ -14,7 +14,7 @@ ghost use Rattle.operand_code.specs.Lists.{ListAsks};
 use crate::absolutes::parse_expression_operand;
 use crate::immediates::parse_immediate;
 use crate::lists::parse_register_list;
-use crate::lookahead::{is_register_at, register_at, register_of};
+use crate::lookahead::{address_register_at, is_register_at, register_at, register_of};
 use crate::malformed::{expect_close, not_an_address_register};
 use crate::parentheses::parse_parenthesised_operand;
 use crate::steps::plain_operand;
@@ -38,11 +38,10 @@ fn parse_predecrement(
     ensures told { KeptBy undisplaced (predecrement_close source.now.setting minus paren token (register_from token (text_of source.now.line.now token.start token.end))) source.now out.old out.new result }
 {
     let shape = OperandShape::Predecrement;
-    let index = register_at(source, token)?;
-    if index < 8 {
+    let Some(index) = address_register_at(source, token) else {
         not_an_address_register(source, out, shape, token);
         return None;
-    }
+    };
     let end = expect_close(source, out, paren, shape)?;
     let span = Span {
         start: minus.start,

@@ -89,7 +89,7 @@ fn after_comma(
     ensures lent { out.new.diagnostics.ghost_name ≡ out.old.diagnostics.ghost_name }
     ensures told { BaseBy (λ y. after_comma source.now.setting paren y) source.now out.old out.new d result }
 {
-    if starts_a_full_index(source, usize::from(out.counters.at)) {
+    if starts_a_full_index(source, out.counters.at) {
         return parse_full_index(source, out, paren, d);
     }
     parse_base_and_index(source, out, paren, d)
@@ -176,11 +176,10 @@ fn unbracketed(
     ensures lent { out.new.diagnostics.ghost_name ≡ out.old.diagnostics.ghost_name }
     ensures told { OperandBy (unbracketed source.now.setting paren) source.now out.old nodes.new out.new result }
 {
-    let at = usize::from(out.counters.at);
-    if starts_a_full_index(source, at) {
+    if starts_a_full_index(source, out.counters.at) {
         return parse_full_index(source, out, paren, None);
     }
-    if starts_a_base(source, at) {
+    if starts_a_base(source, out.counters.at) {
         return parse_base_and_index(source, out, paren, None);
     }
     parenthesised(source, nodes, out, paren)

@@ -152,6 +152,29 @@ address_miss t x h = go (reg_at t x) refl h
     go (Some n) e g = found n e (leb 8 n) refl g
     go None e g = address_none t x e
 
+-- its number
+pub address_number : (m : Option ℕ) {r : ℕ} → address_of m ≡ Some r → leb 8 r ≡ true
+unfolding address_of
+address_number (Some n) {r} h = found (leb 8 n) refl h
+  where
+    found : (b : Bool) → leb 8 n ≡ b → pick b (Some n) None ≡ Some r → leb 8 r ≡ true
+    found true q g = let z : n ≡ r = cc in sym (ap (leb 8) z) ∙ q
+    found false q g = absurd (none-some _ g)
+address_number None h = absurd (none-some _ h)
+
+-- a register that is no address register
+pub data_number : (t : Token) (x : List ℕ) → a_register t x ≡ true → address_of (reg_at t x) ≡ None → leb 8 (register_from t x).index ≡ false
+unfolding address_of
+data_number t x k h = go (reg_at t x) refl h
+  where
+    found : (n : ℕ) (b : Bool) → leb 8 n ≡ b → pick b (Some n) None ≡ None → leb 8 n ≡ false
+    found n true q g = absurd (none-some _ (sym g))
+    found n false q g = q
+
+    go : (m : Option ℕ) → reg_at t x ≡ m → address_of m ≡ None → leb 8 (register_from t x).index ≡ false
+    go (Some n) e g = ap (λ z. leb 8 z.index) (reg_from t x n e) ∙ found n (leb 8 n) refl g
+    go None e g = absurd (true_false (sym k ∙ reg_not t x e))
+
 pub reg_small : (t : Token) (x : List ℕ) (r : ℕ) → reg_at t x ≡ Some r → r < 16
 unfolding register_of
 reg_small t x r h = register_small (lowered x) r (named t x r h)

@@ -8,9 +8,9 @@ use Rattle.operand_code.proofs.full.after_base_register.Goals as goal
 pub returns-then-is_an_index_at-clause-told : goal.returns-then-is_an_index_at-clause-told
 unfolding after_base_register
 returns-then-is_an_index_at-clause-told c =
-    hereby (passed (rw (← c.from-at.ensures) (sym c.is_an_index_at.ensures ∙ c.if-is_an_index_at.true)) (λ k x. c.comma_and_index.ensures.told))
+    hereby (passed (sym c.is_an_index_at.ensures ∙ c.if-is_an_index_at.true) (λ k x. c.comma_and_index.ensures.told))
 
 pub returns-clause-told : goal.returns-clause-told
 unfolding after_base_register
 returns-clause-told c =
-    hereby (unseen (rw (← c.from-at.ensures) (sym c.is_an_index_at.ensures ∙ c.if-is_an_index_at.false)) (answered refl refl refl))
+    hereby (unseen (sym c.is_an_index_at.ensures ∙ c.if-is_an_index_at.false) (answered refl refl refl))

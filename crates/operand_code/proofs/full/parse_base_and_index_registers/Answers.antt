@@ -19,8 +19,8 @@ after_base_register-requires c =
 
 pub returns-then-is_base-clause-told : goal.returns-then-is_base-clause-told
 returns-then-is_base-clause-told c =
-    base_read _ _ (sym c.peek.ensures ∙ c.in-Some.is) (rw (← c.from.ensures) (sym c.base_at-base.ensures)) (some_base _ (sym c.is_base.ensures ∙ c.if-is_base.true)) (over_is (omega (arith, c.requires)) c.step_over.ensures) (same c.step_over.ensures.nodes c.after_base_register.ensures.told)
+    base_read _ _ (sym c.peek.ensures ∙ c.in-Some.is) (sym c.base_at-base.ensures) (some_base _ (sym c.is_base.ensures ∙ c.if-is_base.true)) (over_is (omega (arith, c.requires)) c.step_over.ensures) (same c.step_over.ensures.nodes c.after_base_register.ensures.told)
 
 pub returns-clause-told : goal.returns-clause-told
 returns-clause-told c =
-    base_none _ _ (sym c.peek.ensures ∙ c.in-Some.is) (rw (← c.from.ensures) (sym c.base_at-base.ensures) ∙ no_base_lem _ (sym c.is_base.ensures ∙ c.if-is_base.false)) c.no_base-2.ensures.told
+    base_none _ _ (sym c.peek.ensures ∙ c.in-Some.is) (sym c.base_at-base.ensures ∙ no_base_lem _ (sym c.is_base.ensures ∙ c.if-is_base.false)) c.no_base-2.ensures.told

@@ -25,14 +25,14 @@ pub returns-in-Some-suppressed_index_at-clause-told : goal.returns-in-Some-suppr
 unfolding parse_index_register
 returns-in-Some-suppressed_index_at-clause-told c =
     let t = sym c.peek.ensures ∙ c.in-Some.is in
-    let h = rw c.from-at.ensures at (sym c.suppressed_index_at.ensures ∙ c.in-Some-suppressed_index_at.is) in
+    let h = sym c.suppressed_index_at.ensures ∙ c.in-Some-suppressed_index_at.is in
     hereby (miss t (suppressed_no_register _ _ _ _ h) (hit_same t (suppressed_hit _ _ _ _ h) (over_room c.requires c.step_over.ensures) (renamed (ap (λ z. index_register c.args.source.now.setting (Shapes.number c.args.shape) z true) (c.register_of.ensures ∙ suppressed_as _ _ _ _ h refl)) c.index_register.ensures.told)))
 
 pub returns-in_default-register_at-clause-told : goal.returns-in_default-register_at-clause-told
 unfolding parse_index_register
 returns-in_default-register_at-clause-told c =
     let t = sym c.peek.ensures ∙ c.in-Some.is in
-    let h = rw c.from-at.ensures at (sym c.suppressed_index_at.ensures ∙ c.in_default-suppressed_index_at.is) in
+    let h = sym c.suppressed_index_at.ensures ∙ c.in_default-suppressed_index_at.is in
     hereby (miss t (reg_not _ _ (sym c.register_at.ensures ∙ c.in_default-register_at.is)) (miss t (suppressed_miss _ _ _ _ h) (failed_over_same _ _ Problems.index_missing c.stepped_over-in_default-register_at.ensures.told)))
 
 pub index_register-requires-2 : goal.index_register-requires-2

@@ -22,7 +22,7 @@ pub returns-in-Some-2-clause-told : goal.returns-in-Some-2-clause-told
 unfolding parse_inner sized_of
 returns-in-Some-2-clause-told c =
     let p = sym c.peek.ensures ∙ c.in-Some.is in
-    record { told = hereby (other (omega arith) p (ne_eqb _ Kinds.right_bracket c.if-t-eq-RIGHT_BRACKET.false) (seen (omega arith) p (rw (← c.from-at.ensures) (sym c.is_a_base_or_an_index.ensures ∙ c.if-is_a_base_or_an_index.true)) (c.inner_registers.ensures.told.told _ _ _ undisplaced refl (stored_none _ _)))) }
+    record { told = hereby (other (omega arith) p (ne_eqb _ Kinds.right_bracket c.if-t-eq-RIGHT_BRACKET.false) (seen (omega arith) p (sym c.is_a_base_or_an_index.ensures ∙ c.if-is_a_base_or_an_index.true) (c.inner_registers.ensures.told.told _ _ _ undisplaced refl (stored_none _ _)))) }
 
 pub returns-in_default-clause-told : goal.returns-in_default-clause-told
 unfolding parse_inner sized_of
@@ -32,7 +32,7 @@ returns-in_default-clause-told c =
       told = hereby (elim c.in_default.branch [
         | in_default-via-in-Some-2+else-is_a_base_or_an_index w ↦
             let p = sym c.peek.ensures ∙ w.in-Some.is in
-            other (omega arith) p (ne_eqb _ Kinds.right_bracket w.if-t-eq-RIGHT_BRACKET.false) (other (omega arith) p (rw (← c.from-at.ensures) (sym w.is_a_base_or_an_index.ensures ∙ w.if-is_a_base_or_an_index.false)) u)
+            other (omega arith) p (ne_eqb _ Kinds.right_bracket w.if-t-eq-RIGHT_BRACKET.false) (other (omega arith) p (sym w.is_a_base_or_an_index.ensures ∙ w.if-is_a_base_or_an_index.false) u)
         | in_default-via-in_default w ↦ let p = sym c.peek.ensures ∙ w.in_default.is in beyond (omega arith) p (beyond (omega arith) p u)
       ]);
     }

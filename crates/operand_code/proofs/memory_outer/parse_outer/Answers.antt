@@ -24,7 +24,7 @@ outer_index-requires c =
 pub returns-then-is_an_index_at-clause-told : goal.returns-then-is_an_index_at-clause-told
 unfolding parse_outer sized_of
 returns-then-is_an_index_at-clause-told c =
-    outer_hit Kinds.comma (sym c.peek_kind.ensures ∙ c.in-Some.is) (over_is (omega (arith, c.requires)) c.step_over.ensures) (outer_index_here _ _ _ (rw (← c.from.ensures) (sym c.is_an_index_at.ensures ∙ c.if-is_an_index_at.true)) c.outer_index.ensures.told)
+    outer_hit Kinds.comma (sym c.peek_kind.ensures ∙ c.in-Some.is) (over_is (omega (arith, c.requires)) c.step_over.ensures) (outer_index_here _ _ _ (sym c.is_an_index_at.ensures ∙ c.if-is_an_index_at.true) c.outer_index.ensures.told)
 
 pub outer_displaced-requires : goal.outer_displaced-requires
 outer_displaced-requires c =
@@ -33,4 +33,4 @@ outer_displaced-requires c =
 pub returns-clause-told : goal.returns-clause-told
 unfolding parse_outer sized_of
 returns-clause-told c =
-    outer_hit Kinds.comma (sym c.peek_kind.ensures ∙ c.in-Some.is) (over_is (omega (arith, c.requires)) c.step_over.ensures) (outer_no_index _ _ _ (rw (← c.from.ensures) (sym c.is_an_index_at.ensures ∙ c.if-is_an_index_at.false)) c.outer_displaced.ensures.told)
+    outer_hit Kinds.comma (sym c.peek_kind.ensures ∙ c.in-Some.is) (over_is (omega (arith, c.requires)) c.step_over.ensures) (outer_no_index _ _ _ (sym c.is_an_index_at.ensures ∙ c.if-is_an_index_at.false) c.outer_displaced.ensures.told)

@@ -6,8 +6,8 @@ use Rattle.operand_code.proofs.parentheses.after_comma.Goals as goal
 
 pub returns-then-starts_a_full_index-clause-told : goal.returns-then-starts_a_full_index-clause-told
 returns-then-starts_a_full_index-clause-told c =
-    record { told = λ y e z. full_starts _ _ _ (rw c.from.ensures at (sym c.starts_a_full_index.ensures ∙ c.if-starts_a_full_index.true)) (c.parse_full_index.ensures.told.told y e) }
+    record { told = λ y e z. full_starts _ _ _ (sym c.starts_a_full_index.ensures ∙ c.if-starts_a_full_index.true) (c.parse_full_index.ensures.told.told y e) }
 
 pub returns-clause-told : goal.returns-clause-told
 returns-clause-told c =
-    record { told = λ y e z. full_not _ _ _ (rw c.from.ensures at (sym c.starts_a_full_index.ensures ∙ c.if-starts_a_full_index.false)) (c.parse_base_and_index.ensures.told.told y e z) }
+    record { told = λ y e z. full_not _ _ _ (sym c.starts_a_full_index.ensures ∙ c.if-starts_a_full_index.false) (c.parse_base_and_index.ensures.told.told y e z) }

@@ -11,14 +11,14 @@ use Rattle.operand_code.proofs.parentheses.unbracketed.Goals as goal
 pub returns-then-starts_a_full_index-clause-told : goal.returns-then-starts_a_full_index-clause-told
 unfolding sized_of Unsized
 returns-then-starts_a_full_index-clause-told c =
-    record { told = full_starts _ _ _ (rw c.from-at.ensures at (sym c.starts_a_full_index.ensures ∙ c.if-starts_a_full_index.true)) (unstored_told _ c.requires.1 (c.parse_full_index.ensures.told.told undisplaced refl)) }
+    record { told = full_starts _ _ _ (sym c.starts_a_full_index.ensures ∙ c.if-starts_a_full_index.true) (unstored_told _ c.requires.1 (c.parse_full_index.ensures.told.told undisplaced refl)) }
 
 pub returns-then-starts_a_base-clause-told : goal.returns-then-starts_a_base-clause-told
 unfolding sized_of Unsized
 returns-then-starts_a_base-clause-told c =
-    record { told = full_not _ _ _ (rw c.from-at.ensures at (sym c.starts_a_full_index.ensures ∙ c.if-starts_a_full_index.false)) (base_starts_lem _ _ (rw c.from-at.ensures at (sym c.starts_a_base.ensures ∙ c.if-starts_a_base.true)) (unstored_told _ c.requires.1 (c.parse_base_and_index.ensures.told.told undisplaced refl tt))) }
+    record { told = full_not _ _ _ (sym c.starts_a_full_index.ensures ∙ c.if-starts_a_full_index.false) (base_starts_lem _ _ (sym c.starts_a_base.ensures ∙ c.if-starts_a_base.true) (unstored_told _ c.requires.1 (c.parse_base_and_index.ensures.told.told undisplaced refl tt))) }
 
 pub returns-clause-told : goal.returns-clause-told
 unfolding sized_of Unsized
 returns-clause-told c =
-    record { told = full_not _ _ _ (rw c.from-at.ensures at (sym c.starts_a_full_index.ensures ∙ c.if-starts_a_full_index.false)) (base_not _ _ (rw c.from-at.ensures at (sym c.starts_a_base.ensures ∙ c.if-starts_a_base.false)) c.parenthesised.ensures.told.told) }
+    record { told = full_not _ _ _ (sym c.starts_a_full_index.ensures ∙ c.if-starts_a_full_index.false) (base_not _ _ (sym c.starts_a_base.ensures ∙ c.if-starts_a_base.false) c.parenthesised.ensures.told.told) }
