@@ -1,11 +1,9 @@
-// The entry as `terminal_c` exports it with C's calling convention.
+// The entry as `terminal_c` exports it with C's calling convention, for each layout.
 ghost use Rattle.std.specs.Prelude.{◌≡◌, ◌≤◌, length};
 ghost use Rattle.operand.specs.Entry.{call};
-ghost use Rattle.operand.specs.declared.layouts.Layout.TheVariants as layouts;
 ghost use Rattle.layout.specs.Promise.{given};
 ghost use Rattle.terminal.specs.Exported.{answer_bytes, exported, out_after, told};
 
-use entry::parse_operand;
 use layout::{Answer, NO_OPERAND, OPERAND, head_size, write, write_head, write_operand};
 use operand::Layout;
 
@@ -14,69 +12,7 @@ const SHORT_ANSWER: u8 = 255;
 
 // Reads the operand that begins at the token `start`, with at most `limit` terms open in each other, and writes the answer into `out`.
 // Returns 0, or the number of a refusal, which writes nothing. Parameters and no struct: the call as C's interface has it.
-pub fn sagdrif_parse_operand(
-    line: &[u8],
-    tokens: &[u8],
-    start: usize,
-    mark: usize,
-    limit: usize,
-    nodes: &mut [u8],
-    diagnostics: &mut [u8],
-    used: usize,
-    out: &mut [u8],
-) -> u8
-    ensures { told result nodes.new diagnostics.new out.new ≡ exported (call layouts.Narrow line.now tokens.now start mark limit nodes.old diagnostics.old used) out.old }
-{
-    answer(
-        Layout::Narrow,
-        line,
-        tokens,
-        start,
-        mark,
-        limit,
-        nodes,
-        diagnostics,
-        used,
-        out,
-    )
-}
-
-// The same in the wide layout: the C interface has a function for each.
-pub fn sagdrif_parse_operand_wide(
-    line: &[u8],
-    tokens: &[u8],
-    start: usize,
-    mark: usize,
-    limit: usize,
-    nodes: &mut [u8],
-    diagnostics: &mut [u8],
-    used: usize,
-    out: &mut [u8],
-) -> u8
-    ensures { told result nodes.new diagnostics.new out.new ≡ exported (call layouts.Wide line.now tokens.now start mark limit nodes.old diagnostics.old used) out.old }
-{
-    answer(
-        Layout::Wide,
-        line,
-        tokens,
-        start,
-        mark,
-        limit,
-        nodes,
-        diagnostics,
-        used,
-        out,
-    )
-}
-
-// The bytes of an answer: the beginning, the operand's record, the mask.
-fn answer_bytes(layout: Layout) -> usize
-    ensures { result ≡ answer_bytes layout }
-{
-    head_size(layout) + layout.operand_size() + 2
-}
-
-fn answer(
+pub fn parse_operand(
     layout: Layout,
     line: &[u8],
     tokens: &[u8],
@@ -93,7 +29,7 @@ fn answer(
     if out.len() < answer_bytes(layout) {
         return SHORT_ANSWER;
     }
-    match parse_operand(
+    match entry::parse_operand(
         layout,
         line,
         tokens,
@@ -110,6 +46,13 @@ fn answer(
         }
         Err(refusal) => u8::from(refusal),
     }
+}
+
+// The bytes of an answer: the beginning, the operand's record, the mask.
+fn answer_bytes(layout: Layout) -> usize
+    ensures { result ≡ answer_bytes layout }
+{
+    head_size(layout) + layout.operand_size() + 2
 }
 
 // Without an operand its bytes and the mask are 0.

@@ -3,4 +3,4 @@
 
 mod call;
 
-pub use call::{sagdrif_parse_operand, sagdrif_parse_operand_wide};
+pub use call::parse_operand;

@@ -45,14 +45,17 @@ whole_list w L T h =
 
 -- ---- stores with room for a list of at most n tokens
 
-pub asked : (w : Layout) (L T : List ℕ) (n : ℕ) → first_of (line_and_list w L T) ≡ 0 → count (token_numbers w T) ≤ n → StoresAsk w L T (4 * n) (10 * n) (10 * (n + 1))
-asked w L T n passed few = record { passed = passed; tokens = omega arith; nodes = omega arith; diagnostics = omega arith }
+pub asked : (w : Layout) (L T : List ℕ) (n m : ℕ) → 0 ≡ first_of (line_and_list w L T) → m ≡ length T / token_size w → m ≤ n
+    → StoresAsk w L T (4 * n) (10 * n) (10 * (n + 1))
+asked w L T n m passed counted few =
+    let same = numbers_count w T in
+    record { passed = sym passed; tokens = omega arith; nodes = omega arith; diagnostics = omega arith }
 
 pub sizes : (n : ℕ) → n ≤ 1023 → (4 * n ≤ 4092) × (10 * n ≤ 10230) × (10 * (n + 1) ≤ 10240)
 sizes n h = (omega arith, omega arith, omega arith)
 
 -- with room for all, the tokens are good where they are decoded
-pub decoded_good : (w : Layout) (L T M M' : List ℕ) (n : ℕ) → Decoded w L T M M' n → 4 * count (token_numbers w T) ≤ length M
+decoded_good : (w : Layout) (L T M M' : List ℕ) (n : ℕ) → Decoded w L T M M' n → 4 * count (token_numbers w T) ≤ length M
     → n ≡ pick (good_tokens L 0 (token_numbers w T)) 0 RefusalNumbers.bad_token
 unfolding decodes
 decoded_good w L T M M' n d room =
@@ -99,11 +102,20 @@ module _ (a : Input) where
         go true = refl
         go false = refl
 
-    pub token_refused : {k : Refusal} → RefusalNumbers.number k ≡ second → EntryPromise a a.nodes a.diagnostics (Err k)
-    token_refused {k} e = refused k (by ∙ or_else_first k second last (sym e))
+    module _ (M M' : List ℕ) (room : 4 * count (tokens_of a) ≤ length M) where
+      pub token_refused : {k : Refusal} → Decoded a.layout a.line a.tokens M M' (RefusalNumbers.number k) → EntryPromise a a.nodes a.diagnostics (Err k)
+      token_refused {k} d = refused k (by ∙ or_else_first k second last (sym (decoded_good _ _ _ _ _ _ d room)))
 
-    pub store_refused : {k : Refusal} → second ≡ 0 → RefusalNumbers.number k ≡ last → EntryPromise a a.nodes a.diagnostics (Err k)
-    store_refused {k} g e = refused k (by ∙ rw g (sym e))
+      -- the tokens are good, and so many
+      module _ (good : Decoded a.layout a.line a.tokens M M' 0) (n : ℕ) (counted : n ≡ length a.tokens / token_size a.layout) where
+        abbrev third : ℕ
+        third = first_of (start_stores_and_limit a.layout n a.start a.limit (length a.nodes) (length a.diagnostics) a.used)
 
-    pub valid : second ≡ 0 → last ≡ 0 → Valid a
-    valid g e = by ∙ rw g e
+        good_third : refusal a ≡ third
+        good_third = by ∙ rw (← decoded_good _ _ _ _ _ _ good room, counted, ← numbers_count a.layout a.tokens) refl
+
+        pub store_refused : {k : Refusal} → RefusalNumbers.number k ≡ third → EntryPromise a a.nodes a.diagnostics (Err k)
+        store_refused {k} e = refused k (good_third ∙ sym e)
+
+        pub valid : 0 ≡ third → Valid a
+        valid e = good_third ∙ sym e

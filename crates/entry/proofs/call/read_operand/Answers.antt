@@ -1,7 +1,8 @@
 -- `entry::call::read_operand` meets its contract.
 -- Assumes nothing.
-use mathlib.Core.Path.{◌≡◌, sym, ◌∙◌}
-use Prim.Native.Nat.{◌*◌}
+use mathlib.Core.Path.{◌≡◌, sym}
+use mathlib.Core.List.{List}
+use Prim.Native.Nat.{ℕ, ◌*◌}
 use native.Mathlib.Omega.{arith}
 use borrow.Author.Rules.{rules}
 use lib.Seq.{length-take-le}
@@ -9,21 +10,23 @@ use Rattle.std.specs.Prelude.{Err}
 use Rattle.operand.specs.Layouts.{numbers_count}
 use Rattle.operand.specs.Entry.{Input, call}
 use Rattle.operand.proofs.Conditions.{valid_limit}
-use Rattle.entry.proofs.call.Refusals.{decoded_good, token_refused, store_refused, valid}
+use Rattle.entry.specs.declared.call.Given.{Given}
+use Rattle.entry.proofs.call.Refusals.{token_refused, store_refused, valid}
 use Rattle.entry.proofs.call.Outcomes.{never_unfit, is_read}
 use Rattle.entry.proofs.call.read_operand.Goals as goal
 
+abbrev input : Given → List ℕ → List ℕ → List ℕ → List ℕ → Input
+input g L T N D = call g.layout L T g.start g.mark g.limit N D g.used
+
 pub returns-in_err-decode_tokens : goal.returns-in_err-decode_tokens
 returns-in_err-decode_tokens c =
-    let a : Input = call c.args.given.layout c.args.line.now c.args.tokens.now c.args.given.start c.args.given.mark c.args.given.limit c.args.nodes.now c.args.diagnostics.now c.args.given.used in
     let e : c.from_residual.result ≡ Err c.in_err-decode_tokens.field-0.0 = search rules in
-    rw e (token_refused a c.requires.passed (decoded_good _ _ _ _ _ _ c.in_err-decode_tokens.ensures c.requires.tokens))
+    rw e (token_refused _ c.requires.passed _ _ c.requires.tokens c.in_err-decode_tokens.ensures)
 
 pub returns-in_err-refuse_start_stores_and_limit : goal.returns-in_err-refuse_start_stores_and_limit
 returns-in_err-refuse_start_stores_and_limit c =
-    let a : Input = call c.args.given.layout c.args.line.now c.args.tokens.now c.args.given.start c.args.given.mark c.args.given.limit c.args.nodes.now c.args.diagnostics.now c.args.given.used in
     let e : c.from_residual-in_err-refuse_start_stores_and_limit.result ≡ Err c.in_err-refuse_start_stores_and_limit.field-0.0 = search rules in
-    rw e (store_refused a c.requires.passed (sym (decoded_good _ _ _ _ _ _ c.in_ok-decode_tokens.ensures c.requires.tokens)) (rw (c.token_count-count.ensures ∙ sym (numbers_count c.args.given.layout c.args.tokens.now)) at c.in_err-refuse_start_stores_and_limit.ensures))
+    rw e (store_refused _ c.requires.passed _ _ c.requires.tokens c.in_ok-decode_tokens.ensures _ c.token_count-count.ensures c.in_err-refuse_start_stores_and_limit.ensures)
 
 pub slice_bounds-numbers-end : goal.slice_bounds-numbers-end
 slice_bounds-numbers-end c =
@@ -35,18 +38,18 @@ slice_bounds-numbers-end-2 c =
 
 pub overflow_cast-depth : goal.overflow_cast-depth
 overflow_cast-depth c =
-    let a : Input = call c.args.given.layout c.args.line.now c.args.tokens.now c.args.given.start c.args.given.mark c.args.given.limit c.args.nodes.now c.args.diagnostics.now c.args.given.used in
-    let v = valid a c.requires.passed (sym (decoded_good _ _ _ _ _ _ c.in_ok-decode_tokens.ensures c.requires.tokens)) (sym (rw (c.token_count-count.ensures ∙ sym (numbers_count c.args.given.layout c.args.tokens.now)) at c.in_ok-refuse_start_stores_and_limit.ensures)) in
+    let a = input c.args.given c.args.line.now c.args.tokens.now c.args.nodes.now c.args.diagnostics.now in
+    let v = valid a c.requires.passed _ _ c.requires.tokens c.in_ok-decode_tokens.ensures _ c.token_count-count.ensures c.in_ok-refuse_start_stores_and_limit.ensures in
     omega (arith, valid_limit a v)
 
 pub returns : goal.returns
 returns c =
-    let a : Input = call c.args.given.layout c.args.line.now c.args.tokens.now c.args.given.start c.args.given.mark c.args.given.limit c.args.nodes.now c.args.diagnostics.now c.args.given.used in
-    let v = valid a c.requires.passed (sym (decoded_good _ _ _ _ _ _ c.in_ok-decode_tokens.ensures c.requires.tokens)) (sym (rw (c.token_count-count.ensures ∙ sym (numbers_count c.args.given.layout c.args.tokens.now)) at c.in_ok-refuse_start_stores_and_limit.ensures)) in
+    let a = input c.args.given c.args.line.now c.args.tokens.now c.args.nodes.now c.args.diagnostics.now in
+    let v = valid a c.requires.passed _ _ c.requires.tokens c.in_ok-decode_tokens.ensures _ c.token_count-count.ensures c.in_ok-refuse_start_stores_and_limit.ensures in
     is_read a _ _ _ _ _ _ v c.requires c.decode_tokens.ensures.numbers (4 * c.token_count-count.result) (omega (arith, c.token_count-count.ensures, numbers_count c.args.given.layout c.args.tokens.now)) _ c.operand_at-read.ensures _ (grind arith) _ _ _ c.answered.ensures
 
 pub returns-in_err-r : goal.returns-in_err-r
 returns-in_err-r c =
-    let a : Input = call c.args.given.layout c.args.line.now c.args.tokens.now c.args.given.start c.args.given.mark c.args.given.limit c.args.nodes.now c.args.diagnostics.now c.args.given.used in
-    let v = valid a c.requires.passed (sym (decoded_good _ _ _ _ _ _ c.in_ok-decode_tokens.ensures c.requires.tokens)) (sym (rw (c.token_count-count.ensures ∙ sym (numbers_count c.args.given.layout c.args.tokens.now)) at c.in_ok-refuse_start_stores_and_limit.ensures)) in
+    let a = input c.args.given c.args.line.now c.args.tokens.now c.args.nodes.now c.args.diagnostics.now in
+    let v = valid a c.requires.passed _ _ c.requires.tokens c.in_ok-decode_tokens.ensures _ c.token_count-count.ensures c.in_ok-refuse_start_stores_and_limit.ensures in
     absurd (never_unfit a _ _ _ _ _ _ v c.requires c.decode_tokens.ensures.numbers (4 * c.token_count-count.result) (omega (arith, c.token_count-count.ensures, numbers_count c.args.given.layout c.args.tokens.now)) _ c.operand_at-read.ensures (grind arith))
