@@ -1,4 +1,5 @@
-// The answer line of one input line. The output and the place in it are lent side by side: a struct of both would be lent anew at each call.
+// The answer line of one input line. The output and the place in it are lent side by side: a struct of both would be lent anew at
+// each call, which is no plainer.
 ghost use Rattle.std.specs.Prelude.{◌≡◌, [], ◌∷◌, ◌++◌, ◌+◌, ◌*◌, ◌≤◌, ◌<◌, length};
 ghost use Rattle.operand.specs.declared.layouts.Layout.TheVariants as layouts;
 ghost use Rattle.operand.specs.RefusalNumbers;
@@ -14,12 +15,22 @@ use operand::{Layout, OperandRecord, Refusal};
 
 // The letter that a wide line opens with.
 const WIDE: u8 = b'w';
+
 // The characters of the longest line that is a frame; of the longest narrow one; of the longest wide one whose line and list are not too long.
-pub(crate) const LONGEST: usize = 917507;
+pub const LONGEST: usize = 917507;
 
 const LONGEST_NARROW: usize = 2558;
 
 const LONGEST_LAWFUL: usize = 20483;
+
+// The sizes of the stores for an answer's parts: its head, the operand's record, a wide line's nodes, its diagnostics.
+pub(crate) const HEAD: usize = 7;
+
+pub(crate) const RECORD: usize = 30;
+
+pub(crate) const WIDE_NODES: usize = 18414;
+
+pub(crate) const WIDE_DIAGNOSTICS: usize = 32752;
 
 // Opens a line as its layout does.
 fn open_line(layout: Layout, out: &mut [u8], at: usize) -> usize
@@ -107,8 +118,8 @@ fn put_answer(
     requires { AnswerAsks layout out.old at x nodes.now diagnostics.now }
     ensures { Put out.old out.new at (ended layout (answer_bytes layout x nodes.now diagnostics.now)) result }
 {
-    let mut head = [0u8; 7];
-    let mut record = [0u8; 30];
+    let mut head = [0u8; HEAD];
+    let mut record = [0u8; RECORD];
     let case = case_of(x.operand);
     write_head(layout, case, x.cursor, x.nodes, x.diagnostics, &mut head, 0);
     let head_end = head_size(layout);
@@ -166,15 +177,15 @@ fn answer_digits(
     }
 }
 
-// The answer to a wide line without its letter, where a frame of that length has so many bytes. The stores are this function's own, so
+// The answer to a wide line without its letter. `FRAME` is the size of the store for a frame's bytes. The stores are this function's own, so
 // that a narrow line need not wait for them to be cleared.
 fn answer_wide<const FRAME: usize>(line: &[u8], out: &mut [u8], at: usize) -> usize
     requires { (length line.now ≤ 2 * FRAME) × (FRAME ≤ 458753) × (at + 102408 ≤ length out.old) }
     ensures { Put out.old out.new at (ended layouts.Wide (line_bytes layouts.Wide line.now)) result }
 {
     let mut frame = [0u8; FRAME];
-    let mut nodes = [0u8; 18414];
-    let mut diagnostics = [0u8; 32752];
+    let mut nodes = [0u8; WIDE_NODES];
+    let mut diagnostics = [0u8; WIDE_DIAGNOSTICS];
     answer_digits(
         Layout::Wide,
         line,
