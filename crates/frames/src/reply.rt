@@ -4,9 +4,9 @@ ghost use Rattle.std.specs.Prelude.{◌≡◌, [], ◌∷◌, ◌++◌, ◌+◌,
 ghost use Rattle.operand.specs.declared.layouts.Layout.TheVariants as layouts;
 ghost use Rattle.operand.specs.RefusalNumbers;
 ghost use Rattle.frames.specs.Frame.{layout_of, opening};
-ghost use Rattle.frames.specs.Reply.{refused, ended, frame_bytes, line_bytes};
+ghost use Rattle.frames.specs.Reply.{refused, ended, line_bytes};
 ghost use Rattle.frames.specs.Machine.{held_line};
-ghost use Rattle.frames.specs.Inner.{Put, case_of, RecordPut, AnswerAsks, answer_bytes, FrameAsks, DigitsAsk, TurnAsks};
+ghost use Rattle.frames.specs.Inner.{Put, case_of, RecordPut, AnswerAsks, answer_bytes, ReadDigitsAsk, ReadTold, DigitsAsk, TurnAsks};
 
 use crate::frame::{frame_line, read_frame};
 use crate::hex::{decode, put};
@@ -137,25 +137,21 @@ fn put_answer(
     )
 }
 
-// The answer to the bytes that a line spells.
-fn answer_frame(
+// What the characters behind a line's opening are answered: an answer, whose records are in the stores, or a refusal.
+fn read_digits(
     layout: Layout,
-    bytes: &[u8],
+    line: &[u8],
+    frame: &mut [u8],
     nodes: &mut [u8],
     diagnostics: &mut [u8],
-    out: &mut [u8],
-    at: usize,
-) -> usize
-    requires { FrameAsks layout nodes.old diagnostics.old out.old at }
-    ensures { Put out.old out.new at (ended layout (frame_bytes layout bytes.now)) result }
+) -> Result<Answer, Refusal>
+    requires { ReadDigitsAsk layout line.now frame.old nodes.old diagnostics.old }
+    ensures { ReadTold layout line.now nodes.new diagnostics.new result }
 {
-    let Some(line) = frame_line(layout, bytes) else {
-        return refuse(layout, out, at, Refusal::BadFrame);
-    };
-    match read_frame(layout, bytes, line, nodes, diagnostics) {
-        Ok(x) => put_answer(layout, out, at, x, nodes, diagnostics),
-        Err(refusal) => refuse(layout, out, at, refusal),
-    }
+    let n = decode(line, frame).ok_or(Refusal::BadFrame)?;
+    let bytes = &frame[..n];
+    let k = frame_line(layout, bytes).ok_or(Refusal::BadFrame)?;
+    read_frame(layout, bytes, k, nodes, diagnostics)
 }
 
 // The answer to the characters behind a line's opening.
@@ -171,9 +167,9 @@ fn answer_digits(
     requires { DigitsAsk layout line.now frame.old nodes.old diagnostics.old out.old at }
     ensures { Put out.old out.new at (ended layout (line_bytes layout line.now)) result }
 {
-    match decode(line, frame) {
-        Some(n) => answer_frame(layout, &frame[..n], nodes, diagnostics, out, at),
-        None => refuse(layout, out, at, Refusal::BadFrame),
+    match read_digits(layout, line, frame, nodes, diagnostics) {
+        Ok(x) => put_answer(layout, out, at, x, nodes, diagnostics),
+        Err(refusal) => refuse(layout, out, at, refusal),
     }
 }
 
