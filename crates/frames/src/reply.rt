@@ -1,5 +1,5 @@
-// The answer line of one input line. The output and the place in it are lent side by side: a struct of both would be lent anew at
-// each call, which is no plainer.
+// The answer line of one input line. The output and the place in it are lent side by side: a struct of both would be lent anew at each
+// call, which is no plainer.
 ghost use Rattle.std.specs.Prelude.{◌≡◌, [], ◌∷◌, ◌++◌, ◌+◌, ◌*◌, ◌≤◌, ◌<◌, length};
 ghost use Rattle.operand.specs.declared.layouts.Layout.TheVariants as layouts;
 ghost use Rattle.operand.specs.RefusalNumbers;
@@ -22,6 +22,11 @@ pub const LONGEST: usize = 917507;
 const LONGEST_NARROW: usize = 2558;
 
 const LONGEST_LAWFUL: usize = 20483;
+
+// The sizes of the stores for a wide frame's bytes: the longest, and the longest whose line and list are not too long.
+const WIDE_FRAME: usize = 458753;
+
+const LAWFUL_FRAME: usize = 10241;
 
 // The sizes of the stores for an answer's parts: its head, the operand's record, a wide line's nodes, its diagnostics.
 pub(crate) const HEAD: usize = 7;
@@ -219,6 +224,7 @@ pub(crate) fn answer(
 {
     let line = &carry[..held.min(LONGEST)];
     let layout = layout_of(line);
+    // Not all of it is held. One test of this and of the narrow limit below would match the layout twice, which is no plainer.
     if held > LONGEST {
         return refuse(layout, out, at, Refusal::BadFrame);
     }
@@ -232,9 +238,9 @@ pub(crate) fn answer(
         Layout::Wide => {
             // Of a longer one the line or the list is too long, if it is a frame.
             if held > LONGEST_LAWFUL {
-                return answer_wide::<458753>(&line[1..], out, at);
+                return answer_wide::<WIDE_FRAME>(&line[1..], out, at);
             }
-            answer_wide::<10241>(&line[1..], out, at)
+            answer_wide::<LAWFUL_FRAME>(&line[1..], out, at)
         }
     }
 }
