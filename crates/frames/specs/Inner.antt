@@ -1,15 +1,18 @@
 -- What the functions within the crate tell each other.
 -- Assumes nothing.
-use Rattle.std.specs.Prelude.{◌≡◌, true, false, List, [], ◌++◌, ℕ, ◌+◌, ◌*◌, ◌≤◌, length, take, Option, Some, None}
+use Rattle.std.specs.Prelude.{◌≡◌, true, false, List, [], ◌++◌, ℕ, ◌+◌, ◌*◌, ◌≤◌, length, take, Option, Some, None, Result, Ok, Err}
 use Rattle.names.specs.Choice.{pick}
 use Rattle.records.specs.Stores.{written}
+use Rattle.operand.specs.RefusalNumbers
 use Rattle.operand.specs.declared.layouts.Layout.{Layout}
+use Rattle.operand.specs.declared.refusals.Refusal.{Refusal}
 use Rattle.operand.specs.Layouts.{node_size, diagnostic_size, most_tokens, node_store, free_records}
 use Rattle.operand.specs.Layout.{bytes_of, head_laid, operand_number, no_operand_number}
 use Rattle.operand.specs.declared.forms.OperandRecord.{OperandRecord}
 use Rattle.layout.specs.declared.answer.Answer.{Answer}
 use Rattle.frames.specs.Hex.{value, is_digit, spells, spelled}
 use Rattle.frames.specs.Frame.{diagnostic_bytes, line_length, frame_length}
+use Rattle.frames.specs.Reply.{refused, line_bytes}
 use Rattle.frames.specs.Machine.{State, held_on, carry_on}
 
 -- the bytes y from a place of the output on, and the next place
@@ -60,16 +63,26 @@ pub record AnswerAsks (w : Layout) (O : List ℕ) (at : ℕ) (x : Answer) (N D :
   pub diagnostics_few : x.diagnostics ≤ free_records w
   pub diagnostics_long : length D ≡ diagnostic_bytes w
 
--- the stores that an answer is made in, and room for the longest
-pub record FrameAsks (w : Layout) (N D O : List ℕ) (at : ℕ) : Type 0 where
+-- the stores that an answer is made in, and room for the bytes that a line spells
+pub record ReadDigitsAsk (w : Layout) (x F N D : List ℕ) : Type 0 where
+  pub fits : length x ≤ 2 * length F
   pub nodes_long : length N ≡ node_store w
   pub diagnostics_long : length D ≡ diagnostic_bytes w
+
+-- and room for the longest answer
+pub record DigitsAsk (w : Layout) (x F N D O : List ℕ) (at : ℕ) : Type 0 where
+  pub stores : ReadDigitsAsk w x F N D
   pub room : at + 102408 ≤ length O
 
--- and room for the bytes that a line spells
-pub record DigitsAsk (w : Layout) (x F N D O : List ℕ) (at : ℕ) : Type 0 where
-  pub fits : length x ≤ 2 * length F
-  pub stores : FrameAsks w N D O at
+-- an answer's records are in the stores, and its bytes are the line's answer
+pub record AnswerTold (w : Layout) (x N D : List ℕ) (a : Answer) : Type 0 where
+  pub nodes_few : a.nodes ≤ most_tokens w
+  pub diagnostics_few : a.diagnostics ≤ free_records w
+  pub bytes : answer_bytes w a N D ≡ line_bytes w x
+
+unfoldable pub ReadTold : Layout → List ℕ → List ℕ → List ℕ → Result Answer Refusal → Type 0
+ReadTold w x N D (Ok a) = AnswerTold w x N D a
+ReadTold w x N D (Err k) = refused (RefusalNumbers.number k) ≡ line_bytes w x
 
 -- the bytes are a frame, whose line has this length
 pub record ReadAsks (w : Layout) (B : List ℕ) (line : ℕ) : Type 0 where

@@ -3,10 +3,20 @@ ghost use Rattle.std.specs.Prelude.{◌≡◌, length};
 ghost use Rattle.frames.specs.Batches.{BatchTold, FinishTold};
 ghost use Rattle.frames.specs.Inner.{HoldTold, BatchAsks};
 
-use crate::reply::{LONGEST, answer};
+use crate::reply::{HEAD, LONGEST, RECORD, WIDE_DIAGNOSTICS, WIDE_NODES, answer};
 
-// What may be filled of the output so that the longest answer has room: 163840 - (1 + 2 * (7 + 30 + 18414 + 32752) + 1).
-const ROOMY: usize = 61432;
+// The size of the output.
+pub const OUTPUT: usize = 163840;
+
+// The sizes of the stores for a narrow line: its frame's bytes, its nodes, its diagnostics.
+const FRAME: usize = 1279;
+
+const NODES: usize = 3570;
+
+const DIAGNOSTICS: usize = 5110;
+
+// What may be filled of the output so that the longest answer has room: its letter, the digits of its four parts, its line feed.
+const ROOMY: usize = OUTPUT - (1 + 2 * (HEAD + RECORD + WIDE_NODES + WIDE_DIAGNOSTICS) + 1);
 
 // How many bytes of the input were read, how many of the unfinished line are held, how many were written. Fixed stores with a length
 // beside: no heap.
@@ -18,7 +28,7 @@ pub struct Batched {
 }
 
 // Holds one byte more of a line, if there is room. Of a line longer than any frame only that it is longer is kept, as a number past LONGEST:
-// `batch` and `finish` take any number. Tried: `held.min(LONGEST) + 1` for both cases takes 11 percent more instructions a frame.
+// `batch` and `finish` take any number. Tried: `held.min(LONGEST) + 1` for both cases takes 11 percent more instructions a frame, and the bar is 3.
 fn hold(carry: &mut [u8], held: usize, b: u8) -> usize
     requires { length carry.old ≡ 917507 }
     ensures { HoldTold carry.old held b carry.new result }
@@ -70,12 +80,17 @@ fn batch_in(
 }
 
 // Answers the lines that end in the input, until the longest answer has no room, and holds what is left of the last one.
-pub fn batch(input: &[u8], held: usize, carry: &mut [u8; 917507], out: &mut [u8; 163840]) -> Batched
+pub fn batch(
+    input: &[u8],
+    held: usize,
+    carry: &mut [u8; LONGEST],
+    out: &mut [u8; OUTPUT],
+) -> Batched
     ensures { BatchTold input.now held carry.old out.old carry.new out.new result }
 {
-    let mut frame = [0u8; 1279];
-    let mut nodes = [0u8; 3570];
-    let mut diagnostics = [0u8; 5110];
+    let mut frame = [0u8; FRAME];
+    let mut nodes = [0u8; NODES];
+    let mut diagnostics = [0u8; DIAGNOSTICS];
     batch_in(
         input,
         held,
@@ -89,15 +104,15 @@ pub fn batch(input: &[u8], held: usize, carry: &mut [u8; 917507], out: &mut [u8;
 
 // Answers the last line, if it lacks its line feed, and returns how many bytes were written. Its stores are those of `batch`; what lent
 // them to both would take each call as a closure, which is no plainer.
-pub fn finish(held: usize, carry: &[u8; 917507], out: &mut [u8; 163840]) -> usize
+pub fn finish(held: usize, carry: &[u8; LONGEST], out: &mut [u8; OUTPUT]) -> usize
     ensures { FinishTold held carry.now out.old out.new result }
 {
     if held == 0 {
         return 0;
     }
-    let mut frame = [0u8; 1279];
-    let mut nodes = [0u8; 3570];
-    let mut diagnostics = [0u8; 5110];
+    let mut frame = [0u8; FRAME];
+    let mut nodes = [0u8; NODES];
+    let mut diagnostics = [0u8; DIAGNOSTICS];
     answer(
         carry,
         held,

@@ -6,4 +6,5 @@ mod frame;
 mod hex;
 mod reply;
 
-pub use batches::{Batched, batch, finish};
+pub use batches::{Batched, OUTPUT, batch, finish};
+pub use reply::LONGEST;

@@ -1,11 +1,12 @@
-// The answer line of one input line. The output and the place in it are lent side by side: a struct of both would be lent anew at each call.
+// The answer line of one input line. The output and the place in it are lent side by side: a struct of both would be lent anew at each
+// call, which is no plainer.
 ghost use Rattle.std.specs.Prelude.{◌≡◌, [], ◌∷◌, ◌++◌, ◌+◌, ◌*◌, ◌≤◌, ◌<◌, length};
 ghost use Rattle.operand.specs.declared.layouts.Layout.TheVariants as layouts;
 ghost use Rattle.operand.specs.RefusalNumbers;
 ghost use Rattle.frames.specs.Frame.{layout_of, opening};
-ghost use Rattle.frames.specs.Reply.{refused, ended, frame_bytes, line_bytes};
+ghost use Rattle.frames.specs.Reply.{refused, ended, line_bytes};
 ghost use Rattle.frames.specs.Machine.{held_line};
-ghost use Rattle.frames.specs.Inner.{Put, case_of, RecordPut, AnswerAsks, answer_bytes, FrameAsks, DigitsAsk, TurnAsks};
+ghost use Rattle.frames.specs.Inner.{Put, case_of, RecordPut, AnswerAsks, answer_bytes, ReadDigitsAsk, ReadTold, DigitsAsk, TurnAsks};
 
 use crate::frame::{frame_line, read_frame};
 use crate::hex::{decode, put};
@@ -14,12 +15,27 @@ use operand::{Layout, OperandRecord, Refusal};
 
 // The letter that a wide line opens with.
 const WIDE: u8 = b'w';
+
 // The characters of the longest line that is a frame; of the longest narrow one; of the longest wide one whose line and list are not too long.
-pub(crate) const LONGEST: usize = 917507;
+pub const LONGEST: usize = 917507;
 
 const LONGEST_NARROW: usize = 2558;
 
 const LONGEST_LAWFUL: usize = 20483;
+
+// The sizes of the stores for a wide frame's bytes: the longest, and the longest whose line and list are not too long.
+const WIDE_FRAME: usize = 458753;
+
+const LAWFUL_FRAME: usize = 10241;
+
+// The sizes of the stores for an answer's parts: its head, the operand's record, a wide line's nodes, its diagnostics.
+pub(crate) const HEAD: usize = 7;
+
+pub(crate) const RECORD: usize = 30;
+
+pub(crate) const WIDE_NODES: usize = 18414;
+
+pub(crate) const WIDE_DIAGNOSTICS: usize = 32752;
 
 // Opens a line as its layout does.
 fn open_line(layout: Layout, out: &mut [u8], at: usize) -> usize
@@ -107,8 +123,8 @@ fn put_answer(
     requires { AnswerAsks layout out.old at x nodes.now diagnostics.now }
     ensures { Put out.old out.new at (ended layout (answer_bytes layout x nodes.now diagnostics.now)) result }
 {
-    let mut head = [0u8; 7];
-    let mut record = [0u8; 30];
+    let mut head = [0u8; HEAD];
+    let mut record = [0u8; RECORD];
     let case = case_of(x.operand);
     write_head(layout, case, x.cursor, x.nodes, x.diagnostics, &mut head, 0);
     let head_end = head_size(layout);
@@ -126,25 +142,21 @@ fn put_answer(
     )
 }
 
-// The answer to the bytes that a line spells.
-fn answer_frame(
+// What the characters behind a line's opening are answered: an answer, whose records are in the stores, or a refusal.
+fn read_digits(
     layout: Layout,
-    bytes: &[u8],
+    line: &[u8],
+    frame: &mut [u8],
     nodes: &mut [u8],
     diagnostics: &mut [u8],
-    out: &mut [u8],
-    at: usize,
-) -> usize
-    requires { FrameAsks layout nodes.old diagnostics.old out.old at }
-    ensures { Put out.old out.new at (ended layout (frame_bytes layout bytes.now)) result }
+) -> Result<Answer, Refusal>
+    requires { ReadDigitsAsk layout line.now frame.old nodes.old diagnostics.old }
+    ensures { ReadTold layout line.now nodes.new diagnostics.new result }
 {
-    let Some(line) = frame_line(layout, bytes) else {
-        return refuse(layout, out, at, Refusal::BadFrame);
-    };
-    match read_frame(layout, bytes, line, nodes, diagnostics) {
-        Ok(x) => put_answer(layout, out, at, x, nodes, diagnostics),
-        Err(refusal) => refuse(layout, out, at, refusal),
-    }
+    let n = decode(line, frame).ok_or(Refusal::BadFrame)?;
+    let bytes = &frame[..n];
+    let k = frame_line(layout, bytes).ok_or(Refusal::BadFrame)?;
+    read_frame(layout, bytes, k, nodes, diagnostics)
 }
 
 // The answer to the characters behind a line's opening.
@@ -160,21 +172,21 @@ fn answer_digits(
     requires { DigitsAsk layout line.now frame.old nodes.old diagnostics.old out.old at }
     ensures { Put out.old out.new at (ended layout (line_bytes layout line.now)) result }
 {
-    match decode(line, frame) {
-        Some(n) => answer_frame(layout, &frame[..n], nodes, diagnostics, out, at),
-        None => refuse(layout, out, at, Refusal::BadFrame),
+    match read_digits(layout, line, frame, nodes, diagnostics) {
+        Ok(x) => put_answer(layout, out, at, x, nodes, diagnostics),
+        Err(refusal) => refuse(layout, out, at, refusal),
     }
 }
 
-// The answer to a wide line without its letter, where a frame of that length has so many bytes. The stores are this function's own, so
+// The answer to a wide line without its letter. `FRAME` is the size of the store for a frame's bytes. The stores are this function's own, so
 // that a narrow line need not wait for them to be cleared.
 fn answer_wide<const FRAME: usize>(line: &[u8], out: &mut [u8], at: usize) -> usize
     requires { (length line.now ≤ 2 * FRAME) × (FRAME ≤ 458753) × (at + 102408 ≤ length out.old) }
     ensures { Put out.old out.new at (ended layouts.Wide (line_bytes layouts.Wide line.now)) result }
 {
     let mut frame = [0u8; FRAME];
-    let mut nodes = [0u8; 18414];
-    let mut diagnostics = [0u8; 32752];
+    let mut nodes = [0u8; WIDE_NODES];
+    let mut diagnostics = [0u8; WIDE_DIAGNOSTICS];
     answer_digits(
         Layout::Wide,
         line,
@@ -212,6 +224,7 @@ pub(crate) fn answer(
 {
     let line = &carry[..held.min(LONGEST)];
     let layout = layout_of(line);
+    // Not all of it is held. One test of this and of the narrow limit below would match the layout twice, which is no plainer.
     if held > LONGEST {
         return refuse(layout, out, at, Refusal::BadFrame);
     }
@@ -225,9 +238,9 @@ pub(crate) fn answer(
         Layout::Wide => {
             // Of a longer one the line or the list is too long, if it is a frame.
             if held > LONGEST_LAWFUL {
-                return answer_wide::<458753>(&line[1..], out, at);
+                return answer_wide::<WIDE_FRAME>(&line[1..], out, at);
             }
-            answer_wide::<10241>(&line[1..], out, at)
+            answer_wide::<LAWFUL_FRAME>(&line[1..], out, at)
         }
     }
 }

@@ -4,31 +4,31 @@
 ghost use Rattle.std.specs.Prelude.{◌≤◌, length};
 ghost use Rattle.operands.specs.Passing.{Moved, PartTold, LastTold, ReadTold};
 
-use frames::{batch, finish};
+use frames::{LONGEST, OUTPUT, batch, finish};
 use std::io::{Read, Stdin};
 
-// Writes the first n bytes of the output, unless that failed.
+// Writes the first n bytes of the output; `None` where that failed.
 fn write(rt: &impl Print, out: &[u8], n: usize) -> Option<()>
     requires { n ≤ length out.now }
 {
     rt.write_all(&out[..n]).ok()
 }
 
-// How many bytes a read put at the beginning of the store, none at the input's end, unless it failed.
+// How many bytes a read put at the beginning of the store, 0 at the input's end; `None` where it failed.
 fn read(stdin: &mut Stdin, input: &mut [u8]) -> Option<usize>
     ensures { Moved (length input.new) result }
 {
     stdin.read(input).ok()
 }
 
-// Answers a part of the input, in as many calls as the room for the output asks, and returns how much of the unfinished line is held. A
-// write that fails ends it.
+// Answers a part of the input, in as many calls as the room for the output asks, and returns how much of the unfinished line is held; `None`
+// where a write failed. `held`, `carry` and `out` are no struct: each of its `&mut` fields would be lent anew at every call, no plainer.
 fn answer_part(
     rt: &impl Print,
     input: &[u8],
     held: usize,
-    carry: &mut [u8; 917507],
-    out: &mut [u8; 163840],
+    carry: &mut [u8; LONGEST],
+    out: &mut [u8; OUTPUT],
 ) -> Option<usize>
     ensures { PartTold input.now held carry.old out.old carry.new out.new result }
 {
@@ -45,22 +45,22 @@ fn answer_part(
 }
 
 // Answers the last line, if it lacks its line feed.
-fn answer_last(rt: &impl Print, held: usize, carry: &[u8; 917507], out: &mut [u8; 163840])
+fn answer_last(rt: &impl Print, held: usize, carry: &[u8; LONGEST], out: &mut [u8; OUTPUT])
     ensures { LastTold held carry.now out.old out.new }
 {
     let n = finish(held, carry, out);
     write(rt, out, n);
 }
 
-// Answers what a read gave: so many bytes at the beginning of the store that it was lent, none at the input's end. Where the program goes
-// on, it returns how much of the unfinished line is held.
+// Answers what a read gave: so many bytes at the beginning of the store that it was lent, 0 at the input's end. Returns how much of the
+// unfinished line is held where the program goes on, `None` where it ends.
 fn answer_read(
     rt: &impl Print,
     got: Option<usize>,
     input: &[u8],
     held: usize,
-    carry: &mut [u8; 917507],
-    out: &mut [u8; 163840],
+    carry: &mut [u8; LONGEST],
+    out: &mut [u8; OUTPUT],
 ) -> Option<usize>
     requires { Moved (length input.now) got }
     ensures { ReadTold got input.now held carry.old out.old carry.new out.new result }
@@ -80,8 +80,8 @@ fn answer_read(
 fn main(rt: HostRuntime) {
     let mut stdin = rt.stdin();
     let mut input = [0u8; 65536];
-    let mut out = [0u8; 163840];
-    let mut carry = [0u8; 917507];
+    let mut out = [0u8; OUTPUT];
+    let mut carry = [0u8; LONGEST];
     let mut held = 0;
     for _ in 0..u64::MAX {
         let got = read(&mut stdin, &mut input);

@@ -9,11 +9,11 @@ use native.Mathlib.Numerals.{add-one}
 use borrow.Author.Tests.{lt-ltb, le-ltb, eq-eqb, ne_eqb}
 use lib.Dec.{eqb}
 use lib.ListN.{length, take, drop, get_or, set, drop_of_length-le}
-use lib.Seq.{drop-cons, take-length, length-take-le}
+use lib.Seq.{drop-cons, length-take-le}
 use Rattle.std.specs.Prelude.{Option, Some, None}
 use Rattle.std.specs.Option.{option_copied, option_eq}
 use Rattle.std.specs.List.{slice_get}
-use Rattle.std.proofs.Common.{Bor}
+use Rattle.std.proofs.Common.{Bor, take_all, length-drop}
 use Rattle.std.proofs.lemmas.Option.{none-some}
 use Rattle.names.specs.Choice.{pick}
 use Rattle.operand.specs.RefusalNumbers
@@ -50,10 +50,9 @@ pub held_long : (h n : ℕ) (C : List ℕ) (w : Layout) → 917507 < h → n ≡
 unfolding held_line longest
 held_long h n C w g all e = ap (λ v. ended v (refused RefusalNumbers.bad_frame)) (e ∙ layout_first n C (λ z. omega arith)) ∙ sym (rw (lt-ltb 917507 h g))
 
--- the characters behind a line's first
+-- the characters behind a line's first: as the crate names has it, whose proofs no other crate can name
 behind_first : (x : List ℕ) → take (length x - 1) (drop 1 x) ≡ drop 1 x
-behind_first [] = refl
-behind_first (c ∷ x) = let z : suc (length x) - 1 ≡ length x = omega arith in ap (λ k. take k x) z ∙ take-length x
+behind_first x = take_all (length x - 1) (drop 1 x) (simp length-drop (omega arith))
 
 -- what is held, under the name of its length in the code
 module _ (h n : ℕ) (C : List ℕ) (short : h ≤ 917507) (same : n ≡ h) where
@@ -115,13 +114,9 @@ narrow_asks w C F N D O n at e a g =
     let s = a.stores in
     rw e
     (record {
-      fits = omega (arith, length-take-le n C (omega (arith, s.carry_long)), s.frame_long);
-      stores = record { nodes_long = omega (arith, s.nodes_long, narrow_stores.0); diagnostics_long = omega (arith, s.diagnostics_long, narrow_stores.1); room = omega (arith, a.room, s.out_long) };
+      stores = record { fits = omega (arith, length-take-le n C (omega (arith, s.carry_long)), s.frame_long); nodes_long = omega (arith, s.nodes_long, narrow_stores.0); diagnostics_long = omega (arith, s.diagnostics_long, narrow_stores.1) };
+      room = omega (arith, a.room, s.out_long);
     })
-
--- an answer, under its other name
-pub put_as : {O P : List ℕ} {at r : ℕ} (y z : List ℕ) → y ≡ z → Put O P at y r → Put O P at z r
-put_as y z e p = rw (sym e) p
 
 -- ---- one byte
 

@@ -1,6 +1,6 @@
 -- Bytes put one after the other make a line.
 -- Assumes nothing.
-use mathlib.Core.Path.{◌≡◌, refl, ◌∙◌, ap, ap₂}
+use mathlib.Core.Path.{◌≡◌, refl, sym, ◌∙◌, ap, ap₂}
 use mathlib.Core.List.{List, [], ◌∷◌, ◌++◌, append_assoc}
 use Prim.Native.Nat.{ℕ, ◌+◌, ◌*◌, ◌≤◌, ◌<◌}
 use native.Mathlib.Omega.{arith}
@@ -139,3 +139,7 @@ module _ (w : Layout) where
       → n ≡ node_size w * x.nodes → d ≡ diagnostic_size w * x.diagnostics → Put O P at (ended w (take h H ++ (take k R ++ (take n N ++ take d D)))) r → Put O P at (ended w (answer_bytes w x N D)) r
   unfolding answer_bytes
   answer_line x H R N D O P at r h k n d e f g i p = rw (e, f, g, i) at p
+
+-- an answer, under its other name
+pub put_as : {O P : List ℕ} {at r : ℕ} (y z : List ℕ) → y ≡ z → Put O P at y r → Put O P at z r
+put_as y z e p = rw (sym e) p

@@ -23,12 +23,13 @@ use Rattle.layout.specs.Answers as Answers
 use Rattle.layout.specs.Answers.{Total, answer_valid}
 use Rattle.std.specs.Prelude.{Option, Some, None, Result, Ok, Err}
 use Rattle.std.specs.Bool.{then_some}
+use Rattle.std.specs.Option.{ok_or}
 use Rattle.operand.specs.declared.refusals.Refusal.{Refusal}
 use Rattle.layout.specs.declared.answer.Answer.{Answer}
 use Rattle.frames.specs.Frame.{diagnostic_bytes, max_nesting_depth, max_nesting_depth_lem, line_length, token_count, frame_length, is_frame, input_of, lent}
-use Rattle.frames.specs.Reply.{refused, bytes_at, input_bytes, frame_bytes, ended}
+use Rattle.frames.specs.Reply.{refused, bytes_at, input_bytes, frame_bytes, line_bytes}
 use Rattle.frames.specs.Lent.{lent_same}
-use Rattle.frames.specs.Inner.{Put, case_of, record_bytes, answer_bytes, AnswerAsks, ReadAsks, FramedAs}
+use Rattle.frames.specs.Inner.{case_of, record_bytes, answer_bytes, AnswerAsks, AnswerTold, ReadTold, ReadAsks, FramedAs}
 
 -- ---- of a call that keeps the entry's promise
 
@@ -70,14 +71,8 @@ module _ (a : Input) (None-used : a.used ≡ 0) (N D : List ℕ) where
             (ap₂ (λ l r. l ++ r) (ap (λ (z : Answer). record_bytes w z.operand) h)
             (ap₂ (λ l r. l ++ r) (Answers.used_records a N D (Ok x) p v ∙ ap (nodes_laid w) e) first_added))
 
-    pub asks : (O : List ℕ) (at : ℕ) → at + 102408 ≤ length O → length N ≡ node_store w → length D ≡ diagnostic_bytes w → AnswerAsks w O at x N D
-    asks O at room n d = record {
-      room = room;
-      nodes_few = Answers.nodes_few a N D (Ok x) p v;
-      nodes_long = n;
-      diagnostics_few = Answers.records_enough a N D (Ok x) p v;
-      diagnostics_long = d;
-    }
+    pub answer_told : (x₀ : List ℕ) → input_bytes a ≡ line_bytes w x₀ → AnswerTold w x₀ N D x
+    answer_told x₀ e = record { nodes_few = Answers.nodes_few a N D (Ok x) p v; diagnostics_few = Answers.records_enough a N D (Ok x) p v; bytes = answer_bytes_is ∙ e }
 
   pub refused_bytes : (k : Refusal) → EntryPromise a N D (Err k) → refused (RefusalNumbers.number k) ≡ input_bytes a
   unfolding input_bytes bytes_at
@@ -143,22 +138,29 @@ module _ (w : Layout) (B : List ℕ) (line k start mark : ℕ) (N D N' D' : List
   pub read_lent : (r : Result Answer Refusal) → EntryPromise (parts w B line k start mark N D) N' D' r → EntryPromise (lent w B N D) N' D' r
   read_lent r p = rw parts_lent at p
 
-module _ (w : Layout) (B N D N' D' : List ℕ) where
-  same_bytes : length B ≡ frame_length w B → length N ≡ node_store w → length D ≡ diagnostic_bytes w → input_bytes (lent w B N D) ≡ frame_bytes w B
-  same_bytes h n d = lent_same w B N D n d ∙ sym (is_frame_lem w B h)
+module _ (w : Layout) (x B N D N' D' : List ℕ) (is : frame_bytes w B ≡ line_bytes w x) (h : length B ≡ frame_length w B) (n : length N ≡ node_store w) (d : length D ≡ diagnostic_bytes w) where
+  same_bytes : input_bytes (lent w B N D) ≡ line_bytes w x
+  same_bytes = lent_same w B N D n d ∙ sym (is_frame_lem w B h) ∙ is
 
-  pub answer_asks : (x : Answer) → EntryPromise (lent w B N D) N' D' (Ok x) → (O : List ℕ) (at : ℕ) → at + 102408 ≤ length O → length N' ≡ node_store w → length D' ≡ diagnostic_bytes w
-      → AnswerAsks w O at x N' D'
-  answer_asks x p = asks (lent w B N D) refl N' D' x p
+  pub read_told : (r : Result Answer Refusal) → EntryPromise (lent w B N D) N' D' r → ReadTold w x N' D' r
+  unfolding ReadTold
+  read_told (Ok y) p = answer_told (lent w B N D) refl N' D' y p x same_bytes
+  read_told (Err k) p = refused_bytes (lent w B N D) refl N' D' k p ∙ same_bytes
 
-  pub answer_bytes_lem : (x : Answer) → EntryPromise (lent w B N D) N' D' (Ok x) → length B ≡ frame_length w B → length N ≡ node_store w → length D ≡ diagnostic_bytes w
-      → answer_bytes w x N' D' ≡ frame_bytes w B
-  answer_bytes_lem x p h n d = answer_bytes_is (lent w B N D) refl N' D' x p ∙ same_bytes h n d
+-- what the answer of a line asks to be put
+pub put_asks : (w : Layout) (x N D O : List ℕ) (at : ℕ) (a : Answer) → AnswerTold w x N D a → length N ≡ node_store w → length D ≡ diagnostic_bytes w → at + 102408 ≤ length O → AnswerAsks w O at a N D
+put_asks w x N D O at a t n d room = record { room = room; nodes_few = t.nodes_few; nodes_long = n; diagnostics_few = t.diagnostics_few; diagnostics_long = d }
 
-  pub refused_bytes_lem : (k : Refusal) → EntryPromise (lent w B N D) N' D' (Err k) → length B ≡ frame_length w B → length N ≡ node_store w → length D ≡ diagnostic_bytes w
-      → refused (RefusalNumbers.number k) ≡ frame_bytes w B
-  refused_bytes_lem k p h n d = refused_bytes (lent w B N D) refl N' D' k p ∙ same_bytes h n d
+-- a line that spells no frame
+pub told_bad : (w : Layout) (x N D : List ℕ) (r : Result Answer Refusal) → r ≡ Err Refusal.BadFrame → refused RefusalNumbers.bad_frame ≡ line_bytes w x → ReadTold w x N D r
+unfolding ReadTold
+told_bad w x N D r e f = rw e f
 
--- an answer's line, under its other name
-pub line_of : {O P : List ℕ} {at r : ℕ} (w : Layout) (b c : List ℕ) → b ≡ c → Put O P at (ended w b) r → Put O P at (ended w c) r
-line_of w b c e p = rw (sym e) p
+-- what an option of `?` was, from the result that it was made
+pub some_of : {A E : Type 0} (o : Option A) (d : E) (x : A) → ok_or o d ≡ Ok x → o ≡ Some x
+some_of (Some y) d x e = cc
+some_of None d x e = absurd cc
+
+pub none_of : {A E : Type 0} (o : Option A) (d y : E) → ok_or o d ≡ Err y → (o ≡ None) × (y ≡ d)
+none_of (Some x) d y e = absurd cc
+none_of None d y e = (refl, cc)

@@ -2,7 +2,8 @@
 -- Assumes nothing.
 use mathlib.Core.Path.{◌≡◌}
 use native.Mathlib.Omega.{arith}
-use Rattle.frames.proofs.batches.Turns.{held_long, held_narrow, held_refused, held_wide, wide_some, narrow_asks, put_as}
+use Rattle.frames.proofs.batches.Turns.{held_long, held_narrow, held_refused, held_wide, wide_some, narrow_asks}
+use Rattle.frames.proofs.reply.Putting.{put_as}
 use Rattle.frames.proofs.reply.answer.Goals as goal
 
 pub returns-then-held-gt-LONGEST : goal.returns-then-held-gt-LONGEST
