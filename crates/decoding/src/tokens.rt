@@ -1,8 +1,6 @@
 // The tokens of a call: checked, and decoded into four numbers each.
-ghost use Rattle.std.specs.Prelude.{◌≡◌, None, Some, [], ◌∷◌, ◌+◌, ◌-◌, ◌*◌, ◌/◌, ◌≤◌, eqb, length};
-ghost use Rattle.names.specs.Choice.{pick};
+ghost use Rattle.std.specs.Prelude.{◌≡◌, [], ◌+◌, ◌-◌, ◌*◌, ◌/◌, ◌≤◌, length};
 ghost use Rattle.names.specs.Kinds;
-ghost use Rattle.names.specs.Letters.{same};
 ghost use Rattle.records.specs.Stores.{written};
 ghost use Rattle.operand.specs.declared.layouts.Layout.TheVariants as layouts;
 ghost use Rattle.operand.specs.Layouts.{token_size};
@@ -22,23 +20,8 @@ const HEXADECIMAL: u16 = 1;
 
 const BINARY: u16 = 2;
 
-// Whether a text is this byte alone.
-#[tactic(auto, using(crate::proofs::tokens::Checks::same_slices))]
-fn once(text: &[u8], byte: u8) -> bool
-    ensures { result ≡ same text.now (byte ∷ []) }
-{
-    text == [byte].as_slice()
-}
-
-// Whether a text is this byte twice.
-#[tactic(auto, using(crate::proofs::tokens::Checks::same_slices))]
-fn twice(text: &[u8], byte: u8) -> bool
-    ensures { result ≡ same text.now (byte ∷ byte ∷ []) }
-{
-    text == [byte, byte].as_slice()
-}
-
 // Whether a sign is spelled as its kind says; a kind beyond the signs may be spelled in any way.
+#[tactic(auto, using(crate::proofs::tokens::Checks::sign_any))]
 fn spelled(kind: u16, text: &[u8]) -> bool
     requires { Kinds.hash ≤ kind }
     ensures { result ≡ spelled_as signs (kind - Kinds.hash) text.now }
@@ -46,32 +29,21 @@ fn spelled(kind: u16, text: &[u8]) -> bool
     // The byte of each sign; the last two have it twice.
     let signs = b"#,()[]{}:+-*/\\&!|^~<>";
     match signs.get(usize::from(kind - kinds::HASH)) {
-        Some(&byte) if kind < kinds::SHIFT_LEFT => once(text, byte),
-        Some(&byte) => twice(text, byte),
+        Some(&byte) if kind < kinds::SHIFT_LEFT => text == [byte].as_slice(),
+        Some(&byte) => text == [byte, byte].as_slice(),
         None => true,
     }
 }
 
-// The byte that a number of a base begins with; a decimal one has none.
-fn prefix(base: u16) -> Option<u8>
-    ensures { result ≡ pick (eqb base 0) None (Some (pick (eqb base 1) 36 (pick (eqb base 2) 37 64))) }
-{
-    match base {
-        DECIMAL => None,
-        HEXADECIMAL => Some(b'$'),
-        BINARY => Some(b'%'),
-        _ => Some(b'@'),
-    }
-}
-
-// Whether a number begins with the prefix of its base. Tried: `is_none_or`; the goal of what it returns stayed open.
-#[tactic(auto, using(crate::proofs::tokens::Checks::prefixed_none, crate::proofs::tokens::Checks::prefixed_empty, crate::proofs::tokens::Checks::prefixed_first))]
+// Whether a number begins with the prefix of its base; a decimal one has none.
 fn prefixed(base: u16, text: &[u8]) -> bool
     ensures { result ≡ prefixed base text.now }
 {
-    match prefix(base) {
-        Some(byte) => text.first() == Some(&byte),
-        None => true,
+    match base {
+        DECIMAL => true,
+        HEXADECIMAL => text.starts_with(b"$"),
+        BINARY => text.starts_with(b"%"),
+        _ => text.starts_with(b"@"),
     }
 }
 
@@ -91,11 +63,12 @@ fn well_spelled(kind: u16, detail: u16, text: &[u8]) -> bool
 fn good_token(line: &[u8], last: u16, token: Token) -> bool
     ensures { result ≡ good_token line.now last token.kind token.detail token.start token.end }
 {
+    let Some(text) = line.get(usize::from(token.start)..usize::from(token.end)) else {
+        return false;
+    };
     names::detail_defined(token.kind, token.detail)
-        && token.start <= token.end
-        && usize::from(token.end) <= line.len()
         && last <= token.start
-        && well_spelled(token.kind, token.detail, names::text_of(line, token))
+        && well_spelled(token.kind, token.detail, text)
 }
 
 // The numbers of a narrow list, at the front of `numbers`: its bytes. By index: of what `iter_mut` lends the library says nothing afterwards.
@@ -122,6 +95,7 @@ fn put_wide(tokens: &[u8], numbers: &mut [u16])
 }
 
 // The numbers of all n tokens, at the front of `numbers`.
+#[tactic(auto, using(crate::proofs::tokens::Decoding::narrow_decoded))]
 fn put_tokens(layout: Layout, tokens: &[u8], numbers: &mut [u16], n: usize)
     requires { (n ≡ length tokens.now / token_size layout) × (4 * n ≤ length numbers.old) }
     ensures { numbers.new ≡ decoded layout tokens.now numbers.old }

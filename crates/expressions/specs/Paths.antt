@@ -5,6 +5,8 @@ use Rattle.std.proofs.Common.{Some, None, sym, ◌∙◌, ap₂, subst, arith, l
 use Rattle.std.specs.Prelude.{Bool, false, Option, List, ℕ, ◌+◌, ◌*◌, ◌<◌, eqb, length}
 use Rattle.std.specs.Bool.{then_some}
 use Rattle.std.proofs.Math.Bool.{true}
+use Rattle.std.proofs.lemmas.Option.{none-some}
+use Rattle.names.specs.Laws.{true_false}
 use Rattle.names.specs.Tokens.{token_at}
 use Rattle.names.specs.Places.{Place, nothing, stands, text_of, placed, place, there, nowhere}
 use Rattle.names.specs.declared.tokens.Token.{Token}
@@ -13,10 +15,10 @@ use Rattle.records.specs.declared.counters.Counters.{Counters}
 use Rattle.records.specs.Diagnostics.{diagnostic_record}
 use Rattle.records.specs.Stores.{written, added}
 use Rattle.records.specs.Written.{added_append}
-use Rattle.records.specs.Counters.{stepped, OneMore, counters_are}
+use Rattle.records.specs.Counters.{stepped, OneMore, counters_are, over_is}
 use Rattle.expressions.specs.Laws.{holds, met_yes, met_no}
 use Rattle.expressions.specs.Reader.{Test, is, of_kind, Reading, Reader, answer, here, raise, bump, peek, ◌>>=◌, choose, run}
-use Rattle.expressions.specs.Told.{Raised, RaisedOver, over, ended, Told, Same}
+use Rattle.expressions.specs.Told.{Raised, RaisedOver, over, ended, Told, Same, NextTold}
 
 -- ---- a test that fails
 
@@ -32,19 +34,19 @@ fails_end t p h = rw h
 
 pub kind_token : (kind : ℕ) (o : Option Token) {k : Token} → of_kind kind o ≡ Some k → (o ≡ Some k) × (eqb k.kind kind ≡ true)
 unfolding of_kind
-kind_token kind None e = let z : ◌≡◌ {A = ℕ} 0 1 = cc in absurd (omega arith)
+kind_token kind None e = absurd (none-some _ e)
 kind_token kind (Some m) {k} e = go (eqb m.kind kind) refl e
   where
     go : (b : Bool) → eqb m.kind kind ≡ b → then_some b m ≡ Some k → (Some m ≡ Some k) × (eqb k.kind kind ≡ true)
     go true q h = let s : m ≡ k = cc in (h, rw (← s) q)
-    go false q h = let z : ◌≡◌ {A = ℕ} 0 1 = cc in absurd (omega arith)
+    go false q h = absurd (none-some _ h)
 
 pub no_kind : (kind : ℕ) (L T : List ℕ) (i : ℕ) → of_kind kind (token_at T i) ≡ None → holds (is kind) (place L T i) ≡ false
 unfolding of_kind place placed holds
 no_kind kind L T i e = go (token_at T i) e
   where
     no : (k : Token) (b : Bool) → eqb k.kind kind ≡ b → then_some b k ≡ None → eqb k.kind kind ≡ false
-    no k true q g = let z : ◌≡◌ {A = ℕ} 0 1 = cc in absurd (omega arith)
+    no k true q g = absurd (none-some _ (sym g))
     no k false q g = q
 
     go : (o : Option Token) → of_kind kind o ≡ None → holds (is kind) (placed L o) ≡ false
@@ -207,7 +209,7 @@ module _ {A E : Type 0} {f : A → E} {Q : A → Counters → Type 0} {L T D D' 
   passed {a} h g = go (place L T (c.at + a)) refl h
     where
       go : (p : Place) → place L T (c.at + a) ≡ p → holds t p ≡ true → Told f Q (peek a t y n) L T D D' c v r
-      go nothing e q = let z : ◌≡◌ {A = ℕ} 0 1 = cc in absurd (omega arith)
+      go nothing e q = absurd (true_false (sym q))
       go (stands k x) e q = retold (met_yes t (λ k x. run (y k x) (place L T) c.at c.end) (λ u. run (n u) (place L T) c.at c.end) (place L T (c.at + a)) k x e q) refl (g k x)
 
   -- either way
@@ -234,6 +236,18 @@ module _ {A E : Type 0} {f : A → E} {Q : A → Counters → Type 0} {L T D D' 
   pub unseen_kind : {a j : ℕ} → j ≡ c.at + a → of_kind kind (token_at T j) ≡ None → Told f Q (n tt) L T D D' c v r → Told f Q (peek a (is kind) y n) L T D D' c v r
   unseen_kind {a} i e g = unseen (no_kind kind L T (c.at + a) (subst (λ z. of_kind kind (token_at T z) ≡ None) i e)) g
 
+-- the counters behind the token that the code took
+pub next_stepped : {T : List ℕ} {kind : ℕ} {c c₁ : Counters} {x : Option Token} {k : Token} → NextTold T kind c x c₁ → x ≡ Some k → c.at < 65535 → c₁ ≡ stepped c k
+next_stepped h e l = over_is l (h.steps _ e)
+
+-- the same by what the code says of that token
+module _ {A E : Type 0} {f : A → E} {Q : A → Counters → Type 0} {L T D D' : List ℕ} {c c₁ : Counters} {v : E} {r : Counters} {kind : ℕ} {x : Option Token} {y : Token → List ℕ → Reader A} {n : Unit {0} → Reader A} (h : NextTold T kind c x c₁) where
+  pub hit_next : {k : Token} → x ≡ Some k → c.at < 65535 → Told f Q (y k (text_of L k.start k.end)) L T D D' c₁ v r → Told f Q (bump (is kind) y n) L T D D' c v r
+  hit_next e l g = hit_kind kind (sym h.token ∙ e) (next_stepped h e l) g
+
+  pub miss_next : x ≡ None → Told f Q (n tt) L T D D' c₁ v r → Told f Q (bump (is kind) y n) L T D D' c v r
+  miss_next e g = miss_kind kind (sym h.token ∙ e) (subst (λ z. Told f Q (n tt) L T D D' z v r) (h.stays e) g)
+
 -- a token is stepped over, and no node is written
 pub hit_same : {A E : Type 0} {f : A → E} {L T D D' : List ℕ} {c : Counters} {v : E} {r : Counters} {t : Test} {y : Token → List ℕ → Reader A} {n : Unit {0} → Reader A} {k : Token} {c₁ : Counters}
     → token_at T c.at ≡ Some k → t k (text_of L k.start k.end) ≡ true → c₁ ≡ stepped c k
@@ -244,10 +258,10 @@ hit_same h q e g = hit h q e (same (ap (λ z. z.nodes) e) g)
 
 pub chosen : {A E : Type 0} {f : A → E} {Q : A → Counters → Type 0} {L T D D' : List ℕ} {c : Counters} {v : E} {r : Counters} (b : Bool) {p : Reader A} (q : Reader A) → b ≡ true → Told f Q p L T D D' c v r → Told f Q (choose b p q) L T D D' c v r
 chosen true q e h = h
-chosen false q e h = let z : ◌≡◌ {A = ℕ} 0 1 = cc in absurd (omega arith)
+chosen false q e h = absurd (true_false (sym e))
 
 pub unchosen : {A E : Type 0} {f : A → E} {Q : A → Counters → Type 0} {L T D D' : List ℕ} {c : Counters} {v : E} {r : Counters} (b : Bool) (p : Reader A) {q : Reader A} → b ≡ false → Told f Q q L T D D' c v r → Told f Q (choose b p q) L T D D' c v r
-unchosen true p e h = let z : ◌≡◌ {A = ℕ} 0 1 = cc in absurd (omega arith)
+unchosen true p e h = absurd (true_false e)
 unchosen false p e h = h
 
 -- ---- no node is written

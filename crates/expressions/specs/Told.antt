@@ -1,15 +1,15 @@
 -- What a function that reads tells: the answer, the counters and the diagnostics, by the reading that the definition gives.
 -- Assumes nothing.
-use Rattle.std.specs.Prelude.{Some, None, ◌≡◌, List, ℕ, ◌+◌, ◌*◌, length}
-use Rattle.names.specs.Tokens.{token_at}
+use Rattle.std.specs.Prelude.{Option, Some, None, ◌≡◌, List, ℕ, ◌+◌, ◌*◌, ◌≤◌, length, max}
+use Rattle.names.specs.Tokens.{count, token_at}
 use Rattle.names.specs.Places.{place}
 use Rattle.names.specs.declared.tokens.Token.{Token}
 use Rattle.records.specs.declared.diagnostics.Diagnostic.{Diagnostic}
 use Rattle.records.specs.declared.counters.Counters.{Counters}
 use Rattle.records.specs.Diagnostics.{diagnostic_record}
 use Rattle.records.specs.Stores.{written, added}
-use Rattle.records.specs.Counters.{stepped}
-use Rattle.expressions.specs.Reader.{Reader, run}
+use Rattle.records.specs.Counters.{stepped, Over}
+use Rattle.expressions.specs.Reader.{Reader, of_kind, run}
 
 -- the diagnostic x behind those that count; nothing else moves
 pub record Raised (D D' : List ℕ) (c : Counters) (x : Diagnostic) (r : Counters) : Type 0 where
@@ -34,3 +34,14 @@ pub record Told {A B : Type 0} (f : A → B) (Q : A → Counters → Type 0) (p 
 -- no node is written
 abbrev pub Same : {A : Type 0} → ℕ → A → Counters → Type 0
 Same n a r = r.nodes ≡ n
+
+-- The token x at the cursor, if it is of this kind, and the counters r behind it; if it is not, nothing moves.
+-- The numbers are bounded in both cases, so that what had room has it behind the question too.
+pub record NextTold (T : List ℕ) (kind : ℕ) (c : Counters) (x : Option Token) (r : Counters) : Type 0 where
+  pub token : x ≡ of_kind kind (token_at T c.at)
+  pub from : c.at ≤ r.at
+  pub within : r.at ≤ max c.at (count T)
+  pub nodes : r.nodes ≡ c.nodes
+  pub diagnostics : r.diagnostics ≡ c.diagnostics
+  pub steps : (t : Token) → x ≡ Some t → Over c t r
+  pub stays : x ≡ None → r ≡ c

@@ -4,6 +4,7 @@ ghost use Rattle.names.specs.Places.{text_of};
 ghost use Rattle.names.specs.Tokens.{token_at};
 ghost use Rattle.records.specs.Spans.{span, span_or};
 ghost use Rattle.expressions.specs.Reader.{of_kind};
+ghost use Rattle.expressions.specs.Told.{NextTold};
 
 use crate::reading::Setting;
 use names::Token;
@@ -32,23 +33,22 @@ impl<'a, 'b> Source<'a, 'b> {
         self.token_at(usize::from(c.at))
     }
 
-    // The token at a place, if it is of this kind. A match with a guard: `filter` was tried, and what its closure says of a lent token did not
-    // give the clause.
+    // The token at a place, if it is of this kind.
     #[tactic(auto, unfolding(crate::specs::Reader::of_kind))]
     pub fn token_of_kind(&self, i: usize, kind: u16) -> Option<Token>
         ensures { result ≡ of_kind kind (token_at self.now.tokens.now i) }
     {
-        match self.token_at(i) {
-            Some(token) if token.kind == kind => Some(token),
-            _ => None,
-        }
+        let token = self.token_at(i)?;
+        (token.kind == kind).then_some(token)
     }
 
-    // The token at the cursor, if it is of this kind.
-    pub fn peek_kind(&self, c: Counters, kind: u16) -> Option<Token>
-        ensures { result ≡ of_kind kind (token_at self.now.tokens.now c.at) }
+    // The token at the cursor, if it is of this kind; the cursor goes behind it, as with `next_if` of `Peekable`.
+    pub fn next_of_kind(&self, c: &mut Counters, kind: u16) -> Option<Token>
+        ensures { NextTold self.now.tokens.now kind c.old result c.new }
     {
-        self.token_of_kind(usize::from(c.at), kind)
+        let token = self.token_of_kind(usize::from(c.at), kind)?;
+        c.step_over(token);
+        Some(token)
     }
 
     // The span of the token at the cursor, or the empty one where the last token ended.

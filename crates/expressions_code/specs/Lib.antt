@@ -1,5 +1,6 @@
 -- The functions that read terms and expressions.
 -- what is asked and told
+pub mod Numbers
 pub mod Terms
 pub mod Reading
 -- the laws

@@ -1,5 +1,6 @@
 -- What the functions that read terms ask, and what they tell: the answer and both stores, by the reading that the definition gives.
 -- Assumes nothing.
+use Rattle.std.proofs.Common.{refl, arith}
 use Rattle.std.specs.Prelude.{Some, ◌≡◌, Result, Ok, Err, false, List, [], ◌∷◌, ◌++◌, ℕ, ◌+◌, ◌-◌, ◌*◌, ◌≤◌, ◌<◌, length, take, drop}
 use Rattle.names.specs.Kinds
 use Rattle.names.specs.Tokens.{count, token_at}
@@ -19,10 +20,12 @@ use Rattle.expressions.specs.Reader.{is, Reader, ◌>>=◌}
 use Rattle.expressions.specs.Laws.{holds}
 use Rattle.expressions.specs.Told.{Told}
 use Rattle.expressions.specs.Expressions.{Term, precedence, read, reported, absent, too_deep, fuel, negated, plussed, grouped, parse_prefix, parse_expression, parse_expression_from}
-use Rattle.records.specs.Nodes.{node_record, words}
+use Rattle.records.specs.Nodes.{node_record, node_numbers, words}
+use Rattle.records.specs.declared.nodes.Node.{Node}
 use Rattle.expressions.specs.Records.{nodes}
-use Rattle.records.specs.Counters.{stepped}
-use Rattle.records.specs.Stores.{written, PutTold, PushTold}
+use Rattle.records.specs.Counters.{stepped, OneNode}
+use Rattle.records.specs.Written.{put_told}
+use Rattle.records.specs.Stores.{written, PutAsks, PutTold, PushTold}
 
 -- ---- a term as the answer has it
 
@@ -67,6 +70,10 @@ pub record LeafTold (N N' : List ℕ) (c : Counters) (kind detail : ℕ) (s : Sp
   pub seen : r.diagnostics ≡ c.diagnostics
   pub put : PutTold N N' c.nodes (node_record kind detail 65535 65535 s (words 4 value)) r.nodes
 
+-- a symbol's, by its own span
+abbrev pub SymbolTold : List ℕ → List ℕ → Counters → Span → Parsed → Counters → Type 0
+SymbolTold N N' c s v r = LeafTold N N' c 3 0 s (s.start + 65536 * s.end) v r × (s.start < 65536) × (s.end < 65536)
+
 pub record DeepTold (D D' : List ℕ) (c : Counters) (x : Diagnostic) (v_r : Parsed) (r : Counters) : Type 0 where
   pub what : v_r ≡ Err errors.Reported
   pub at : r.at ≡ c.at
@@ -85,6 +92,13 @@ pub record NodeTold (N N' : List ℕ) (c : Counters) (b : List ℕ) (r : Counter
   pub end : r.end ≡ c.end
   pub seen : r.diagnostics ≡ c.diagnostics
   pub put : PutTold N N' c.nodes b r.nodes
+
+-- where there is room
+pub node_told : {N N' : List ℕ} {c r : Counters} (x : Node) {b : List ℕ} → node_numbers x ≡ b → PutAsks N c.nodes → N' ≡ written N (10 * c.nodes) (node_numbers x) → OneNode c r → NodeTold N N' c b r
+unfolding words
+node_told {c = c} {r = r} x e h w one =
+    let more : r.nodes ≡ c.nodes + 1 = omega (arith, h, one.nodes) in
+    record { at = one.at; end = one.end; seen = one.diagnostics; put = rw (← e, more) (put_told _ _ _ _ h refl w) }
 
 -- ---- what a term of one token asks, behind that token, and what it tells
 
@@ -209,9 +223,6 @@ ReaderBy p N o N' o' v = ReaderTold p N o.diagnostics.now N' o'.diagnostics.now 
 
 abbrev pub TokenBy : Reader Term → Source → Token → List ℕ → Progress → List ℕ → Progress → Parsed → Type 0
 TokenBy p a k N o N' o' v = TokenTold p a.line.now k N o.diagnostics.now N' o'.diagnostics.now o.counters v o'.counters
-
-abbrev pub TermBy : Reader Term → Source → List ℕ → Progress → List ℕ → Progress → Parsed → Type 0
-TermBy p a N o N' o' v = TermTold p a.line.now a.tokens.now N o.diagnostics.now N' o'.diagnostics.now o.counters v o'.counters
 
 abbrev pub PrefixBy : Source → List ℕ → Progress → List ℕ → Progress → ℕ → Parsed → Type 0
 PrefixBy a N o N' o' room v = PrefixTold a.line.now a.tokens.now N o.diagnostics.now N' o'.diagnostics.now o.counters room v o'.counters

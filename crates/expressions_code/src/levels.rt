@@ -1,9 +1,9 @@
 // Levels and numbers of operators, by the kind of their token. The kinds stand in the order of the levels, with the tilde between the
 // third and the fourth.
-ghost use Rattle.std.specs.Prelude.{◌≡◌, List, ℕ};
-ghost use Rattle.expressions.specs.Expressions.{precedence, binary_operator, is_unary, unary_operator};
+ghost use Rattle.std.specs.Prelude.{◌≡◌};
+ghost use Rattle.expressions.specs.Expressions.{precedence, binary_operator, unary_operator};
 
-use names::{Token, kinds};
+use names::kinds;
 
 // The level of a kind of token as a binary operator, 0 for a kind that is none. No `Option`: it is compared with the least level, so that none
 // needs no case of its own.
@@ -33,13 +33,6 @@ pub(crate) fn binary_operator(kind: u16) -> u16
         kinds::SHIFT_LEFT => 8,
         _ => 9,
     }
-}
-
-#[tactic(auto, unfolding(expressions::specs::Expressions::is_unary))]
-pub(crate) fn is_unary(token: Token) -> bool
-    ensures { (x : List ℕ) → result ≡ is_unary token x }
-{
-    matches!(token.kind, kinds::MINUS | kinds::TILDE)
 }
 
 // A unary operator's number, of a kind that is one: 0 and 1 are the definition's, as `binary_operator`'s are.

@@ -7,7 +7,9 @@ ghost use Rattle.expressions_code.specs.Terms.{DeepBy, DeepAt, DepthBy, Expected
 use crate::terms::TermError;
 use expressions::Source;
 use names::Token;
-use records::{Diagnostic, DiagnosticKind, Progress, Span, expression_expected, plain};
+use records::{
+    Diagnostic, DiagnosticKind, Progress, Span, expression_expected, plain, unclosed_parenthesis,
+};
 
 // Raises a diagnostic: the term has failed and leaves no node.
 pub(crate) fn report(out: &mut Progress, x: Diagnostic) -> Result<Span, TermError>
@@ -55,12 +57,5 @@ pub(crate) fn unclosed(out: &mut Progress, first: u16, token: Token) -> Result<S
     ensures told { DeepAt (with_nodes out.old.counters first) out.old out.new (unclosed_parenthesis (span_of token)) result }
 {
     out.counters.nodes = first;
-    report(
-        out,
-        plain(
-            DiagnosticKind::UnclosedParenthesis,
-            Span::from(token),
-            Span::default(),
-        ),
-    )
+    report(out, unclosed_parenthesis(token))
 }

@@ -4,12 +4,12 @@ ghost use Rattle.names.specs.Tokens.{token_at};
 ghost use Rattle.records.specs.Rooms.{NodeRoom};
 ghost use Rattle.expressions_code.specs.Terms.{OperatedBy, PrefixBy, ExpressionBy, BehindBy, ClimbBy, CloseBy, unary_term, plus_term, group_term};
 
-use crate::leaves::{parse_leaf, put_operator};
-use crate::levels::{binary_operator, is_unary, precedence, unary_operator};
-use crate::reports::{expected, report, too_deep, unclosed};
+use crate::leaves::parse_leaf;
+use crate::levels::{binary_operator, precedence, unary_operator};
+use crate::reports::{expected, too_deep, unclosed};
 use expressions::Source;
 use names::{Token, kinds};
-use records::{ABSENT, DiagnosticKind, NodeKind, Progress, Span, plain, widen};
+use records::{ABSENT, DiagnosticKind, Node, NodeKind, Progress, Span, plain, put_counted, widen};
 
 // Why a term is not read: it failed and that is told, or none stands there.
 #[derive(Clone, Copy, PartialEq, Eq)]
@@ -30,7 +30,7 @@ fn close_group(
     ensures lent { out.new.diagnostics.ghost_name ≡ out.old.diagnostics.ghost_name }
     ensures told { CloseBy source.now nodes.old out.old nodes.new out.new first token result }
 {
-    let Some(t) = source.peek_kind(out.counters, kinds::RIGHT_PAREN) else {
+    let Some(t) = source.next_of_kind(&mut out.counters, kinds::RIGHT_PAREN) else {
         return unclosed(out, first, token);
     };
     let span = Span {
@@ -38,7 +38,6 @@ fn close_group(
         end: t.end,
     };
     widen(nodes, out.counters.nodes - 1, span);
-    out.counters.step_over(t);
     Ok(span)
 }
 
@@ -58,15 +57,13 @@ fn parse_prefix(
     if room == 0 {
         return too_deep(source, out);
     }
-    let Some(t) = source.peek(out.counters) else {
-        return Err(TermError::Absent);
-    };
+    let t = source.peek(out.counters).ok_or(TermError::Absent)?;
     let less = room - 1;
-    if is_unary(t) {
-        out.counters.step_over(t);
-        return parse_unary(source, nodes, out, t, less);
-    }
     match t.kind {
+        kinds::MINUS | kinds::TILDE => {
+            out.counters.step_over(t);
+            parse_unary(source, nodes, out, t, less)
+        }
         kinds::PLUS => {
             out.counters.step_over(t);
             parse_plus(source, nodes, out, t, less)
@@ -99,17 +96,15 @@ fn parse_unary(
         start: token.start,
         end: term.end,
     };
-    let operator = unary_operator(token.kind);
-    let operand = out.counters.nodes - 1;
-    put_operator(
-        nodes,
-        &mut out.counters,
-        NodeKind::Unary,
-        operator,
-        operand,
-        ABSENT,
+    let unary = Node {
+        kind: u16::from(NodeKind::Unary),
+        detail: unary_operator(token.kind),
+        left: out.counters.nodes - 1,
+        right: ABSENT,
         span,
-    );
+        value: 0,
+    };
+    put_counted(nodes, &mut out.counters, unary);
     Ok(span)
 }
 
@@ -126,21 +121,13 @@ fn parse_plus(
     ensures lent { out.new.diagnostics.ghost_name ≡ out.old.diagnostics.ghost_name }
     ensures told { BehindBy (plus_term room token) source.now nodes.old out.old nodes.new out.new result }
 {
-    let span = Span::from(token);
-    match parse_prefix(source, nodes, out, room) {
-        Ok(s) => {
-            out.raise(plain(DiagnosticKind::PlusIsNotAUnaryOperator, span, s));
-            Ok(s)
-        }
-        Err(_) => report(
-            out,
-            plain(
-                DiagnosticKind::PlusIsNotAUnaryOperator,
-                span,
-                Span::default(),
-            ),
-        ),
-    }
+    let read = parse_prefix(source, nodes, out, room);
+    out.raise(plain(
+        DiagnosticKind::PlusIsNotAUnaryOperator,
+        Span::from(token),
+        read.unwrap_or_default(),
+    ));
+    read.or(Err(TermError::Reported))
 }
 
 // Behind the parenthesis of a group.
@@ -194,10 +181,7 @@ pub(crate) fn parse_expression_from(
 {
     let mut span = left;
     // No `for`: each turn reads on from where the last one ended, and the callee says whether it goes on.
-    loop {
-        let Some(t) = source.peek(out.counters) else {
-            break;
-        };
+    while let Some(t) = source.peek(out.counters) {
         if precedence(t.kind) < minimum {
             break;
         }
@@ -234,16 +218,14 @@ fn parse_operated(
         start: left.start,
         end: right.end,
     };
-    let operator = binary_operator(t.kind);
-    let last = out.counters.nodes - 1;
-    put_operator(
-        nodes,
-        &mut out.counters,
-        NodeKind::Binary,
-        operator,
-        before,
-        last,
-        whole,
-    );
+    let binary = Node {
+        kind: u16::from(NodeKind::Binary),
+        detail: binary_operator(t.kind),
+        left: before,
+        right: out.counters.nodes - 1,
+        span: whole,
+        value: 0,
+    };
+    put_counted(nodes, &mut out.counters, binary);
     Ok(whole)
 }

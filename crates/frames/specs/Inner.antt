@@ -10,6 +10,7 @@ use Rattle.operand.specs.Layouts.{node_size, diagnostic_size, most_tokens, node_
 use Rattle.operand.specs.Layout.{bytes_of, head_laid, operand_number, no_operand_number}
 use Rattle.operand.specs.declared.forms.OperandRecord.{OperandRecord}
 use Rattle.layout.specs.declared.answer.Answer.{Answer}
+use Rattle.frames.specs.declared.output.Output.{Output}
 use Rattle.frames.specs.Hex.{value, is_digit, spells, spelled}
 use Rattle.frames.specs.Frame.{diagnostic_bytes, line_length, frame_length}
 use Rattle.frames.specs.Reply.{refused, line_bytes}
@@ -18,7 +19,12 @@ use Rattle.frames.specs.Machine.{State, held_on, carry_on}
 -- the bytes y from a place of the output on, and the next place
 pub record Put (O O' : List ℕ) (at : ℕ) (y : List ℕ) (r : ℕ) : Type 0 where
   pub next : r ≡ at + length y
+  pub kept : length O' ≡ length O
   pub out : O' ≡ written O at y
+
+-- the bytes y behind what is filled
+abbrev pub Wrote : Output → Output → List ℕ → Type 0
+Wrote o o' y = Put o.bytes.now o'.bytes.now o.filled y o'.filled
 
 -- the value of a digit, none for every other character
 abbrev pub digit_value : ℕ → Option ℕ
@@ -56,8 +62,8 @@ answer_bytes w x N D =
     head_laid w (case_of x.operand) x.cursor x.nodes x.diagnostics
     ++ (record_bytes w x.operand ++ (take (node_size w * x.nodes) N ++ take (diagnostic_size w * x.diagnostics) D))
 
-pub record AnswerAsks (w : Layout) (O : List ℕ) (at : ℕ) (x : Answer) (N D : List ℕ) : Type 0 where
-  pub room : at + 102408 ≤ length O
+pub record AnswerAsks (w : Layout) (o : Output) (x : Answer) (N D : List ℕ) : Type 0 where
+  pub room : o.filled + 102408 ≤ length o.bytes.now
   pub nodes_few : x.nodes ≤ most_tokens w
   pub nodes_long : length N ≡ node_store w
   pub diagnostics_few : x.diagnostics ≤ free_records w
@@ -70,9 +76,9 @@ pub record ReadDigitsAsk (w : Layout) (x F N D : List ℕ) : Type 0 where
   pub diagnostics_long : length D ≡ diagnostic_bytes w
 
 -- and room for the longest answer
-pub record DigitsAsk (w : Layout) (x F N D O : List ℕ) (at : ℕ) : Type 0 where
+pub record DigitsAsk (w : Layout) (x F N D : List ℕ) (o : Output) : Type 0 where
   pub stores : ReadDigitsAsk w x F N D
-  pub room : at + 102408 ≤ length O
+  pub room : o.filled + 102408 ≤ length o.bytes.now
 
 -- an answer's records are in the stores, and its bytes are the line's answer
 pub record AnswerTold (w : Layout) (x N D : List ℕ) (a : Answer) : Type 0 where
@@ -96,20 +102,9 @@ FramedAs w B None = length B ≡ frame_length w B → ⊥
 
 -- ---- a part of the input
 
-pub record BatchAsks (C F N D O : List ℕ) : Type 0 where
-  pub carry_long : length C ≡ 917507
-  pub frame_long : length F ≡ 1279
-  pub nodes_long : length N ≡ 3570
-  pub diagnostics_long : length D ≡ 5110
-  pub out_long : length O ≡ 163840
-
 pub record HoldTold (C : List ℕ) (held b : ℕ) (C' : List ℕ) (r : ℕ) : Type 0 where
   pub next : r ≡ held_on held
   pub carry : C' ≡ carry_on C held b
-
-pub record TurnAsks (C F N D O : List ℕ) (at : ℕ) : Type 0 where
-  pub stores : BatchAsks C F N D O
-  pub room : at ≤ 61432
 
 abbrev pub state : ℕ → ℕ → ℕ → List ℕ → List ℕ → State
 state consumed held filled C O = record { consumed = consumed; held = held; filled = filled; carry = C; out = O }

@@ -1,12 +1,9 @@
 // A part of the input, of any length, cut anywhere.
-ghost use Rattle.std.specs.Prelude.{◌≡◌, length};
 ghost use Rattle.frames.specs.Batches.{BatchTold, FinishTold};
-ghost use Rattle.frames.specs.Inner.{HoldTold, BatchAsks};
+ghost use Rattle.frames.specs.Inner.{HoldTold};
 
+use crate::output::{OUTPUT, Output};
 use crate::reply::{HEAD, LONGEST, RECORD, WIDE_DIAGNOSTICS, WIDE_NODES, answer};
-
-// The size of the output.
-pub const OUTPUT: usize = 163840;
 
 // The sizes of the stores for a narrow line: its frame's bytes, its nodes, its diagnostics.
 const FRAME: usize = 1279;
@@ -14,6 +11,14 @@ const FRAME: usize = 1279;
 const NODES: usize = 3570;
 
 const DIAGNOSTICS: usize = 5110;
+
+// The stores that a narrow line's answer is made in.
+#[derive(Drop)]
+pub(crate) struct Stores {
+    pub(crate) frame: [u8; FRAME],
+    pub(crate) nodes: [u8; NODES],
+    pub(crate) diagnostics: [u8; DIAGNOSTICS],
+}
 
 // What may be filled of the output so that the longest answer has room: its letter, the digits of its four parts, its line feed.
 const ROOMY: usize = OUTPUT - (1 + 2 * (HEAD + RECORD + WIDE_NODES + WIDE_DIAGNOSTICS) + 1);
@@ -29,8 +34,8 @@ pub struct Batched {
 
 // Holds one byte more of a line, if there is room. Of a line longer than any frame only that it is longer is kept, as a number past LONGEST:
 // `batch` and `finish` take any number. Tried: `held.min(LONGEST) + 1` for both cases takes 11 percent more instructions a frame, and the bar is 3.
-fn hold(carry: &mut [u8], held: usize, b: u8) -> usize
-    requires { length carry.old ≡ 917507 }
+#[tactic(auto, unfolding(crate::specs::Machine::held_on, crate::specs::Machine::carry_on, crate::specs::Machine::longest))]
+fn hold(carry: &mut [u8; LONGEST], held: usize, b: u8) -> usize
     ensures { HoldTold carry.old held b carry.new result }
 {
     if held < LONGEST {
@@ -41,41 +46,40 @@ fn hold(carry: &mut [u8], held: usize, b: u8) -> usize
     }
 }
 
-// The lines that end in the input, with the stores that answers are made in. They are no struct: of `&mut` fields each would be lent anew at
-// every call, which is no plainer.
+// The lines that end in the input.
 fn batch_in(
     input: &[u8],
     held: usize,
-    carry: &mut [u8],
-    frame: &mut [u8],
-    nodes: &mut [u8],
-    diagnostics: &mut [u8],
-    out: &mut [u8],
+    carry: &mut [u8; LONGEST],
+    stores: &mut Stores,
+    out: &mut [u8; OUTPUT],
 ) -> Batched
-    requires { BatchAsks carry.old frame.old nodes.old diagnostics.old out.old }
     ensures { BatchTold input.now held carry.old out.old carry.new out.new result }
 {
     let mut h = held;
-    let mut w = 0;
+    let mut out = Output {
+        bytes: out,
+        filled: 0,
+    };
     for (i, b) in input.iter().enumerate() {
-        if w > ROOMY {
-            return Batched {
-                consumed: i,
-                held: h,
-                written: w,
-            };
-        }
-        if *b == b'\n' {
-            w = answer(carry, h, frame, nodes, diagnostics, out, w);
-            h = 0;
-        } else {
+        if *b != b'\n' {
             h = hold(carry, h, *b);
+            continue;
+        }
+        answer(carry, h, stores, &mut out);
+        h = 0;
+        if out.filled > ROOMY {
+            return Batched {
+                consumed: i + 1,
+                held: h,
+                written: out.filled,
+            };
         }
     }
     Batched {
         consumed: input.len(),
         held: h,
-        written: w,
+        written: out.filled,
     }
 }
 
@@ -88,38 +92,31 @@ pub fn batch(
 ) -> Batched
     ensures { BatchTold input.now held carry.old out.old carry.new out.new result }
 {
-    let mut frame = [0u8; FRAME];
-    let mut nodes = [0u8; NODES];
-    let mut diagnostics = [0u8; DIAGNOSTICS];
-    batch_in(
-        input,
-        held,
-        carry,
-        &mut frame,
-        &mut nodes,
-        &mut diagnostics,
-        out,
-    )
+    let mut stores = Stores {
+        frame: [0u8; FRAME],
+        nodes: [0u8; NODES],
+        diagnostics: [0u8; DIAGNOSTICS],
+    };
+    batch_in(input, held, carry, &mut stores, out)
 }
 
-// Answers the last line, if it lacks its line feed, and returns how many bytes were written. Its stores are those of `batch`; what lent
-// them to both would take each call as a closure, which is no plainer.
+// Answers the last line, if it lacks its line feed, and returns how many bytes were written.
+#[tactic(auto, using(records::specs::Written::written_nothing), unfolding(crate::specs::Machine::last_line))]
 pub fn finish(held: usize, carry: &[u8; LONGEST], out: &mut [u8; OUTPUT]) -> usize
     ensures { FinishTold held carry.now out.old out.new result }
 {
     if held == 0 {
         return 0;
     }
-    let mut frame = [0u8; FRAME];
-    let mut nodes = [0u8; NODES];
-    let mut diagnostics = [0u8; DIAGNOSTICS];
-    answer(
-        carry,
-        held,
-        &mut frame,
-        &mut nodes,
-        &mut diagnostics,
-        out,
-        0,
-    )
+    let mut stores = Stores {
+        frame: [0u8; FRAME],
+        nodes: [0u8; NODES],
+        diagnostics: [0u8; DIAGNOSTICS],
+    };
+    let mut out = Output {
+        bytes: out,
+        filled: 0,
+    };
+    answer(carry, held, &mut stores, &mut out);
+    out.filled
 }

@@ -23,6 +23,7 @@ fn width(layout: Layout) -> usize
 }
 
 // The number that stands from a place on.
+#[tactic(auto, unfolding(operand::specs::Layouts::number_at))]
 fn number_at(layout: Layout, bytes: &[u8], at: usize) -> usize
     requires { at + width layout ≤ length bytes.now }
     ensures { (result ≡ number_at layout bytes.now at) × (result < 65536) }

@@ -4,6 +4,7 @@ ghost use Rattle.frames.specs.Hex.{digit, digits};
 ghost use Rattle.frames.specs.Inner.{digit_value, DecodedAs, Put};
 
 // The value of a digit. Not by `char::to_digit`, which takes capitals too.
+#[tactic(auto, unfolding(crate::specs::Hex::value, crate::specs::Hex::is_digit))]
 fn value(c: u8) -> Option<u8>
     ensures { result ≡ digit_value c }
 {
@@ -15,6 +16,7 @@ fn value(c: u8) -> Option<u8>
 }
 
 // `char::from_digit` would answer an `Option` that is never `None`, of a `char`: no plainer.
+#[tactic(auto, unfolding(crate::specs::Hex::digit))]
 fn digit(n: u8) -> u8
     requires { n < 16 }
     ensures { result ≡ digit n }

@@ -4,7 +4,9 @@
 mod batches;
 mod frame;
 mod hex;
+mod output;
 mod reply;
 
-pub use batches::{Batched, OUTPUT, batch, finish};
+pub use batches::{Batched, batch, finish};
+pub use output::OUTPUT;
 pub use reply::LONGEST;

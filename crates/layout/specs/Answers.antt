@@ -111,7 +111,7 @@ module _ (r : Reading (Option Operand)) where
 
   none_result : (v : Option Operand) (x : Answer) → result_of r v ≡ x → x.operand ≡ None → v ≡ None
   unfolding result_of
-  none_result (Some y) x h e = let z : ◌≡◌ {A = ℕ} 0 1 = cc in absurd (omega arith)
+  none_result (Some y) x h e = absurd cc
   none_result None x h e = refl
 
 -- ---- of every call that keeps the promise

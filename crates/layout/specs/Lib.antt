@@ -5,6 +5,7 @@ pub mod Nodes
 pub mod Diagnostics
 pub mod Record
 pub mod Head
+pub mod Cases
 -- the laws
 pub mod Answers
 pub mod Stored

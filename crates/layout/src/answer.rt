@@ -2,17 +2,28 @@
 ghost use Rattle.std.specs.Prelude.{◌≡◌};
 ghost use Rattle.records.specs.Stores.{written};
 ghost use Rattle.operand.specs.Layout.{head_laid};
+ghost use Rattle.layout.specs.Cases;
 ghost use Rattle.layout.specs.Head.{head_size};
 
 use operand::{Layout, OperandRecord};
 use records::write;
 
-// The number of each case of an answer (docs/FORMAT.md). Numbers: `write_head` writes any case that it is given.
-pub const OPERAND: u8 = 0;
+// The cases of an answer (docs/FORMAT.md).
+#[derive(Clone, Copy, PartialEq, Eq, Debug)]
+pub enum Case {
+    Operand = 0,
+    NoOperand,
+    Refused,
+}
 
-pub const NO_OPERAND: u8 = 1;
+// The number that an answer begins with.
+impl From<Case> for u8 {
+    ghost from_gives = { λ x n. n ≡ Cases.number x };
 
-pub const REFUSED: u8 = 2;
+    fn from(x: Case) -> u8 {
+        x as u8
+    }
+}
 
 // What a call reads: the operand, if there is one, with the cursor, the nodes used and the diagnostics added.
 #[derive(Clone, Copy)]
@@ -34,7 +45,8 @@ pub fn head_size(layout: Layout) -> usize
 }
 
 // Writes an answer's beginning from a place of the store on, where all of it fits: the case's number, the cursor, the nodes used and the
-// diagnostics added. Seven parameters: any numbers are written, and a struct of the four would be a type for three calls.
+// diagnostics added. Seven parameters, and no method of `Answer`: any numbers are written, and the terminal's are not its answer's, since it has 0
+// for the nodes where there is no operand.
 #[tactic(auto, unfolding(records::specs::Nodes::low_first, operand::specs::Layouts::number, operand::specs::Layout::head_laid))]
 pub fn write_head(
     layout: Layout,

@@ -8,8 +8,8 @@ use crate::numbers::{low, two_words};
 use operand::Layout;
 use records::write;
 
-// A record in the narrow layout. Each layout has an array of its own length: one form for both would ask for the layout at each offset, which is
-// no plainer.
+// A record in the narrow layout. Each layout has an array of its own length. One form for both would be a loop that writes number by number, each with
+// a width by its place: it would carry the place on and ask for the room first, since of a record that does not fit nothing is written. No plainer.
 #[tactic(auto, unfolding(records::specs::Nodes::low_first, operand::specs::Layouts::number, crate::specs::Diagnostics::diagnostic_from))]
 fn narrow_record(numbers: &[u16; 10]) -> [u8; 10]
     ensures { result ≡ diagnostic_from layouts.Narrow numbers.now 0 }
@@ -56,6 +56,7 @@ fn encode_diagnostic(layout: Layout, numbers: &[u16; 10], diagnostics: &mut [u8]
 }
 
 // Writes the first n records into the diagnostic list, behind the used ones. Most operands have none.
+#[tactic(auto, using(records::specs::Written::written_nothing, crate::proofs::store::Encoding::diagnostics_none, crate::proofs::store::Encoding::diagnostics_missing, crate::proofs::store::Encoding::diagnostics_short), unfolding(operand::specs::Layout::records_laid))]
 pub fn encode_diagnostics(
     layout: Layout,
     numbers: &[u16],
@@ -68,13 +69,15 @@ pub fn encode_diagnostics(
     if n == 0 {
         return;
     }
-    let chunks = numbers.as_chunks::<10>().0;
-    let records = layout.diagnostic_count(diagnostics.len());
-    if chunks.len() < n || records < n || records - n < used {
+    let Some(records) = numbers.as_chunks::<10>().0.get(..n) else {
+        return;
+    };
+    let count = layout.diagnostic_count(diagnostics.len());
+    if count.checked_sub(n).is_none_or(|free| free < used) {
         return;
     }
     let size = layout.diagnostic_size();
-    for (i, record) in chunks[..n].iter().enumerate() {
+    for (i, record) in records.iter().enumerate() {
         encode_diagnostic(layout, record, diagnostics, size * (used + i));
     }
 }

@@ -8,7 +8,7 @@ mod numbers;
 mod record;
 mod store;
 
-pub use answer::{Answer, NO_OPERAND, OPERAND, REFUSED, head_size, write_head};
+pub use answer::{Answer, Case, head_size, write_head};
 pub use diagnostics::encode_diagnostics;
 pub use nodes::encode_nodes;
 pub use record::write_operand;

@@ -6,7 +6,7 @@ ghost use Rattle.operand.specs.Layout.{four_words, node_from};
 ghost use Rattle.operand.specs.declared.layouts.Layout.TheVariants as layouts;
 ghost use Rattle.layout.specs.Nodes.{head_from, last_from, nodes_encoded};
 
-use crate::numbers::low;
+use crate::numbers::{low, two_words};
 use crate::store::clear;
 use operand::Layout;
 use records::{NodeKind, write};
@@ -19,11 +19,9 @@ const NUMBER: u16 = NodeKind::Number as u16;
 fn four_words(a: u16, b: u16, c: u16, d: u16) -> [u8; 8]
     ensures { result ≡ four_words a b c d }
 {
-    let a = a.to_le_bytes();
-    let b = b.to_le_bytes();
-    let c = c.to_le_bytes();
-    let d = d.to_le_bytes();
-    [a[0], a[1], b[0], b[1], c[0], c[1], d[0], d[1]]
+    let [a0, a1, b0, b1] = two_words(a, b);
+    let [c0, c1, d0, d1] = two_words(c, d);
+    [a0, a1, b0, b1, c0, c1, d0, d1]
 }
 
 // The last eight bytes of a record.
@@ -39,6 +37,7 @@ fn last_eight(layout: Layout, numbers: &[u16; 10]) -> [u8; 8]
 }
 
 // Writes two parts of a record, one behind the other.
+#[tactic(auto, using(records::specs::Written::written_on))]
 fn write_parts(nodes: &mut [u8], at: usize, head: &[u8], rest: &[u8])
     requires { at + length head.now + length rest.now ≤ length nodes.old }
     ensures { nodes.new ≡ written nodes.old at (head.now ++ rest.now) }
@@ -47,20 +46,14 @@ fn write_parts(nodes: &mut [u8], at: usize, head: &[u8], rest: &[u8])
     write(nodes, at + head.len(), rest);
 }
 
-// The bytes before the last eight in the narrow layout: kind, detail, the children's numbers, the span. Each layout by itself, as in record.rt.
+// The bytes before the last eight in the narrow layout: kind, detail, the children's numbers, the span. Each layout by itself,
+// as in diagnostics.rt.
 #[tactic(auto, unfolding(records::specs::Nodes::low_first, operand::specs::Layouts::number))]
 fn narrow_head(numbers: &[u16; 10]) -> [u8; 6]
     ensures { result ≡ head_from layouts.Narrow numbers.now 0 }
 {
     let &[kind, detail, left, right, start, end, ..] = numbers;
-    [
-        low(kind),
-        low(detail),
-        low(left),
-        low(right),
-        low(start),
-        low(end),
-    ]
+    [kind, detail, left, right, start, end].map(low)
 }
 
 // The same in the wide one.
@@ -69,25 +62,12 @@ fn wide_head(numbers: &[u16; 10]) -> [u8; 10]
     ensures { result ≡ head_from layouts.Wide numbers.now 0 }
 {
     let &[kind, detail, left, right, start, end, ..] = numbers;
-    let left = left.to_le_bytes();
-    let right = right.to_le_bytes();
-    let start = start.to_le_bytes();
-    let end = end.to_le_bytes();
-    [
-        low(kind),
-        low(detail),
-        left[0],
-        left[1],
-        right[0],
-        right[1],
-        start[0],
-        start[1],
-        end[0],
-        end[1],
-    ]
+    let [l0, l1, r0, r1, s0, s1, e0, e1] = four_words(left, right, start, end);
+    [low(kind), low(detail), l0, l1, r0, r1, s0, s1, e0, e1]
 }
 
 // Writes a record into the store at `at`.
+#[tactic(auto, using(crate::proofs::store::Encoding::node_parts))]
 fn encode_node(layout: Layout, numbers: &[u16; 10], nodes: &mut [u8], at: usize)
     requires { at + node_size layout ≤ length nodes.old }
     ensures { nodes.new ≡ written nodes.old at (node_from layout numbers.now 0) }
@@ -100,18 +80,21 @@ fn encode_node(layout: Layout, numbers: &[u16; 10], nodes: &mut [u8], at: usize)
 }
 
 // Writes the first n records into the node store, and zeros behind them. All of it is cleared first: from its beginning on that is faster.
+#[tactic(auto, using(records::specs::Written::written_nothing, crate::proofs::store::Encoding::nodes_many, crate::proofs::store::Encoding::nodes_missing, crate::proofs::store::Encoding::nodes_short), unfolding(operand::specs::Layout::records_laid, operand::specs::Layout::node_bytes))]
 pub fn encode_nodes(layout: Layout, numbers: &[u16], n: usize, nodes: &mut [u8])
     ensures { nodes.new ≡ nodes_encoded layout numbers.now n nodes.old }
 {
-    let chunks = numbers.as_chunks::<10>().0;
     let store = layout.node_store();
-    if layout.most_tokens() < n || chunks.len() < n || nodes.len() < store {
+    let Some(records) = numbers.as_chunks::<10>().0.get(..n) else {
+        return;
+    };
+    if layout.most_tokens() < n || nodes.len() < store {
         return;
     }
     clear(&mut nodes[..store]);
     // The place is computed, here and in diagnostics.rt: of a store that is lent in chunks the library says nothing afterwards.
     let size = layout.node_size();
-    for (i, record) in chunks[..n].iter().enumerate() {
+    for (i, record) in records.iter().enumerate() {
         encode_node(layout, record, nodes, size * i);
     }
 }

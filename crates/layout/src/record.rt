@@ -22,6 +22,7 @@ const PROGRAM_COUNTER: u8 = 0x20;
 const SUPPRESSED_PROGRAM_COUNTER: u8 = 0x21;
 
 // A displacement with the same bytes, in both layouts.
+#[tactic(auto, using(crate::proofs::record::Parts::sized_as))]
 fn sized_part(d: Option<Sized>) -> Sized
     ensures { SizedAs result d }
 {
@@ -42,6 +43,7 @@ fn spanless(n: u8) -> Register
 }
 
 // A register with the same bytes, in both layouts.
+#[tactic(auto, unfolding(operand::specs::Layout::base_part))]
 fn base_part(base: BaseRegister) -> Register
     ensures { BaseAs result base }
 {
@@ -55,6 +57,7 @@ fn base_part(base: BaseRegister) -> Register
 }
 
 // An index register with the same bytes, in both layouts.
+#[tactic(auto, using(crate::proofs::record::Parts::index_as, records::specs::Spans::blank))]
 fn index_part(index: Option<IndexRegister>) -> IndexRegister
     ensures { IndexAs result index }
 {
@@ -91,7 +94,9 @@ fn fill(x: OperandRecord) -> Filled
     }
 }
 
-// The twenty bytes of the narrow layout. Each layout by itself: one form for both would ask for the layout at each offset, which is no plainer.
+// The twenty bytes of the narrow layout. Each layout by itself: one form for both would write each part by itself, the numbers as
+// `&number.to_le_bytes()[..width]`, and hand the place on through twenty calls, which is no plainer.
+#[tactic(auto, using(crate::proofs::record::Parts::narrow_record))]
 fn narrow_bytes(x: OperandRecord, p: Filled) -> [u8; 20]
     requires { FilledFrom x p }
     ensures { result ≡ bytes_of layouts.Narrow x }
@@ -121,6 +126,7 @@ fn narrow_bytes(x: OperandRecord, p: Filled) -> [u8; 20]
 }
 
 // The thirty bytes of the wide one: a register has one byte, a span four, a node's number two.
+#[tactic(auto, using(crate::proofs::record::Parts::wide_record))]
 fn wide_bytes(x: OperandRecord, p: Filled) -> [u8; 30]
     requires { FilledFrom x p }
     ensures { result ≡ bytes_of layouts.Wide x }
@@ -171,13 +177,7 @@ pub fn write_operand(layout: Layout, x: OperandRecord, store: &mut [u8], at: usi
 {
     let p = fill(x);
     match layout {
-        Layout::Narrow => {
-            let bytes = narrow_bytes(x, p);
-            write(store, at, &bytes);
-        }
-        Layout::Wide => {
-            let bytes = wide_bytes(x, p);
-            write(store, at, &bytes);
-        }
+        Layout::Narrow => write(store, at, &narrow_bytes(x, p)),
+        Layout::Wide => write(store, at, &wide_bytes(x, p)),
     }
 }

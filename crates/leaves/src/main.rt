@@ -4,6 +4,7 @@
 ghost use Rattle.std.specs.Prelude.{◌≤◌, length};
 
 use names::{NumberError, SizeSuffix, SpecialRegister, Suppressed};
+use std::fmt::{self, Display, Formatter, Write};
 use std::io::Read;
 
 // What cannot be written is left out.
@@ -11,48 +12,59 @@ fn put(rt: &impl Print, text: &[u8]) {
     let _ = rt.write_all(text);
 }
 
-fn put_number(rt: &impl Print, n: u64) {
-    let _ = rt.print(n);
-}
-
-fn put_flag(rt: &impl Print, on: bool) {
-    if on {
-        put(rt, b"yes");
-    } else {
-        put(rt, b"no");
-    }
-}
-
 // A number, where there is one.
-fn show_found(rt: &impl Print, label: &[u8], found: Option<u8>) {
-    put(rt, label);
-    match found {
-        Some(n) => put_number(rt, u64::from(n)),
-        None => put(rt, b"no"),
+#[derive(Drop)]
+struct Found(Option<u8>);
+
+impl Display for Found {
+    fn fmt<W: Write>(&self, f: &mut Formatter<W>) -> fmt::Result {
+        match self.0 {
+            Some(n) => write!(f, "{n}"),
+            None => f.write_str("no"),
+        }
     }
 }
 
-fn show_suppressed(rt: &impl Print, name: &[u8]) {
-    put(rt, b" suppressed=");
-    match names::suppressed_register(name) {
-        Some(Suppressed::Register(r)) => put_number(rt, u64::from(r)),
-        Some(Suppressed::ProgramCounter) => put(rt, b"pc"),
-        None => put(rt, b"no"),
+#[derive(Drop)]
+struct Flag(bool);
+
+impl Display for Flag {
+    fn fmt<W: Write>(&self, f: &mut Formatter<W>) -> fmt::Result {
+        f.write_str(if self.0 { "yes" } else { "no" })
     }
 }
 
-// No `Display` of the error: the words are this program's, not the library's.
-fn show_number(rt: &impl Print, detail: u16, text: &[u8]) {
-    match names::parse_number(detail, text) {
-        Ok(v) => put_number(rt, v),
-        Err(NumberError::TooLarge) => put(rt, b"large"),
-        Err(NumberError::Invalid) => put(rt, b"no"),
+// What is written with a `z`.
+#[derive(Drop)]
+struct Zeroed(Option<Suppressed>);
+
+impl Display for Zeroed {
+    fn fmt<W: Write>(&self, f: &mut Formatter<W>) -> fmt::Result {
+        match self.0 {
+            Some(Suppressed::Register(r)) => write!(f, "{r}"),
+            Some(Suppressed::ProgramCounter) => f.write_str("pc"),
+            None => f.write_str("no"),
+        }
     }
 }
 
+// A number of any size, or why it is none: the words are this program's, not the library's.
+#[derive(Drop)]
+struct Value(Result<u64, NumberError>);
+
+impl Display for Value {
+    fn fmt<W: Write>(&self, f: &mut Formatter<W>) -> fmt::Result {
+        match self.0 {
+            Ok(v) => write!(f, "{v}"),
+            Err(NumberError::TooLarge) => f.write_str("large"),
+            Err(NumberError::Invalid) => f.write_str("no"),
+        }
+    }
+}
+
+// The bytes of a literal are put as they are: they need be no text.
 fn show_literal(rt: &impl Print, text: &[u8]) {
     let mut space = [0u8; 16];
-    put(rt, b" literal=");
     match names::string_literal_bytes(text, &mut space) {
         Some(n) => put(rt, space.get(..n).unwrap_or_default()),
         None => put(rt, b"no room"),
@@ -61,25 +73,19 @@ fn show_literal(rt: &impl Print, text: &[u8]) {
 
 fn show(rt: &impl Print, line: &[u8]) {
     put(rt, line);
-    put(rt, b":");
-    show_found(rt, b" register=", names::parse_register(line));
-    let special = SpecialRegister::parse(line).map(u8::from);
-    show_found(rt, b" special=", special);
-    put(rt, b" pc=");
-    put_flag(rt, names::is_program_counter(line));
-    show_suppressed(rt, line);
-    put(rt, b" reserved=");
-    put_flag(rt, names::is_reserved_name(line));
-    let size = SizeSuffix::from_run(names::suffix_run(line)).map(u8::from);
-    show_found(rt, b" size=", size);
-    put(rt, b" numbers=");
-    show_number(rt, 0, line);
-    put(rt, b",");
-    show_number(rt, 1, line);
-    put(rt, b",");
-    show_number(rt, 2, line);
-    put(rt, b",");
-    show_number(rt, 3, line);
+    let _ = print!(rt;
+        ": register={} special={} pc={} suppressed={} reserved={} size={} numbers={},{},{},{} literal=",
+        Found(names::parse_register(line)),
+        Found(SpecialRegister::parse(line).map(u8::from)),
+        Flag(names::is_program_counter(line)),
+        Zeroed(names::suppressed_register(line)),
+        Flag(names::is_reserved_name(line)),
+        Found(SizeSuffix::from_run(names::suffix_run(line)).map(u8::from)),
+        Value(names::parse_number(0, line)),
+        Value(names::parse_number(1, line)),
+        Value(names::parse_number(2, line)),
+        Value(names::parse_number(3, line)),
+    );
     show_literal(rt, line);
     put(rt, b"\n");
 }

@@ -10,7 +10,7 @@ use borrow.Author.Tests.{eqb-true, ne_eqb, le-leb, lt-leb, leb-true, leb-false}
 use lib.Dec.{leb, ltb, eqb}
 use lib.ListN.{drop}
 use Rattle.names.specs.Choice.{pick, both}
-use Rattle.names.specs.Laws.{pick_same, both_false}
+use Rattle.names.specs.Laws.{true_false, pick_same, both_false}
 use Rattle.names.specs.Letters.{bytes, lower, lowered, same}
 use Rattle.names.specs.Registers.{pair, register, register_of, named, special_registers, special_names, special_of, suppressing, suppressed, suppressed_of}
 use Rattle.names.specs.Sizes.{letter_size, size_of}
@@ -218,7 +218,7 @@ counter_none (c ∷ cs) h = go (eqb c 112) refl h
   where
     go : (b : Bool) → eqb c 112 ≡ b → both b (same cs (bytes "c")) ≡ true → lettered (c ∷ cs) ≡ 255
     go true q g = rw (eqb-true c 112 q)
-    go false q g = let z : ◌≡◌ {A = ℕ} 0 1 = cc in absurd (omega arith)
+    go false q g = absurd (true_false (sym g))
 
 abbrev with_z : List ℕ → Option Suppressed
 with_z cs = pick (same cs (bytes "pc")) (Some ProgramCounter) (suppressing (register cs))

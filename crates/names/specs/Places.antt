@@ -1,7 +1,7 @@
 -- What stands at a place: nothing, or a token with the bytes of its text.
 -- Assumes nothing.
 use Rattle.std.specs.Prelude.{◌≡◌, refl, Bool, true, false, Option, Some, None, List, [], ℕ, ◌-◌, ◌<◌, leb, length, take, drop}
-use Rattle.std.proofs.Common.{arith, leb-false}
+use Rattle.std.proofs.Common.{leb-false}
 use Rattle.names.specs.Choice.{pick, both}
 use Rattle.names.specs.Tokens.{count, token_from, token_at}
 use Rattle.names.specs.declared.tokens.Token.{Token}
@@ -28,7 +28,7 @@ unfolding place placed token_at
 below L T i t x h = go (leb (count T) i) refl h
   where
     go : (b : Bool) → leb (count T) i ≡ b → placed L (pick b None (Some (token_from T i))) ≡ stands t x → i < count T
-    go true q g = let z : ◌≡◌ {A = ℕ} 0 1 = cc in omega arith
+    go true q g = absurd cc
     go false q g = leb-false (count T) i q
 
 -- by what the list has there

@@ -5,6 +5,7 @@ ghost use Rattle.names.specs.Literals.{quoted, FirstInner, literal_bytes, Stored
 
 // The first byte that the inside of a literal stands for, and what is left behind it; none at the literal's end.
 // A doubled quote is one quote, and a single one closes the literal.
+#[tactic(auto, using(crate::proofs::literals::Quotes::quoted_none, crate::proofs::literals::Quotes::quoted_first, crate::proofs::literals::Quotes::quoted_last, crate::proofs::literals::Quotes::quoted_close, crate::proofs::literals::Quotes::quoted_double))]
 fn first_inner(inside: &[u8], quote: u8) -> Option<(u8, &[u8])>
     ensures { MatchOption result (quoted quote inside.now ≡ []) (λ p. FirstInner quote inside.now p.0 p.1.now) }
 {

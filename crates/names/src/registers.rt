@@ -24,7 +24,8 @@ pub enum SpecialRegister {
     Isp,
 }
 
-// The number that a record has.
+// The number that a record has. No plainer form for this and the eight others like it: `rt ci` refuses an own macro or derive, and the
+// library has none.
 impl From<SpecialRegister> for u8 {
     ghost from_gives = { λ x n. n ≡ special_number (Some x) };
 
@@ -75,25 +76,27 @@ pub fn is_program_counter(name: &[u8]) -> bool
     spells(name, b"pc")
 }
 
-// A name of three letters: the first one leaves one register, or none.
+// A name of three letters: the first one leaves one register, or none. By index, under the clause of its length: a pattern would need an arm that
+// never comes, which is no plainer.
 fn of_three(name: &[u8]) -> Option<SpecialRegister>
     requires { length name.now ≡ 3 }
     ensures { result ≡ special_of name.now }
 {
-    let rest = &name[1..];
-    match lower(name[0]) {
-        b'c' => spells(rest, b"cr").then_some(SpecialRegister::Ccr),
-        b'u' => spells(rest, b"sp").then_some(SpecialRegister::Usp),
-        b's' => spells(rest, b"fc").then_some(SpecialRegister::Sfc),
-        b'd' => spells(rest, b"fc").then_some(SpecialRegister::Dfc),
-        b'v' => spells(rest, b"br").then_some(SpecialRegister::Vbr),
-        b'm' => spells(rest, b"sp").then_some(SpecialRegister::Msp),
-        b'i' => spells(rest, b"sp").then_some(SpecialRegister::Isp),
-        _ => None,
-    }
+    let (word, register) = match lower(name[0]) {
+        b'c' => (b"cr", SpecialRegister::Ccr),
+        b'u' => (b"sp", SpecialRegister::Usp),
+        b's' => (b"fc", SpecialRegister::Sfc),
+        b'd' => (b"fc", SpecialRegister::Dfc),
+        b'v' => (b"br", SpecialRegister::Vbr),
+        b'm' => (b"sp", SpecialRegister::Msp),
+        b'i' => (b"sp", SpecialRegister::Isp),
+        _ => return None,
+    };
+    spells(&name[1..], word).then_some(register)
 }
 
 // A special register is told by the name's length, then letter by letter in place: no more than four are looked at.
+#[tactic(auto, using(crate::specs::Laws::then_some_pick, crate::proofs::registers::Specials::special_cacr, crate::proofs::registers::Specials::special_caar, crate::proofs::registers::Specials::special_other))]
 fn by_length(name: &[u8]) -> Option<SpecialRegister>
     ensures { result ≡ special_of name.now }
 {
@@ -108,6 +111,7 @@ fn by_length(name: &[u8]) -> Option<SpecialRegister>
 
 impl SpecialRegister {
     // Most names are labels, which are longer: they are left without a call.
+    #[tactic(auto, using(crate::proofs::Cases::told_special))]
     pub fn parse(name: &[u8]) -> Option<SpecialRegister>
         ensures { SpecialTold name.now result }
     {

@@ -19,7 +19,7 @@ pub struct IndexRegister {
     pub span: Span,
 }
 
-// As the Rust has it, `Omitted` among its bases. A suppressed address register is its number, 0 to 7.
+// `Omitted` is among them: a base is a field of `OperandRecord`, of which any may be given. A suppressed address register is its number, 0 to 7.
 #[derive(Clone, Copy)]
 pub enum BaseRegister {
     Address(Register),
@@ -65,8 +65,8 @@ pub struct OperandStep {
     pub counters: Counters,
 }
 
-// A size suffix: its size, 0 for one that is not known, and its span. The size is the record's byte, as in `Sized` and `IndexRegister`, which take
-// it as it is: an `Option` would be made the same number in each of them.
+// A size suffix: its size, 0 for one that is not known, and its span. A number, as the definition has it, which does not bound it, so that an
+// `Option` of the sizes could not be told of it; it goes into the record as it is.
 #[derive(Clone, Copy)]
 pub struct Suffixed {
     pub size: u8,

@@ -65,6 +65,7 @@ impl Layout {
     }
 
     // The bytes of the longest line.
+    #[tactic(auto, unfolding(crate::specs::Layouts::longest_line))]
     pub fn longest_line(self) -> usize
         ensures { result ≡ longest_line self }
     {
@@ -75,6 +76,7 @@ impl Layout {
     }
 
     // The tokens of the longest list, and the records of a node store.
+    #[tactic(auto, unfolding(crate::specs::Layouts::most_tokens))]
     pub fn most_tokens(self) -> usize
         ensures { result ≡ most_tokens self }
     {
@@ -92,6 +94,7 @@ impl Layout {
     }
 
     // The diagnostic records that must be free.
+    #[tactic(auto, using(crate::specs::Layouts::most_tokens_lem, crate::specs::Layouts::free_records_lem))]
     pub fn free_records(self) -> usize
         ensures { result ≡ free_records self }
     {

@@ -14,8 +14,7 @@ use Rattle.expressions.proofs.Costs.{all_clean, suffix_cost}
 use Rattle.expressions.specs.Expressions.{Suffix, suffixed, bare, take_size_suffix}
 use Rattle.expressions.specs.Laws as laws
 use Rattle.expressions.specs.Laws.{Law, law_run}
-use Rattle.expressions.specs.Reader.{Reader, of_kind, run}
-use Rattle.expressions.specs.Paths.{kind_token}
+use Rattle.expressions.specs.Reader.{Reader, run}
 use Rattle.records.specs.Counters.{stepped, Over, over_is}
 use Rattle.operand.specs.Operand.{parse_index_register, parse_base_and_index_registers}
 use Rattle.operand.proofs.Costs.{Left}
@@ -26,6 +25,7 @@ use Rattle.expressions.specs.Told.{Told}
 use Rattle.operand.specs.declared.forms.IndexRegister.{IndexRegister}
 use Rattle.operand.specs.declared.forms.Registers.{Registers}
 use Rattle.operand.specs.declared.forms.Suffixed.{Suffixed}
+use Rattle.std.proofs.lemmas.Option.{none-some}
 use Rattle.std.specs.Prelude.{Option, Some, None, option_map}
 
 -- ---- the definition's answer, by the code's
@@ -38,20 +38,20 @@ pub record MappedAs {A B : Type 0} (f : A → B) (m : Option A) (y : B) : Type 0
 
 pub map_is : {A B : Type 0} (f : A → B) (m : Option A) {y : B} → option_map f m ≡ Some y → MappedAs f m y
 map_is f (Some x) h = record { part = x; is = refl; form = cc }
-map_is f None h = let z : ◌≡◌ {A = ℕ} 0 1 = cc in absurd (omega arith)
+map_is f None h = absurd (none-some _ h)
 
 pub map_not : {A B : Type 0} (f : A → B) (m : Option A) → option_map f m ≡ None → m ≡ None
-map_not f (Some x) h = let z : ◌≡◌ {A = ℕ} 0 1 = cc in absurd (omega arith)
+map_not f (Some x) h = absurd (none-some _ (sym h))
 map_not f None h = refl
 
 pub suffix_is : (m : Suffix) {x : Suffixed} → suffix_read m ≡ Some x → m ≡ suffixed x.size x.span
 unfolding suffix_read
 suffix_is (suffixed n s) h = cc
-suffix_is bare h = let z : ◌≡◌ {A = ℕ} 0 1 = cc in absurd (omega arith)
+suffix_is bare h = absurd (none-some _ h)
 
 pub suffix_not : (m : Suffix) → suffix_read m ≡ None → m ≡ bare
 unfolding suffix_read
-suffix_not (suffixed n s) h = let z : ◌≡◌ {A = ℕ} 0 1 = cc in absurd (omega arith)
+suffix_not (suffixed n s) h = absurd (none-some _ (sym h))
 suffix_not bare h = refl
 
 -- ---- room
@@ -68,16 +68,10 @@ module _ {T : List ℕ} {c c₁ : Counters} {k : Token} {n : ℕ} (h : Room T c 
   pub room_over : token_at T c.at ≡ Some k → Room T c₁ n 1
   room_over t = room_step h t over_room
 
-  pub room_over_kind : (kind : ℕ) → of_kind kind (token_at T c.at) ≡ Some k → Room T c₁ n 1
-  room_over_kind kind t = room_over (kind_token kind _ t).0
-
 -- with room for nodes
 module _ {T N : List ℕ} {c c₁ : Counters} {k : Token} {n : ℕ} (h : NodeRoom T N c n 0 1) (o : Over c k c₁) where
   pub node_over : token_at T c.at ≡ Some k → NodeRoom T N c₁ n 0 1
   node_over t = let l = live T c.at k t in rw (over_room h.room o) (omega (arith, h, l))
-
-  pub node_over_kind : (kind : ℕ) → of_kind kind (token_at T c.at) ≡ Some k → NodeRoom T N c₁ n 0 1
-  node_over_kind kind t = node_over (kind_token kind _ t).0
 
 -- behind a reader that has raised no more than it has consumed
 room_behind : {A B : Type 0} {f : A → B} {Q : A → Counters → Type 0} {p : Reader A} {L T D D₁ : List ℕ} {c : Counters} {v : B} {c₁ : Counters} {n : ℕ}

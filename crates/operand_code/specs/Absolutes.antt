@@ -1,6 +1,6 @@
 -- What the functions of the operand forms tell: behind a register, and behind an expression whose tree stands in the records.
 -- Assumes nothing.
-use Rattle.std.specs.Prelude.{◌≡◌, List, [], ℕ, ◌-◌, Option, Some, None, option_map}
+use Rattle.std.specs.Prelude.{◌≡◌, List, [], ℕ, ◌-◌, Option, Some, None, Ok, Err, option_map}
 use Rattle.names.specs.Kinds
 use Rattle.names.specs.Tokens.{token_at}
 use Rattle.names.specs.declared.tokens.Token.{Token}
@@ -15,7 +15,11 @@ use Rattle.records.specs.declared.counters.Counters.{Counters}
 use Rattle.operand.specs.FormNumbers
 use Rattle.operand.specs.Operands.{Displacement, displaced, Operand}
 use Rattle.operand.specs.Forms.{form_of, record_of}
-use Rattle.expressions.specs.Told.{Told}
+use Rattle.expressions.specs.Told.{NextTold, Raised, Told}
+use Rattle.records.specs.declared.diagnostics.Diagnostic.{Diagnostic}
+use Rattle.expressions_code.specs.declared.terms.TermError.TheVariants as errors
+use Rattle.expressions_code.specs.Reading.{ExpressionFits}
+use Rattle.operand_code.specs.declared.bases.Opening.{Opening}
 use Rattle.operand_code.specs.Operands.{Kept, Stored}
 use Rattle.operand.specs.declared.forms.BaseRegister.{BaseRegister}
 use Rattle.operand.specs.declared.forms.OperandRecord.{OperandRecord}
@@ -54,7 +58,23 @@ pub record TreeTold (p : Expr → Reader (Option Operand)) (L T D D' : List ℕ)
 pub record StandTold (W : Expr → Type 0) (p : Expr → Reader (Option Operand)) (L T N D N' D' : List ℕ) (c : Counters) (v : Option OperandRecord) (r : Counters) : Type 0 where
   pub told : (e : Expr) → Stands N c.nodes [] 0 e → W e → Told (option_map record_of) (Stored N') (p e) L T D D' c v r
 
+-- an expression; where it has told nothing and there is none, x is told
+pub data OrTold (limit : ℕ) (x : Diagnostic) (L T N D N' D' : List ℕ) (c : Counters) (v : Option Span) (r : Counters) : Type 0 where
+  there : (s : Span) → v ≡ Some s → ExpressionFits L T N D N' D' c limit (Ok s) r → OrTold limit x L T N D N' D' c v r
+  failed : v ≡ None → ExpressionFits L T N D N' D' c limit (Err errors.Reported) r → OrTold limit x L T N D N' D' c v r
+  missed : {D₁ : List ℕ} {m : Counters} → v ≡ None → ExpressionFits L T N D N' D₁ c limit (Err errors.Absent) m → Raised D₁ D' m x r → OrTold limit x L T N D N' D' c v r
+
+-- ---- a parenthesis behind an expression
+
+-- the tree of the last records is its displacement
+pub record OpeningTold (T : List ℕ) (c : Counters) (v : Option Opening) (r : Counters) : Type 0 where
+  pub next : NextTold T Kinds.left_paren c (option_map (λ o. o.paren) v) r
+  pub tree : (o : Opening) → v ≡ Some o → o.displacement ≡ last_tree r 0
+
 -- ---- the same by the source, and by how far the reading is
+
+abbrev pub OrBy : Diagnostic → Source → List ℕ → Progress → List ℕ → Progress → Option Span → Type 0
+OrBy x a N o N' o' v = OrTold a.setting.limit x a.line.now a.tokens.now N o.diagnostics.now N' o'.diagnostics.now o.counters v o'.counters
 
 abbrev pub FailBy : Reader (Option Operand) → Source → Progress → Progress → Option OperandRecord → Type 0
 FailBy p a o o' v = FailTold p a.tokens.now o.diagnostics.now o'.diagnostics.now o.counters v o'.counters

@@ -4,7 +4,7 @@ use Rattle.std.specs.Prelude.{◌≡◌, false, List, [], ◌∷◌, ℕ, ◌+�
 use Rattle.names.specs.Tokens.{count, token_at}
 use Rattle.names.specs.Places.{text_of, place}
 use Rattle.names.specs.declared.tokens.Token.{Token}
-use Rattle.records.specs.Spans.{span, span_of, span_or}
+use Rattle.records.specs.Spans.{span, span_or}
 use Rattle.records.specs.declared.progress.Progress.{Progress}
 use Rattle.expressions.specs.declared.source.Source.{Source}
 use Rattle.records.specs.declared.counters.Counters.{Counters}
@@ -19,7 +19,7 @@ use Rattle.operand.specs.Operands.{RegisterListItem, single, range}
 use Rattle.operand.specs.Operand.{a_register, list_item}
 use Rattle.records.specs.Rooms.{Room}
 use Rattle.expressions.specs.Told.{Raised, Told}
-use Rattle.operand_code.specs.Lookahead.{reg_at}
+use Rattle.operand_code.specs.Lookahead.{register_at}
 use Rattle.operand.specs.declared.forms.Register.{Register}
 use Rattle.operand.specs.declared.forms.BaseRegister.{BaseRegister}
 use Rattle.operand_code.specs.declared.lists.Item.{Item}
@@ -28,8 +28,8 @@ use Rattle.operand.specs.declared.forms.OperandRecord.{OperandRecord}
 -- ---- a register behind a sign
 
 pub data RegisterTold (L T D D' : List ℕ) (c : Counters) (sign : ℕ) (v : Option Register) (r : Counters) : Type 0 where
-  found : (t : Token) (n : ℕ) → token_at T c.at ≡ Some t → reg_at t (text_of L t.start t.end) ≡ Some n
-      → v ≡ Some (record { index = n; span = span_of t }) → r ≡ stepped c t → D' ≡ D → RegisterTold L T D D' c sign v r
+  found : (t : Token) (q : Register) → token_at T c.at ≡ Some t → register_at t (text_of L t.start t.end) ≡ Some q
+      → v ≡ Some q → r ≡ stepped c t → D' ≡ D → RegisterTold L T D D' c sign v r
   missing : holds a_register (place L T c.at) ≡ false
       → v ≡ None → Raised D D' c (register_expected_in_register_list sign (span_or (token_at T c.at) c.end)) r → RegisterTold L T D D' c sign v r
 

@@ -21,6 +21,7 @@ use Rattle.operand.specs.declared.forms.OperandRecord.{OperandRecord}
 use Rattle.operand_code.specs.declared.memory_inner.InnerPart.{InnerPart}
 use Rattle.operand_code.specs.declared.memory_outer.OuterPart.{OuterPart}
 use Rattle.operand.specs.declared.forms.Sized.{Sized}
+use Rattle.records.specs.declared.spans.Span.{Span}
 
 -- ---- nodes
 
@@ -37,9 +38,9 @@ StoredPart g N N' n None c = Unit {0}
 -- ---- a displacement
 
 -- behind the expression e, which begins at `start`
-pub record SizedTold (start : ℕ) (L T D D' : List ℕ) (c : Counters) (v : Option (Option Sized)) (r : Counters) : Type 0 where
+pub record SizedTold (value : Span) (L T D D' : List ℕ) (c : Counters) (v : Option (Option Sized)) (r : Counters) : Type 0 where
   pub told : (N N' : List ℕ) (n : ℕ) (e : Expr) → StoredD N N' n (displaced e 0) c
-      → Told (option_map (sized_of n)) (StoredPart (λ y. y) N N' n) (take_size_suffix start >>= sized e) L T D D' c v r
+      → Told (option_map (sized_of n)) (StoredPart (λ y. y) N N' n) (take_size_suffix value.start >>= sized e) L T D D' c v r
 
 pub record DisplacementTold (p : Reader (Option Displacement)) (L T N D N' D' : List ℕ) (c : Counters) (v : Option (Option Sized)) (r : Counters) : Type 0 where
   pub told : Told (option_map (sized_of c.nodes)) (StoredPart (λ y. y) N N' c.nodes) p L T D D' c v r
@@ -95,8 +96,8 @@ pub record BehindTold (s : Setting) (k : Token) (L T N D N' D' : List ℕ) (c : 
 
 -- ---- the same by the source, and by how far the reading is
 
-abbrev pub SizedBy : ℕ → Source → Progress → Progress → Option (Option Sized) → Type 0
-SizedBy start a o o' v = SizedTold start a.line.now a.tokens.now o.diagnostics.now o'.diagnostics.now o.counters v o'.counters
+abbrev pub SizedBy : Span → Source → Progress → Progress → Option (Option Sized) → Type 0
+SizedBy value a o o' v = SizedTold value a.line.now a.tokens.now o.diagnostics.now o'.diagnostics.now o.counters v o'.counters
 
 abbrev pub DisplacementBy : Reader (Option Displacement) → Source → List ℕ → Progress → List ℕ → Progress → Option (Option Sized) → Type 0
 DisplacementBy p a N o N' o' v = DisplacementTold p a.line.now a.tokens.now N o.diagnostics.now N' o'.diagnostics.now o.counters v o'.counters

@@ -6,6 +6,7 @@ use Rattle.expressions.specs.declared.source.Source.{Source}
 use Rattle.records.specs.declared.counters.Counters.{Counters}
 use Rattle.expressions.specs.Reader.{Reader}
 use Rattle.expressions.specs.Told.{Told}
+use Rattle.records.specs.Rooms.{NodeRoom}
 use Rattle.operand.specs.Operands.{Displacement, displaced, undisplaced, Operand}
 use Rattle.operand.specs.Records.{size_d, nodes_d, size_o, nodes_o}
 use Rattle.operand.specs.Forms.{sized_of, form_of, record_of}
@@ -59,6 +60,10 @@ pub record OperandTold (p : Reader (Option Operand)) (L T D N' D' : List ℕ) (c
   pub told : Told (option_map record_of) (Stored N') p L T D D' c v r
 
 -- ---- the same by the source, and by how far the reading is
+
+-- room for the nodes of an operand, of which none stands yet
+abbrev pub FirstRoom : Source → List ℕ → Progress → Type 0
+FirstRoom a N o = NodeRoom a.tokens.now N o.counters 0 0 1 × (o.counters.nodes ≡ 0)
 
 abbrev pub KeptBy : Displacement → Reader (Option Operand) → Source → Progress → Progress → Option OperandRecord → Type 0
 KeptBy y p a o o' v = Told (option_map record_of) (Kept o.counters.nodes y) p a.line.now a.tokens.now o.diagnostics.now o'.diagnostics.now o.counters v o'.counters

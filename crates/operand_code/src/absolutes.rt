@@ -1,19 +1,19 @@
 // An expression as an operand: an absolute address, or the displacement of a base.
-ghost use Rattle.std.specs.Prelude.{◌≡◌, ◌<◌};
-ghost use Rattle.records.specs.Rooms.{Room, NodeRoom};
+ghost use Rattle.std.specs.Prelude.{◌≡◌, ◌<◌, Some};
+ghost use Rattle.records.specs.Rooms.{Room};
 ghost use Rattle.operand.specs.Operand.{finish_expression_operand, parse_expression_operand, no_expression, displaced_or_absolute};
-ghost use Rattle.operand_code.specs.Operands.{OperandBy};
-ghost use Rattle.operand_code.specs.Absolutes.{absolute_record, FailBy, TreeBy};
+ghost use Rattle.operand_code.specs.Operands.{FirstRoom, OperandBy};
+ghost use Rattle.operand_code.specs.Absolutes.{absolute_record, FailBy, OpeningTold, TreeBy};
 
-use crate::bases::parse_base_and_index;
+use crate::bases::{Opening, parse_base_and_index};
 use crate::expressed::expression_at;
 use crate::steps::{last_tree, plain_operand};
-use crate::suffixes::take_size_suffix;
+use crate::suffixes::size_behind;
 use expressions::Source;
 use expressions_code::TermError;
 use names::kinds;
 use operand::{BaseRegister, Form, OperandRecord};
-use records::{Counters, DiagnosticKind, Progress, Span, plain};
+use records::{Counters, Progress, Span, operand_expected, unexpected_token_in_operand};
 
 fn absolute(c: Counters, span: Span, size: u8) -> OperandRecord
     requires { 0 < c.nodes }
@@ -22,7 +22,7 @@ fn absolute(c: Counters, span: Span, size: u8) -> OperandRecord
     plain_operand(
         Form::Absolute,
         span,
-        last_tree(c, size),
+        Some(last_tree(c, size)),
         BaseRegister::Omitted,
     )
 }
@@ -32,16 +32,26 @@ pub(crate) fn finish_expression_operand(
     source: &Source,
     out: &mut Progress,
     value: Span,
-) -> Option<OperandRecord>
+) -> OperandRecord
     requires { Room source.now.tokens.now out.old.counters 1 1 }
     ensures lent { out.new.diagnostics.ghost_name ≡ out.old.diagnostics.ghost_name }
-    ensures told { TreeBy (λ e. finish_expression_operand source.now.setting e) source.now out.old out.new value result }
+    ensures told { TreeBy (λ e. finish_expression_operand source.now.setting e) source.now out.old out.new value (Some result) }
 {
-    let (end, size) = match take_size_suffix(source, out, value.start) {
-        Some(x) => (x.span.end, x.size),
-        None => (value.end, 0),
-    };
-    Some(absolute(out.counters, source.span_to(end), size))
+    let x = size_behind(source, out, value);
+    absolute(out.counters, source.span_to(x.span.end), x.size)
+}
+
+// The parenthesis behind an expression, which is its displacement.
+pub(crate) fn opening_at(source: &Source, c: &mut Counters) -> Option<Opening>
+    requires { Room source.now.tokens.now c.old 1 1 }
+    ensures { OpeningTold source.now.tokens.now c.old result c.new }
+{
+    let paren = source.next_of_kind(c, kinds::LEFT_PAREN)?;
+    let displacement = Some(last_tree(*c, 0));
+    Some(Opening {
+        paren,
+        displacement,
+    })
 }
 
 // Behind an expression: a parenthesis opens the tail of a displacement.
@@ -50,12 +60,10 @@ fn displaced_or_absolute(source: &Source, out: &mut Progress, value: Span) -> Op
     ensures lent { out.new.diagnostics.ghost_name ≡ out.old.diagnostics.ghost_name }
     ensures told { TreeBy (λ e. displaced_or_absolute source.now.setting e) source.now out.old out.new value result }
 {
-    let Some(t) = source.peek_kind(out.counters, kinds::LEFT_PAREN) else {
-        return finish_expression_operand(source, out, value);
+    let Some(opening) = opening_at(source, &mut out.counters) else {
+        return Some(finish_expression_operand(source, out, value));
     };
-    let d = last_tree(out.counters, 0);
-    out.counters.step_over(t);
-    parse_base_and_index(source, out, t, d)
+    parse_base_and_index(source, out, opening)
 }
 
 // No expression stands at the cursor.
@@ -65,14 +73,8 @@ fn no_expression(source: &Source, out: &mut Progress) -> Option<OperandRecord>
     ensures told { FailBy (no_expression source.now.setting) source.now out.old out.new result }
 {
     match source.peek(out.counters) {
-        Some(t) => {
-            let span = Span::from(t);
-            out.raise(plain(DiagnosticKind::UnexpectedTokenInOperand, span, span));
-        }
-        None => {
-            let start = Span::empty(source.setting.start);
-            out.raise(plain(DiagnosticKind::OperandExpected, start, Span::default()));
-        }
+        Some(t) => out.raise(unexpected_token_in_operand(t)),
+        None => out.raise(operand_expected(Span::empty(source.setting.start))),
     }
     None
 }
@@ -82,7 +84,7 @@ pub(crate) fn parse_expression_operand(
     nodes: &mut [u16],
     out: &mut Progress,
 ) -> Option<OperandRecord>
-    requires { (NodeRoom source.now.tokens.now nodes.old out.old.counters 0 0 1) × (out.old.counters.nodes ≡ 0) }
+    requires { FirstRoom source.now nodes.old out.old }
     ensures lent { out.new.diagnostics.ghost_name ≡ out.old.diagnostics.ghost_name }
     ensures told { OperandBy (parse_expression_operand source.now.setting) source.now out.old nodes.new out.new result }
 {

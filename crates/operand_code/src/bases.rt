@@ -1,6 +1,5 @@
 // A base and an index between parentheses, with a displacement or without.
-ghost use Rattle.std.specs.Prelude.{◌≡◌, true, ◌≤◌, ◌<◌};
-ghost use Rattle.names.specs.Places.{text_of};
+ghost use Rattle.std.specs.Prelude.{◌≡◌, ◌≤◌, ◌<◌};
 ghost use Rattle.records.specs.Rooms.{Room};
 ghost use Rattle.records.specs.Shapes;
 ghost use Rattle.operand.specs.FormNumbers;
@@ -8,16 +7,43 @@ ghost use Rattle.operand.specs.Operands.{Displacement};
 ghost use Rattle.operand.specs.Operand.{base_shape, closed_base, closed_counter, parse_base_and_index, close_index, base_and_index};
 ghost use Rattle.operand.specs.Forms.{sized_of};
 ghost use Rattle.operand_code.specs.Operands.{BaseBy, IndexedBy};
-ghost use Rattle.operand_code.specs.Bases.{is_unsuppressed, unsuppressed_base, open_shape, index_shape, index_form, closed, behind_base};
+ghost use Rattle.operand_code.specs.Bases.{base_register, unsuppressed_base, open_shape, index_shape, index_form, closed, behind_base};
+ghost use Rattle.operand_code.specs.Told.{token_text};
 
 use crate::indexes::parse_index_register;
-use crate::lookahead::{address_register_at, is_base, program_counter_at, register_of};
+use crate::lookahead::{address_register_at, program_counter_at};
 use crate::malformed::{expect_close, malformed, not_an_address_register, unclosed};
 use crate::steps::{indexed, plain_operand};
 use expressions::Source;
 use names::{Token, kinds};
 use operand::{BaseRegister, Form, IndexRegister, OperandRecord, Register, Sized};
 use records::{OperandShape, Problem, Progress};
+
+// A base where none may be suppressed.
+#[derive(Clone, Copy)]
+pub enum Base {
+    Address(Register),
+    ProgramCounter,
+}
+
+impl From<Base> for BaseRegister {
+    ghost from_gives = { λ x b. b ≡ base_register x };
+
+    #[tactic(auto, unfolding(crate::specs::Bases::base_register))]
+    fn from(x: Base) -> BaseRegister {
+        match x {
+            Base::Address(r) => BaseRegister::Address(r),
+            Base::ProgramCounter => BaseRegister::ProgramCounter,
+        }
+    }
+}
+
+// The parenthesis of a base, and the displacement that stands before it or behind it.
+#[derive(Clone, Copy)]
+pub struct Opening {
+    pub paren: Token,
+    pub displacement: Option<Sized>,
+}
 
 // The shape of an operand whose base is wrong, by whether it has a displacement.
 fn base_shape(d: Option<Sized>) -> OperandShape
@@ -33,38 +59,38 @@ fn base_shape(d: Option<Sized>) -> OperandShape
 fn close_index(
     source: &Source,
     out: &mut Progress,
-    paren: Token,
-    d: Option<Sized>,
-    base: BaseRegister,
+    opening: Opening,
+    base: Base,
     x: IndexRegister,
 ) -> Option<OperandRecord>
     requires { Room source.now.tokens.now out.old.counters 0 1 }
     ensures lent { out.new.diagnostics.ghost_name ≡ out.old.diagnostics.ghost_name }
-    ensures told { IndexedBy (close_index source.now.setting paren (index_shape base) base x) source.now out.old out.new (index_form base) d base result }
+    ensures told { IndexedBy (close_index source.now.setting opening.paren (index_shape base) (base_register base) x) source.now out.old out.new (index_form base) opening.displacement (base_register base) result }
 {
-    let end = expect_close(source, out, paren, index_shape(base))?;
+    let end = expect_close(source, out, opening.paren, index_shape(base))?;
     let form = if x.suppressed {
         Form::FullIndex
     } else {
         index_form(base)
     };
-    Some(indexed(form, source.span_to(end), d, base, Some(x)))
+    let span = source.span_to(end);
+    let base = BaseRegister::from(base);
+    Some(indexed(form, span, opening.displacement, base, Some(x)))
 }
 
 // Behind the comma: an index, and the parenthesis.
 fn base_and_index(
     source: &Source,
     out: &mut Progress,
-    paren: Token,
-    d: Option<Sized>,
-    base: BaseRegister,
+    opening: Opening,
+    base: Base,
 ) -> Option<OperandRecord>
     requires { Room source.now.tokens.now out.old.counters 0 1 }
     ensures lent { out.new.diagnostics.ghost_name ≡ out.old.diagnostics.ghost_name }
-    ensures told { IndexedBy (base_and_index source.now.setting paren (index_shape base) base) source.now out.old out.new (index_form base) d base result }
+    ensures told { IndexedBy (base_and_index source.now.setting opening.paren (index_shape base) (base_register base)) source.now out.old out.new (index_form base) opening.displacement (base_register base) result }
 {
     let x = parse_index_register(source, out, index_shape(base))?;
-    close_index(source, out, paren, d, base, x)
+    close_index(source, out, opening, base, x)
 }
 
 // Behind the parenthesis that closes a base alone.
@@ -84,10 +110,9 @@ fn closed_base(
     if d.is_some() {
         return plain_operand(Form::Displacement, span, d, base);
     }
-    let Some(t) = source.peek_kind(out.counters, kinds::PLUS) else {
+    let Some(t) = source.next_of_kind(&mut out.counters, kinds::PLUS) else {
         return plain_operand(Form::Indirect, span, d, base);
     };
-    out.counters.step_over(t);
     plain_operand(Form::Postincrement, source.span_to(t.end), d, base)
 }
 
@@ -113,11 +138,12 @@ fn closed_counter(
 }
 
 // Behind the parenthesis that closes the base.
+#[tactic(auto, unfolding(crate::specs::Bases::closed))]
 fn closed(
     source: &Source,
     out: &mut Progress,
     d: Option<Sized>,
-    base: BaseRegister,
+    base: Base,
     close: Token,
 ) -> Option<OperandRecord>
     requires { Room source.now.tokens.now out.old.counters 0 1 }
@@ -125,41 +151,41 @@ fn closed(
     ensures told { BaseBy (λ y. closed source.now.setting base y close) source.now out.old out.new d result }
 {
     match base {
-        BaseRegister::Address(register) => Some(closed_base(source, out, d, register, close)),
-        _ => closed_counter(source, out, d, close),
+        Base::Address(register) => Some(closed_base(source, out, d, register, close)),
+        Base::ProgramCounter => closed_counter(source, out, d, close),
     }
 }
 
 // The shape of an operand whose parenthesis never closes behind its base.
 #[tactic(auto, unfolding(crate::specs::Bases::open_shape))]
-fn open_shape(base: BaseRegister, d: Option<Sized>) -> OperandShape
+fn open_shape(base: Base, d: Option<Sized>) -> OperandShape
     ensures { (y : Displacement) → sized_of 0 y ≡ d → Shapes.number result ≡ open_shape base y }
 {
     match base {
-        BaseRegister::Address(_) => base_shape(d),
-        _ => OperandShape::PcDisplacement,
+        Base::Address(_) => base_shape(d),
+        Base::ProgramCounter => OperandShape::PcDisplacement,
     }
 }
 
 // The shape and the form of an operand that has an index behind its base.
 #[tactic(auto, unfolding(crate::specs::Bases::index_shape))]
-fn index_shape(base: BaseRegister) -> OperandShape
+fn index_shape(base: Base) -> OperandShape
     ensures { Shapes.number result ≡ index_shape base }
 {
     match base {
-        BaseRegister::Address(_) => OperandShape::Index,
-        _ => OperandShape::PcIndex,
+        Base::Address(_) => OperandShape::Index,
+        Base::ProgramCounter => OperandShape::PcIndex,
     }
 }
 
 // Apart from `index_shape`: together they would be a pair that is taken apart again.
 #[tactic(auto, unfolding(crate::specs::Bases::index_form))]
-fn index_form(base: BaseRegister) -> Form
+fn index_form(base: Base) -> Form
     ensures { FormNumbers.number result ≡ index_form base }
 {
     match base {
-        BaseRegister::Address(_) => Form::Index,
-        _ => Form::PcIndex,
+        Base::Address(_) => Form::Index,
+        Base::ProgramCounter => Form::PcIndex,
     }
 }
 
@@ -167,62 +193,56 @@ fn index_form(base: BaseRegister) -> Form
 fn after_base(
     source: &Source,
     out: &mut Progress,
-    paren: Token,
-    d: Option<Sized>,
-    base: BaseRegister,
+    opening: Opening,
+    base: Base,
 ) -> Option<OperandRecord>
-    requires { Room source.now.tokens.now out.old.counters 0 1 × (is_unsuppressed base ≡ true) }
+    requires { Room source.now.tokens.now out.old.counters 0 1 }
     ensures lent { out.new.diagnostics.ghost_name ≡ out.old.diagnostics.ghost_name }
-    ensures told { BaseBy (λ y. behind_base source.now.setting paren base y) source.now out.old out.new d result }
+    ensures told { BaseBy (λ y. behind_base source.now.setting opening.paren base y) source.now out.old out.new opening.displacement result }
 {
-    match source.peek(out.counters) {
-        Some(t) if t.kind == kinds::RIGHT_PAREN => {
-            out.counters.step_over(t);
-            closed(source, out, d, base, t)
-        }
-        Some(t) if t.kind == kinds::COMMA => {
-            out.counters.step_over(t);
-            base_and_index(source, out, paren, d, base)
-        }
-        _ => {
-            let shape = open_shape(base, d);
-            unclosed(source, out, paren, shape, Problem::ParenMissing);
-            None
-        }
+    if let Some(t) = source.next_of_kind(&mut out.counters, kinds::RIGHT_PAREN) {
+        return closed(source, out, opening.displacement, base, t);
     }
+    if source
+        .next_of_kind(&mut out.counters, kinds::COMMA)
+        .is_some()
+    {
+        return base_and_index(source, out, opening, base);
+    }
+    let shape = open_shape(base, opening.displacement);
+    unclosed(source, out, opening.paren, shape, Problem::ParenMissing);
+    None
 }
 
-// The base that a token is where none may be suppressed: an address register or the program counter. `Omitted`, which the Rust has among its bases,
-// is none here as in `base_at`.
-fn unsuppressed_base(source: &Source, token: Token) -> BaseRegister
-    ensures { result ≡ unsuppressed_base token (text_of source.now.line.now token.start token.end) }
+// The base that a token is, if it is one.
+#[tactic(auto, using(crate::proofs::lookahead::Names::address_miss, names::specs::Laws::then_some_pick), unfolding(crate::specs::Bases::unsuppressed_base))]
+fn unsuppressed_base(source: &Source, token: Token) -> Option<Base>
+    ensures { result ≡ unsuppressed_base token (token_text source.now token) }
 {
-    match address_register_at(source, token) {
-        Some(index) => BaseRegister::Address(register_of(index, token)),
-        None if program_counter_at(source, token) => BaseRegister::ProgramCounter,
-        None => BaseRegister::Omitted,
+    if let Some(r) = address_register_at(source, token) {
+        return Some(Base::Address(r));
     }
+    program_counter_at(source, token).then_some(Base::ProgramCounter)
 }
 
 pub(crate) fn parse_base_and_index(
     source: &Source,
     out: &mut Progress,
-    paren: Token,
-    d: Option<Sized>,
+    opening: Opening,
 ) -> Option<OperandRecord>
     requires { Room source.now.tokens.now out.old.counters 0 1 }
     ensures lent { out.new.diagnostics.ghost_name ≡ out.old.diagnostics.ghost_name }
-    ensures told { BaseBy (λ y. parse_base_and_index source.now.setting paren y) source.now out.old out.new d result }
+    ensures told { BaseBy (λ y. parse_base_and_index source.now.setting opening.paren y) source.now out.old out.new opening.displacement result }
 {
+    let shape = base_shape(opening.displacement);
     let Some(t) = source.peek(out.counters) else {
-        unclosed(source, out, paren, base_shape(d), Problem::BaseMissing);
+        unclosed(source, out, opening.paren, shape, Problem::BaseMissing);
         return None;
     };
     out.counters.step_over(t);
-    let base = unsuppressed_base(source, t);
-    if is_base(base) {
-        return after_base(source, out, paren, d, base);
-    }
-    not_an_address_register(source, out, base_shape(d), t);
-    None
+    let Some(base) = unsuppressed_base(source, t) else {
+        not_an_address_register(source, out, shape, t);
+        return None;
+    };
+    after_base(source, out, opening, base)
 }

@@ -1,26 +1,25 @@
 // An immediate.
 ghost use Rattle.std.specs.Prelude.{◌≡◌, ◌<◌};
-ghost use Rattle.records.specs.Rooms.{Room, NodeRoom};
+ghost use Rattle.records.specs.Rooms.{Room};
 ghost use Rattle.operand.specs.Operand.{parse_immediate, sized_immediate};
 ghost use Rattle.operand.specs.Records.{flag};
-ghost use Rattle.operand_code.specs.Operands.{OperandBy};
+ghost use Rattle.operand_code.specs.Operands.{FirstRoom, OperandBy};
 ghost use Rattle.operand_code.specs.Absolutes.{immediate_record, TreeBy};
 
-use crate::expressed::expression_at;
+use crate::expressed::expression_or;
 use crate::malformed::malformed;
 use crate::steps::{last_tree, plain_operand};
-use crate::suffixes::take_size_suffix;
+use crate::suffixes::size_behind;
 use expressions::Source;
-use expressions_code::TermError;
 use names::{SizeSuffix, Token};
 use operand::{BaseRegister, Form, OperandRecord};
-use records::{Counters, OperandShape, Problem, Progress, Span, expression_expected};
+use records::{Counters, OperandShape, Problem, Progress, Span};
 
 // The one size that an immediate may have.
 const LONG: u8 = SizeSuffix::Long as u8;
 
-// A size that is not known.
-const UNKNOWN: u8 = 0;
+// None stands there, or one that is not known.
+const NO_SIZE: u8 = 0;
 
 #[tactic(auto, unfolding(operand::specs::Records::flag))]
 fn immediate(c: Counters, start: u16, end: u16, long: bool) -> OperandRecord
@@ -28,7 +27,7 @@ fn immediate(c: Counters, start: u16, end: u16, long: bool) -> OperandRecord
     ensures { result ≡ immediate_record c start end (flag long) }
 {
     let span = Span { start, end };
-    let value = last_tree(c, 0);
+    let value = Some(last_tree(c, 0));
     OperandRecord {
         special: u8::from(long),
         ..plain_operand(Form::Immediate, span, value, BaseRegister::Omitted)
@@ -46,12 +45,10 @@ fn immediate_size(
     ensures lent { out.new.diagnostics.ghost_name ≡ out.old.diagnostics.ghost_name }
     ensures told { TreeBy (λ e. sized_immediate source.now.setting hash e) source.now out.old out.new value result }
 {
-    let Some(x) = take_size_suffix(source, out, value.start) else {
-        return Some(immediate(out.counters, hash.start, value.end, false));
-    };
+    let x = size_behind(source, out, value);
     match x.size {
         LONG => Some(immediate(out.counters, hash.start, x.span.end, true)),
-        UNKNOWN => Some(immediate(out.counters, hash.start, x.span.end, false)),
+        NO_SIZE => Some(immediate(out.counters, hash.start, x.span.end, false)),
         _ => {
             let shape = OperandShape::Immediate;
             malformed(source, out, shape, Problem::ImmediateCarriesNoSize);
@@ -67,16 +64,10 @@ pub(crate) fn parse_immediate(
     out: &mut Progress,
     hash: Token,
 ) -> Option<OperandRecord>
-    requires { (NodeRoom source.now.tokens.now nodes.old out.old.counters 0 0 1) × (out.old.counters.nodes ≡ 0) }
+    requires { FirstRoom source.now nodes.old out.old }
     ensures lent { out.new.diagnostics.ghost_name ≡ out.old.diagnostics.ghost_name }
     ensures told { OperandBy (parse_immediate source.now.setting hash) source.now out.old nodes.new out.new result }
 {
-    match expression_at(source, nodes, out) {
-        Ok(span) => immediate_size(source, out, hash, span),
-        Err(TermError::Reported) => None,
-        Err(TermError::Absent) => {
-            out.raise(expression_expected(hash));
-            None
-        }
-    }
+    let span = expression_or(source, nodes, out, hash)?;
+    immediate_size(source, out, hash, span)
 }

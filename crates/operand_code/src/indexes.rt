@@ -1,20 +1,19 @@
 // Scales and index registers.
 ghost use Rattle.std.specs.Prelude.{◌≡◌, ◌<◌};
 ghost use Rattle.records.specs.Rooms.{Room};
-ghost use Rattle.names.specs.Places.{text_of};
 ghost use Rattle.records.specs.Shapes;
 ghost use Rattle.operand.specs.Operand.{scale_of, scaled, scale_value, index_scale, index_register, parse_index_register};
-ghost use Rattle.expressions.specs.Told.{Same};
-ghost use Rattle.operand_code.specs.Told.{Tells};
-ghost use Rattle.operand_code.specs.Lookahead.{sized_index};
+ghost use Rattle.operand_code.specs.Told.{ReadBy, token_text};
+ghost use Rattle.operand_code.specs.Lookahead.{NextBy, index_at};
 
-use crate::lookahead::{register_at, register_of, suppressed_index_at};
+use crate::lookahead::{register_at, suppressed_index_at};
 use crate::malformed::{malformed, stepped_over};
-use crate::suffixes::take_size_suffix;
+use crate::suffixes::size_behind;
 use expressions::Source;
-use names::{NumberError, Token, kinds};
-use operand::{IndexRegister, Register, Suffixed};
-use records::{DiagnosticKind, OperandShape, Problem, Progress, Span, plain};
+use expressions_code::number_value;
+use names::{Token, kinds};
+use operand::{IndexRegister, Register};
+use records::{Counters, OperandShape, Problem, Progress, Span};
 
 #[tactic(auto, unfolding(operand::specs::Operand::scale_of))]
 fn is_scale(value: u64) -> bool
@@ -35,7 +34,7 @@ fn scaled(
 ) -> Option<IndexRegister>
     requires { out.old.counters.diagnostics < 65535 }
     ensures lent { out.new.diagnostics.ghost_name ≡ out.old.diagnostics.ghost_name }
-    ensures told { Tells (λ z. z) (Same out.old.counters.nodes) (scaled source.now.setting (Shapes.number shape) x token value) source.now out.old out.new result }
+    ensures told { ReadBy (scaled source.now.setting (Shapes.number shape) x token value) source.now out.old out.new result }
 {
     if !is_scale(value) {
         malformed(source, out, shape, Problem::BadScale);
@@ -51,7 +50,7 @@ fn scaled(
     })
 }
 
-// Behind the number of a scale. One that is too large is told, and is no scale either.
+// Behind the number of a scale. One that has no value is no scale either.
 fn index_scale_value(
     source: &Source,
     out: &mut Progress,
@@ -61,17 +60,9 @@ fn index_scale_value(
 ) -> Option<IndexRegister>
     requires { out.old.counters.diagnostics < 65534 }
     ensures lent { out.new.diagnostics.ghost_name ≡ out.old.diagnostics.ghost_name }
-    ensures told { Tells (λ z. z) (Same out.old.counters.nodes) (scale_value source.now.setting (Shapes.number shape) x token (text_of source.now.line.now token.start token.end)) source.now out.old out.new result }
+    ensures told { ReadBy (scale_value source.now.setting (Shapes.number shape) x token (token_text source.now token)) source.now out.old out.new result }
 {
-    let value = match names::parse_number(token.detail, source.text_of(token)) {
-        Ok(v) => v,
-        Err(NumberError::TooLarge) => {
-            let span = Span::from(token);
-            out.raise(plain(DiagnosticKind::NumberTooLarge, span, span));
-            0
-        }
-        Err(NumberError::Invalid) => 0,
-    };
+    let value = number_value(source, out, token);
     scaled(source, out, shape, x, token, value)
 }
 
@@ -83,34 +74,19 @@ fn index_scale(
 ) -> Option<IndexRegister>
     requires { Room source.now.tokens.now out.old.counters 0 1 }
     ensures lent { out.new.diagnostics.ghost_name ≡ out.old.diagnostics.ghost_name }
-    ensures told { Tells (λ z. z) (Same out.old.counters.nodes) (index_scale source.now.setting (Shapes.number shape) x) source.now out.old out.new result }
+    ensures told { ReadBy (index_scale source.now.setting (Shapes.number shape) x) source.now out.old out.new result }
 {
-    let Some(star) = source.peek_kind(out.counters, kinds::STAR) else {
+    if source
+        .next_of_kind(&mut out.counters, kinds::STAR)
+        .is_none()
+    {
         return Some(x);
-    };
-    out.counters.step_over(star);
-    let Some(t) = source.peek_kind(out.counters, kinds::NUMBER) else {
+    }
+    let Some(t) = source.next_of_kind(&mut out.counters, kinds::NUMBER) else {
         stepped_over(source, out, shape, Problem::BadScale);
         return None;
     };
-    out.counters.step_over(t);
     index_scale_value(source, out, shape, x, t)
-}
-
-// An index with no scale yet, behind its size if it has one.
-#[tactic(auto, unfolding(crate::specs::Lookahead::sized_index))]
-fn sized_index(register: Register, suppressed: bool, suffix: Option<Suffixed>) -> IndexRegister
-    ensures { result ≡ sized_index register suppressed suffix }
-{
-    let start = register.span.start;
-    let (size, end) = suffix.map_or((0, register.span.end), |x| (x.size, x.span.end));
-    IndexRegister {
-        register,
-        size,
-        scale: 0,
-        suppressed,
-        span: Span { start, end },
-    }
 }
 
 // Behind the index's register.
@@ -123,18 +99,47 @@ fn index_register(
 ) -> Option<IndexRegister>
     requires { Room source.now.tokens.now out.old.counters 0 1 }
     ensures lent { out.new.diagnostics.ghost_name ≡ out.old.diagnostics.ghost_name }
-    ensures told { Tells (λ z. z) (Same out.old.counters.nodes) (index_register source.now.setting (Shapes.number shape) register suppressed) source.now out.old out.new result }
+    ensures told { ReadBy (index_register source.now.setting (Shapes.number shape) register suppressed) source.now out.old out.new result }
 {
-    let suffix = take_size_suffix(source, out, register.span.start);
-    index_scale(
-        source,
-        out,
-        shape,
-        sized_index(register, suppressed, suffix),
-    )
+    let x = size_behind(source, out, register.span);
+    let span = Span {
+        start: register.span.start,
+        end: x.span.end,
+    };
+    let index = IndexRegister {
+        register,
+        size: x.size,
+        scale: 0,
+        suppressed,
+        span,
+    };
+    index_scale(source, out, shape, index)
 }
 
-// An index register, or what stands there is stepped over. It is told in two places, as in `expect_register` (lists.rt).
+// An index register, and whether it is written suppressed.
+#[tactic(auto, unfolding(crate::specs::Lookahead::index_at, crate::specs::Lookahead::suppressed_or))]
+fn index_at(source: &Source, token: Token, i: u16) -> Option<(Register, bool)>
+    ensures { result ≡ index_at source.now.setting i token (token_text source.now token) }
+{
+    match suppressed_index_at(source, token, i) {
+        Some(r) => Some((r, true)),
+        None => register_at(source, token).map(|r| (r, false)),
+    }
+}
+
+// The index register at the cursor, stepped over. As `next_register` (lists.rt) and `next_base` (full.rt) but for what is looked up: as a closure each
+// look-up would have its contract written once more.
+fn next_index(source: &Source, c: &mut Counters) -> Option<(Register, bool)>
+    requires { Room source.now.tokens.now c.old 0 1 }
+    ensures { NextBy (index_at source.now.setting c.old.at) source.now.line.now source.now.tokens.now c.old result c.new }
+{
+    let t = source.peek(*c)?;
+    let index = index_at(source, t, c.at)?;
+    c.step_over(t);
+    Some(index)
+}
+
+// An index register, or what stands there is stepped over.
 pub(crate) fn parse_index_register(
     source: &Source,
     out: &mut Progress,
@@ -142,20 +147,11 @@ pub(crate) fn parse_index_register(
 ) -> Option<IndexRegister>
     requires { Room source.now.tokens.now out.old.counters 0 1 }
     ensures lent { out.new.diagnostics.ghost_name ≡ out.old.diagnostics.ghost_name }
-    ensures told { Tells (λ z. z) (Same out.old.counters.nodes) (parse_index_register source.now.setting (Shapes.number shape)) source.now out.old out.new result }
+    ensures told { ReadBy (parse_index_register source.now.setting (Shapes.number shape)) source.now out.old out.new result }
 {
-    let Some(t) = source.peek(out.counters) else {
+    let Some((register, suppressed)) = next_index(source, &mut out.counters) else {
         stepped_over(source, out, shape, Problem::IndexMissing);
         return None;
     };
-    if let Some(index) = suppressed_index_at(source, t, out.counters.at) {
-        out.counters.step_over(t);
-        return index_register(source, out, shape, register_of(index, t), true);
-    }
-    let Some(index) = register_at(source, t) else {
-        stepped_over(source, out, shape, Problem::IndexMissing);
-        return None;
-    };
-    out.counters.step_over(t);
-    index_register(source, out, shape, register_of(index, t), false)
+    index_register(source, out, shape, register, suppressed)
 }

@@ -12,18 +12,21 @@ ghost use Rattle.operand.specs.Operand.{parse_register_list};
 ghost use Rattle.operand.specs.Mask.{bits_from};
 ghost use Rattle.operand_code.specs.Told.{RaisedBy};
 ghost use Rattle.operand_code.specs.Operands.{OperandBy};
+ghost use Rattle.operand_code.specs.Lookahead.{NextBy, register_at};
 ghost use Rattle.operand_code.specs.Lists.{RegisterBy, RangedBy, ItemBy, item_bytes, list_record, ListAsks};
 
-use crate::lookahead::{register_at, register_of};
+use crate::lookahead::register_at;
 use crate::steps::plain_operand;
 use expressions::Source;
 use names::kinds;
 use operand::{BaseRegister, Form, OperandRecord, Register, Sized};
 use records::{
-    Counters, Diagnostic, DiagnosticKind, NodeKind, Problem, Progress, Span, plain, put_node,
+    Counters, Diagnostic, DiagnosticKind, Node, NodeKind, Problem, Progress, Span, plain,
+    put_counted,
 };
 
-// A register or a range, as its node has it: the kind is `Single` or `Range`.
+// A register or a range, as its node has it: the kind is `Single` or `Range`. No enum of the two, since its node and its bits, which are all that
+// read it, would take it apart into these fields again.
 #[derive(Clone, Copy)]
 pub struct Item {
     pub kind: NodeKind,
@@ -46,22 +49,28 @@ fn register_expected(source: &Source, out: &mut Progress, sign: Problem)
     });
 }
 
-// The register behind this sign. Not one `if let .. && let ..`: behind it a proof can't name that no token stood there (tried).
+// The register at the cursor, stepped over.
+fn next_register(source: &Source, c: &mut Counters) -> Option<Register>
+    requires { Room source.now.tokens.now c.old 0 1 }
+    ensures { NextBy register_at source.now.line.now source.now.tokens.now c.old result c.new }
+{
+    let t = source.peek(*c)?;
+    let r = register_at(source, t)?;
+    c.step_over(t);
+    Some(r)
+}
+
+// The register behind this sign.
 fn expect_register(source: &Source, out: &mut Progress, sign: Problem) -> Option<Register>
     requires { Room source.now.tokens.now out.old.counters 0 1 }
     ensures lent { out.new.diagnostics.ghost_name ≡ out.old.diagnostics.ghost_name }
     ensures told { RegisterBy source.now out.old out.new (Problems.number sign) result }
 {
-    let Some(t) = source.peek(out.counters) else {
+    let found = next_register(source, &mut out.counters);
+    if found.is_none() {
         register_expected(source, out, sign);
-        return None;
-    };
-    let Some(index) = register_at(source, t) else {
-        register_expected(source, out, sign);
-        return None;
-    };
-    out.counters.step_over(t);
-    Some(register_of(index, t))
+    }
+    found
 }
 
 // A range that runs backwards is told, and kept.
@@ -107,10 +116,12 @@ fn list_item(source: &Source, out: &mut Progress, r: Register) -> Option<Item>
     ensures lent { out.new.diagnostics.ghost_name ≡ out.old.diagnostics.ghost_name }
     ensures told { ItemBy source.now out.old out.new r result }
 {
-    let Some(t) = source.peek_kind(out.counters, kinds::MINUS) else {
+    if source
+        .next_of_kind(&mut out.counters, kinds::MINUS)
+        .is_none()
+    {
         return Some(single(r));
-    };
-    out.counters.step_over(t);
+    }
     let to = expect_register(source, out, Problem::AfterMinus)?;
     Some(ranged(out, r, to))
 }
@@ -133,12 +144,15 @@ fn put_item(nodes: &mut [u16], c: &mut Counters, item: Item)
     requires { PutAsks nodes.old c.old.nodes }
     ensures { NodeTold nodes.old nodes.new c.old (item_bytes item) c.new }
 {
-    let kind = u16::from(item.kind);
-    let value = item.from.span.packed() + 4294967296 * item.to.span.packed();
-    let left = u16::from(item.from.index);
-    let right = u16::from(item.to.index);
-    put_node(nodes, c.nodes, kind, 0, left, right, item.span, value);
-    c.nodes += 1;
+    let node = Node {
+        kind: u16::from(item.kind),
+        detail: 0,
+        left: u16::from(item.from.index),
+        right: u16::from(item.to.index),
+        span: item.span,
+        value: item.from.span.packed() + 4294967296 * item.to.span.packed(),
+    };
+    put_counted(nodes, c, node);
 }
 
 // The list with the mask of its items, the first of which is node 0.
@@ -169,10 +183,12 @@ pub(crate) fn parse_register_list(
         let item = list_item(source, out, r)?;
         mask |= range_bits(item.from.index, item.to.index);
         put_item(nodes, &mut out.counters, item);
-        let Some(t) = source.peek_kind(out.counters, kinds::SLASH) else {
+        if source
+            .next_of_kind(&mut out.counters, kinds::SLASH)
+            .is_none()
+        {
             break;
-        };
-        out.counters.step_over(t);
+        }
         r = expect_register(source, out, Problem::AfterSlash)?;
     }
     Some(listed(source.span_to(out.counters.end), mask))

@@ -1,41 +1,41 @@
 // What stands at a place, as the Rust's `register_at` and its like ask. A token has been looked at already.
-ghost use Rattle.std.specs.Prelude.{◌≡◌, true, false, not, ◌+◌, eqb};
+ghost use Rattle.std.specs.Prelude.{◌≡◌, true, false, not, ◌+◌, eqb, Some, None};
 ghost use Rattle.names.specs.Choice.{pick, both, either};
 ghost use Rattle.names.specs.Kinds;
-ghost use Rattle.names.specs.Places.{text_of, place};
-ghost use Rattle.records.specs.Spans.{span_of};
+ghost use Rattle.names.specs.Places.{place};
 ghost use Rattle.names.specs.declared.registers.Suppressed.{Suppressed};
 ghost use Rattle.expressions.specs.Laws.{holds};
 ghost use Rattle.expressions.specs.Reader.{any};
 ghost use Rattle.operand.specs.Operand.{a_register, an_address_register, a_program_counter, an_index, a_base_or_an_index, closes, size_or_scale};
-ghost use Rattle.operand_code.specs.Lookahead.{address_of, reg_at, suppressed_at, suppressed_reg, full_index_starts, base_starts, address_base, suppressed_base, base_at, is_base};
-ghost use Rattle.operand.specs.declared.forms.BaseRegister.{BaseRegister};
+ghost use Rattle.operand_code.specs.Lookahead.{address_of, registered, register_at, suppressed_at, suppressed_index_at, full_index_starts, base_starts, address_base, suppressed_base, base_at};
+ghost use Rattle.operand_code.specs.Told.{token_text};
 
 use expressions::Source;
 use names::{Suppressed, Token, kinds};
 use operand::{BaseRegister, Register};
 use records::Span;
 
-#[tactic(auto, unfolding(crate::specs::Lookahead::reg_at))]
-pub(crate) fn register_at(source: &Source, token: Token) -> Option<u8>
-    ensures { result ≡ reg_at token (text_of source.now.line.now token.start token.end) }
+// The register that a token is, with the token's span.
+#[tactic(auto, unfolding(crate::specs::Lookahead::register_at, crate::specs::Lookahead::reg_at))]
+pub(crate) fn register_at(source: &Source, token: Token) -> Option<Register>
+    ensures { result ≡ register_at token (token_text source.now token) }
 {
     if token.kind != kinds::IDENTIFIER {
         return None;
     }
-    names::parse_register(source.text_of(token))
+    let index = names::parse_register(source.text_of(token))?;
+    Some(registered(index, token))
 }
 
-#[tactic(auto, using(crate::proofs::lookahead::Names::a_register_lem))]
+#[tactic(auto, using(crate::proofs::lookahead::Names::a_register_is))]
 pub(crate) fn is_register_at(source: &Source, token: Token) -> bool
-    ensures { result ≡ a_register token (text_of source.now.line.now token.start token.end) }
+    ensures { result ≡ a_register token (token_text source.now token) }
 {
     register_at(source, token).is_some()
 }
 
-// A register with the span of its token.
-pub(crate) fn register_of(index: u8, token: Token) -> Register
-    ensures { result ≡ record { index = index; span = span_of token } }
+fn registered(index: u8, token: Token) -> Register
+    ensures { result ≡ registered token index }
 {
     Register {
         index,
@@ -44,15 +44,15 @@ pub(crate) fn register_of(index: u8, token: Token) -> Register
 }
 
 #[tactic(auto, unfolding(crate::specs::Lookahead::address_of))]
-pub(crate) fn address_register_at(source: &Source, token: Token) -> Option<u8>
-    ensures { result ≡ address_of (reg_at token (text_of source.now.line.now token.start token.end)) }
+pub(crate) fn address_register_at(source: &Source, token: Token) -> Option<Register>
+    ensures { result ≡ address_of (register_at token (token_text source.now token)) }
 {
-    register_at(source, token).filter(|&index| 8 <= index)
+    register_at(source, token).filter(|r| 8 <= r.index)
 }
 
 #[tactic(auto, unfolding(operand::specs::Operand::a_program_counter))]
 pub(crate) fn program_counter_at(source: &Source, token: Token) -> bool
-    ensures { result ≡ a_program_counter token (text_of source.now.line.now token.start token.end) }
+    ensures { result ≡ a_program_counter token (token_text source.now token) }
 {
     token.kind == kinds::IDENTIFIER && names::is_program_counter(source.text_of(token))
 }
@@ -60,7 +60,7 @@ pub(crate) fn program_counter_at(source: &Source, token: Token) -> bool
 // The mark may turn the place i into a symbol.
 #[tactic(auto, unfolding(crate::specs::Lookahead::suppressed_at))]
 pub(crate) fn suppressed_register_at(source: &Source, token: Token, i: u16) -> Option<Suppressed>
-    ensures { result ≡ suppressed_at source.now.setting i token (text_of source.now.line.now token.start token.end) }
+    ensures { result ≡ suppressed_at source.now.setting i token (token_text source.now token) }
 {
     if source.setting.mark == u32::from(i) || token.kind != kinds::IDENTIFIER {
         return None;
@@ -69,12 +69,12 @@ pub(crate) fn suppressed_register_at(source: &Source, token: Token, i: u16) -> O
 }
 
 // The suppressed register at the place i, if it is one that may be an index.
-#[tactic(auto, unfolding(crate::specs::Lookahead::suppressed_reg))]
-pub(crate) fn suppressed_index_at(source: &Source, token: Token, i: u16) -> Option<u8>
-    ensures { result ≡ suppressed_reg (suppressed_at source.now.setting i token (text_of source.now.line.now token.start token.end)) }
+#[tactic(auto, unfolding(crate::specs::Lookahead::suppressed_index_at, crate::specs::Lookahead::suppressed_reg))]
+pub(crate) fn suppressed_index_at(source: &Source, token: Token, i: u16) -> Option<Register>
+    ensures { result ≡ suppressed_index_at source.now.setting i token (token_text source.now token) }
 {
     match suppressed_register_at(source, token, i) {
-        Some(Suppressed::Register(index)) => Some(index),
+        Some(Suppressed::Register(index)) => Some(registered(index, token)),
         _ => None,
     }
 }
@@ -93,7 +93,7 @@ pub(crate) fn is_an_index_at(source: &Source, i: u16) -> bool
 // A register or the program counter, suppressed or not.
 #[tactic(auto, using(crate::proofs::lookahead::Names::a_base_or_an_index_lem))]
 pub(crate) fn is_a_base_or_an_index(source: &Source, token: Token, i: u16) -> bool
-    ensures { result ≡ a_base_or_an_index source.now.setting i token (text_of source.now.line.now token.start token.end) }
+    ensures { result ≡ a_base_or_an_index source.now.setting i token (token_text source.now token) }
 {
     program_counter_at(source, token)
         || is_register_at(source, token)
@@ -129,12 +129,12 @@ pub(crate) fn starts_a_full_index(source: &Source, i: u16) -> bool
 }
 
 // A register that a full index begins with, by what follows it.
-#[tactic(auto, using(crate::proofs::lookahead::Names::reg_not, crate::proofs::lookahead::Names::address_none, crate::proofs::lookahead::Starts::register_starts))]
+#[tactic(auto, using(crate::proofs::lookahead::Names::no_register, crate::proofs::lookahead::Names::no_address_register, crate::proofs::lookahead::Starts::register_starts))]
 fn register_starts(source: &Source, i: u16, token: Token) -> bool
-    ensures { result ≡ pick (an_address_register token (text_of source.now.line.now token.start token.end)) (holds (closes false false) (place source.now.line.now source.now.tokens.now (i + 1))) (both (a_register token (text_of source.now.line.now token.start token.end)) (holds (closes true false) (place source.now.line.now source.now.tokens.now (i + 1)))) }
+    ensures { result ≡ pick (an_address_register token (token_text source.now token)) (holds (closes false false) (place source.now.line.now source.now.tokens.now (i + 1))) (both (a_register token (token_text source.now token)) (holds (closes true false) (place source.now.line.now source.now.tokens.now (i + 1)))) }
 {
     match register_at(source, token) {
-        Some(index) => closes_at(source, usize::from(i) + 1, index < 8, false),
+        Some(r) => closes_at(source, usize::from(i) + 1, r.index < 8, false),
         None => false,
     }
 }
@@ -165,51 +165,43 @@ fn ends_a_base(source: &Source, i: usize) -> bool
 
 // The base that the token at the place i is, if it is one: a size or a scale makes an address register an index.
 #[tactic(auto, unfolding(crate::specs::Lookahead::base_at, crate::specs::Lookahead::is_counter, crate::specs::Lookahead::suppressed_base))]
-pub(crate) fn base_at(source: &Source, i: u16, token: Token) -> BaseRegister
-    ensures { result ≡ base_at source.now.setting (place source.now.line.now source.now.tokens.now) i token (text_of source.now.line.now token.start token.end) }
+pub(crate) fn base_at(source: &Source, i: u16, token: Token) -> Option<BaseRegister>
+    ensures { result ≡ base_at source.now.setting (place source.now.line.now source.now.tokens.now) i token (token_text source.now token) }
 {
     if program_counter_at(source, token) {
-        return BaseRegister::ProgramCounter;
+        return Some(BaseRegister::ProgramCounter);
     }
     match suppressed_register_at(source, token, i) {
-        Some(Suppressed::ProgramCounter) => BaseRegister::SuppressedProgramCounter,
-        Some(Suppressed::Register(index)) => address_at(
-            source,
-            i,
-            token,
-            suppressed_address(index),
-        ),
-        None => address_at(source, i, token, BaseRegister::Omitted),
+        Some(Suppressed::ProgramCounter) => Some(BaseRegister::SuppressedProgramCounter),
+        Some(Suppressed::Register(index)) => {
+            address_at(source, i, token, suppressed_address(index))
+        }
+        None => address_at(source, i, token, None),
     }
 }
 
 // An address register, or else the other base; none with a size or a scale.
 #[tactic(auto, using(crate::proofs::lookahead::Starts::closes_neither), unfolding(crate::specs::Lookahead::address_base, crate::specs::Lookahead::address_of))]
-fn address_at(source: &Source, i: u16, token: Token, other: BaseRegister) -> BaseRegister
-    ensures { result ≡ pick (holds size_or_scale (place source.now.line.now source.now.tokens.now (i + 1))) BaseRegister.Omitted (address_base (reg_at token (text_of source.now.line.now token.start token.end)) token other) }
+fn address_at(
+    source: &Source,
+    i: u16,
+    token: Token,
+    other: Option<BaseRegister>,
+) -> Option<BaseRegister>
+    ensures { result ≡ pick (holds size_or_scale (place source.now.line.now source.now.tokens.now (i + 1))) None (address_base (register_at token (token_text source.now token)) other) }
 {
     if closes_at(source, usize::from(i) + 1, false, false) {
-        return BaseRegister::Omitted;
+        return None;
     }
-    match address_register_at(source, token) {
-        Some(index) => BaseRegister::Address(register_of(index, token)),
-        None => other,
-    }
+    address_register_at(source, token)
+        .map(BaseRegister::Address)
+        .or(other)
 }
 
 // A suppressed data register is no base.
 #[tactic(auto, unfolding(crate::specs::Lookahead::suppressed_base))]
-fn suppressed_address(index: u8) -> BaseRegister
+fn suppressed_address(index: u8) -> Option<BaseRegister>
     ensures { result ≡ suppressed_base (Some (Suppressed.Register index)) }
 {
-    index
-        .checked_sub(8)
-        .map_or(BaseRegister::Omitted, BaseRegister::SuppressedAddress)
-}
-
-#[tactic(auto, unfolding(crate::specs::Lookahead::is_base))]
-pub(crate) fn is_base(base: BaseRegister) -> bool
-    ensures { result ≡ is_base base }
-{
-    !matches!(base, BaseRegister::Omitted)
+    index.checked_sub(8).map(BaseRegister::SuppressedAddress)
 }

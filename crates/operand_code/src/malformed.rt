@@ -5,22 +5,30 @@ ghost use Rattle.records.specs.Spans.{span, no_span, span_of};
 ghost use Rattle.records.specs.Problems;
 ghost use Rattle.records.specs.Shapes;
 ghost use Rattle.records.specs.Diagnostics.{malformed_operand, malformed_open};
-ghost use Rattle.expressions.specs.Told.{Same};
 ghost use Rattle.operand.specs.Operand.{expect_close};
-ghost use Rattle.operand_code.specs.Told.{RaisedBy, RaisedOverBy, Tells};
+ghost use Rattle.operand_code.specs.Told.{RaisedBy, RaisedOverBy, ReadBy};
 
 use expressions::Source;
 use names::{Token, kinds};
 use records::{Diagnostic, OperandShape, Problem, Progress, Span};
 
-// The shape, and the problem.
+// The shape and the problem, with the part of the line that is quoted.
+fn quoting(source: &Source, out: &mut Progress, shape: OperandShape, problem: Problem, text: Span)
+    requires { out.old.counters.diagnostics < 65535 }
+    ensures lent { out.new.diagnostics.ghost_name ≡ out.old.diagnostics.ghost_name }
+    ensures told { RaisedBy out.old out.new (malformed_operand (Shapes.number shape) (Problems.number problem) (span source.now.setting.start out.old.counters.end) text) }
+{
+    let span = source.span_to(out.counters.end);
+    out.raise(records::malformed(shape, problem, span, text));
+}
+
+// Nothing is quoted.
 pub(crate) fn malformed(source: &Source, out: &mut Progress, shape: OperandShape, problem: Problem)
     requires { out.old.counters.diagnostics < 65535 }
     ensures lent { out.new.diagnostics.ghost_name ≡ out.old.diagnostics.ghost_name }
     ensures told { RaisedBy out.old out.new (malformed_operand (Shapes.number shape) (Problems.number problem) (span source.now.setting.start out.old.counters.end) no_span) }
 {
-    let span = source.span_to(out.counters.end);
-    out.raise(records::malformed(shape, problem, span, Span::default()));
+    quoting(source, out, shape, problem, Span::default());
 }
 
 // The token is not an address register; it is quoted.
@@ -34,9 +42,8 @@ pub(crate) fn not_an_address_register(
     ensures lent { out.new.diagnostics.ghost_name ≡ out.old.diagnostics.ghost_name }
     ensures told { RaisedBy out.old out.new (malformed_operand (Shapes.number shape) Problems.not_an_address_register (span source.now.setting.start out.old.counters.end) (span_of token)) }
 {
-    let span = source.span_to(out.counters.end);
     let problem = Problem::NotAnAddressRegister;
-    out.raise(records::malformed(shape, problem, span, Span::from(token)));
+    quoting(source, out, shape, problem, Span::from(token));
 }
 
 // The parenthesis `paren` is never closed.
@@ -85,12 +92,11 @@ pub(crate) fn expect_close(
 ) -> Option<u16>
     requires { Room source.now.tokens.now out.old.counters 0 1 }
     ensures lent { out.new.diagnostics.ghost_name ≡ out.old.diagnostics.ghost_name }
-    ensures told { Tells (λ z. z) (Same out.old.counters.nodes) (expect_close source.now.setting paren (Shapes.number shape)) source.now out.old out.new result }
+    ensures told { ReadBy (expect_close source.now.setting paren (Shapes.number shape)) source.now out.old out.new result }
 {
-    let Some(t) = source.peek_kind(out.counters, kinds::RIGHT_PAREN) else {
+    let Some(t) = source.next_of_kind(&mut out.counters, kinds::RIGHT_PAREN) else {
         unclosed(source, out, paren, shape, Problem::ParenMissing);
         return None;
     };
-    out.counters.step_over(t);
     Some(t.end)
 }

@@ -2,7 +2,7 @@
 ghost use Rattle.std.specs.Prelude.{◌≡◌};
 ghost use Rattle.records.specs.Rooms.{Room, NodeRoom};
 ghost use Rattle.operand.specs.Operand.{parse_memory_indirect};
-ghost use Rattle.operand_code.specs.Operands.{OperandBy};
+ghost use Rattle.operand_code.specs.Operands.{FirstRoom, OperandBy};
 ghost use Rattle.operand_code.specs.Memory.{indirect_record, ClosedBy, BehindBy};
 
 use crate::malformed::{expect_close, unclosed};
@@ -65,16 +65,19 @@ pub(crate) fn parse_memory_indirect(
     out: &mut Progress,
     paren: Token,
 ) -> Option<OperandRecord>
-    requires { NodeRoom source.now.tokens.now nodes.old out.old.counters 0 0 1 × (out.old.counters.nodes ≡ 0) }
+    requires { FirstRoom source.now nodes.old out.old }
     ensures lent { out.new.diagnostics.ghost_name ≡ out.old.diagnostics.ghost_name }
     ensures told { OperandBy (parse_memory_indirect source.now.setting paren) source.now out.old nodes.new out.new result }
 {
     let shape = OperandShape::MemoryIndirect;
     let n = parse_inner(source, nodes, out)?;
-    let Some(t) = source.peek_kind(out.counters, kinds::RIGHT_BRACKET) else {
+    // As `expect_close`, but for the kind and the problem: with these a helper for both would take six parameters.
+    if source
+        .next_of_kind(&mut out.counters, kinds::RIGHT_BRACKET)
+        .is_none()
+    {
         unclosed(source, out, paren, shape, Problem::BracketMissing);
         return None;
-    };
-    out.counters.step_over(t);
+    }
     after_inner(source, nodes, out, paren, n)
 }

@@ -6,25 +6,21 @@ ghost use Rattle.operand_code.specs.Memory.{SizedBy, DisplacementBy};
 
 use crate::expressed::expression_at;
 use crate::malformed::stepped_over;
-use crate::suffixes::take_size_suffix;
+use crate::steps::last_tree;
+use crate::suffixes::size_behind;
 use expressions::Source;
 use expressions_code::TermError;
 use operand::Sized;
-use records::{OperandShape, Problem, Progress};
+use records::{OperandShape, Problem, Progress, Span};
 
 // Behind the expression of a displacement: the tree that the last records hold, with its size.
-fn sized(source: &Source, out: &mut Progress, start: u16) -> Sized
+fn sized(source: &Source, out: &mut Progress, value: Span) -> Sized
     requires { Room source.now.tokens.now out.old.counters 1 1 }
     ensures lent { out.new.diagnostics.ghost_name ≡ out.old.diagnostics.ghost_name }
-    ensures told { SizedBy start source.now out.old out.new (Some (Some result)) }
+    ensures told { SizedBy value source.now out.old out.new (Some (Some result)) }
 {
-    let suffix = take_size_suffix(source, out, start);
-    let node = out.counters.nodes - 1;
-    // Tried: `map_or` with a closure, whose fact the proof takes apart into these two cases again.
-    match suffix {
-        Some(x) => Sized { node, size: x.size },
-        None => Sized { node, size: 0 },
-    }
+    let x = size_behind(source, out, value);
+    last_tree(out.counters, x.size)
 }
 
 pub(crate) fn parse_sized_displacement(
@@ -37,7 +33,7 @@ pub(crate) fn parse_sized_displacement(
     ensures told { DisplacementBy (parse_sized_displacement source.now.setting) source.now nodes.old out.old nodes.new out.new (option_map Some result) }
 {
     match expression_at(source, nodes, out) {
-        Ok(span) => Some(sized(source, out, span.start)),
+        Ok(span) => Some(sized(source, out, span)),
         Err(TermError::Reported) => None,
         Err(TermError::Absent) => {
             let shape = OperandShape::MemoryIndirect;

@@ -55,10 +55,12 @@ fn inner_displaced(source: &Source, out: &mut Progress, d: Option<Sized>) -> Opt
     ensures lent { out.new.diagnostics.ghost_name ≡ out.old.diagnostics.ghost_name }
     ensures told { InnerBehindBy (inner_displaced source.now.setting) source.now out.old out.new d result }
 {
-    let Some(t) = source.peek_kind(out.counters, kinds::COMMA) else {
+    if source
+        .next_of_kind(&mut out.counters, kinds::COMMA)
+        .is_none()
+    {
         return Some(bare_inner(d));
-    };
-    out.counters.step_over(t);
+    }
     inner_registers(source, out, d)
 }
 

@@ -58,14 +58,16 @@ fn outer_indexed(
     ensures lent { out.new.diagnostics.ghost_name ≡ out.old.diagnostics.ghost_name }
     ensures told { OuterBy (outer_indexed source.now.setting x) source.now nodes.old out.old nodes.new out.new result }
 {
-    let Some(t) = source.peek_kind(out.counters, kinds::COMMA) else {
+    if source
+        .next_of_kind(&mut out.counters, kinds::COMMA)
+        .is_none()
+    {
         return Some(OuterPart {
             index: Some(x),
             indirection: POSTINDEXED,
             displacement: None,
         });
-    };
-    out.counters.step_over(t);
+    }
     outer_displaced(source, nodes, out, Some(x), POSTINDEXED)
 }
 
@@ -100,14 +102,16 @@ pub(crate) fn parse_outer(
     ensures lent { out.new.diagnostics.ghost_name ≡ out.old.diagnostics.ghost_name }
     ensures told { OuterBy (parse_outer source.now.setting index) source.now nodes.old out.old nodes.new out.new result }
 {
-    let Some(t) = source.peek_kind(out.counters, kinds::COMMA) else {
+    if source
+        .next_of_kind(&mut out.counters, kinds::COMMA)
+        .is_none()
+    {
         return Some(OuterPart {
             index,
             indirection: PREINDEXED,
             displacement: None,
         });
-    };
-    out.counters.step_over(t);
+    }
     if is_an_index_at(source, out.counters.at) {
         return outer_index(source, nodes, out, index);
     }

@@ -1,53 +1,65 @@
 // The forms of an operand, by how it begins.
-ghost use Rattle.std.specs.Prelude.{◌≡◌, true};
-ghost use Rattle.records.specs.Rooms.{Room, NodeRoom};
+ghost use Rattle.std.specs.Prelude.{◌≡◌};
+ghost use Rattle.records.specs.Rooms.{Room};
 ghost use Rattle.names.specs.Kinds;
-ghost use Rattle.names.specs.Places.{text_of};
 ghost use Rattle.names.specs.Tokens.{token_at};
-ghost use Rattle.operand.specs.Operand.{a_register, register_from, predecrement_close, register_direct, name_or_expression, minus_operand, operand_from, parse_register_operand};
+ghost use Rattle.operand.specs.Operand.{predecrement_close, register_direct, name_or_expression, minus_operand, operand_from, parse_register_operand};
 ghost use Rattle.operand.specs.Operands as O;
 ghost use Rattle.operand.specs.Operands.{undisplaced};
 ghost use Rattle.operand.specs.Forms.{record_of};
-ghost use Rattle.operand_code.specs.Operands.{KeptBy, OperandBy};
+ghost use Rattle.operand_code.specs.Operands.{FirstRoom, KeptBy, OperandBy};
 ghost use Rattle.operand_code.specs.Lists.{ListAsks};
+ghost use Rattle.operand_code.specs.Lookahead.{PredecrementAt};
 
 use crate::absolutes::parse_expression_operand;
 use crate::immediates::parse_immediate;
 use crate::lists::parse_register_list;
-use crate::lookahead::{address_register_at, is_register_at, register_at, register_of};
+use crate::lookahead::register_at;
 use crate::malformed::{expect_close, not_an_address_register};
 use crate::parentheses::parse_parenthesised_operand;
 use crate::steps::plain_operand;
 use expressions::Source;
 use names::{SpecialRegister, Token, kinds};
 use operand::{BaseRegister, Form, OperandRecord, Register};
-use records::{DiagnosticKind, OperandShape, Progress, Span, plain};
+use records::{OperandShape, Progress, Span, operand_expected};
 
 // ---- predecrement
 
-// Behind the register, which has been seen.
+// The parenthesis and the register that make the minus at a place a predecrement, the register with its token.
+fn predecrement_at(source: &Source, i: u16) -> Option<(Token, Token, Register)>
+    ensures { PredecrementAt source.now.line.now source.now.tokens.now i result }
+{
+    let i = usize::from(i);
+    let paren = source.token_of_kind(i + 1, kinds::LEFT_PAREN)?;
+    let t = source.token_at(i + 2)?;
+    let r = register_at(source, t)?;
+    Some((paren, t, r))
+}
+
+// Behind the register r, which is the token.
 fn parse_predecrement(
     source: &Source,
     out: &mut Progress,
     minus: Token,
     paren: Token,
     token: Token,
+    r: Register,
 ) -> Option<OperandRecord>
-    requires { Room source.now.tokens.now out.old.counters 0 1 × (a_register token (text_of source.now.line.now token.start token.end) ≡ true) }
+    requires { Room source.now.tokens.now out.old.counters 0 1 }
     ensures lent { out.new.diagnostics.ghost_name ≡ out.old.diagnostics.ghost_name }
-    ensures told { KeptBy undisplaced (predecrement_close source.now.setting minus paren token (register_from token (text_of source.now.line.now token.start token.end))) source.now out.old out.new result }
+    ensures told { KeptBy undisplaced (predecrement_close source.now.setting minus paren token r) source.now out.old out.new result }
 {
     let shape = OperandShape::Predecrement;
-    let Some(index) = address_register_at(source, token) else {
+    if r.index < 8 {
         not_an_address_register(source, out, shape, token);
         return None;
-    };
+    }
     let end = expect_close(source, out, paren, shape)?;
     let span = Span {
         start: minus.start,
         end,
     };
-    let base = BaseRegister::Address(register_of(index, token));
+    let base = BaseRegister::Address(r);
     Some(plain_operand(Form::Predecrement, span, None, base))
 }
 
@@ -103,13 +115,13 @@ fn named_operand(
     out: &mut Progress,
     token: Token,
 ) -> Option<OperandRecord>
-    requires { (NodeRoom source.now.tokens.now nodes.old out.old.counters 0 0 1) × (out.old.counters.nodes ≡ 0) × (token_at source.now.tokens.now out.old.counters.at ≡ Some token) × (token.kind ≡ Kinds.identifier) }
+    requires { FirstRoom source.now nodes.old out.old × (token_at source.now.tokens.now out.old.counters.at ≡ Some token) × (token.kind ≡ Kinds.identifier) }
     ensures lent { out.new.diagnostics.ghost_name ≡ out.old.diagnostics.ghost_name }
     ensures told { OperandBy (name_or_expression source.now.setting) source.now out.old nodes.new out.new result }
 {
-    if let Some(index) = register_at(source, token) {
+    if let Some(r) = register_at(source, token) {
         out.counters.step_over(token);
-        return parse_register_operand(source, nodes, out, register_of(index, token));
+        return parse_register_operand(source, nodes, out, r);
     }
     match SpecialRegister::parse(source.text_of(token)) {
         Some(n) => {
@@ -127,23 +139,17 @@ fn minus_operand(
     out: &mut Progress,
     minus: Token,
 ) -> Option<OperandRecord>
-    requires { (NodeRoom source.now.tokens.now nodes.old out.old.counters 0 0 1) × (out.old.counters.nodes ≡ 0) × (token_at source.now.tokens.now out.old.counters.at ≡ Some minus) }
+    requires { FirstRoom source.now nodes.old out.old × (token_at source.now.tokens.now out.old.counters.at ≡ Some minus) }
     ensures lent { out.new.diagnostics.ghost_name ≡ out.old.diagnostics.ghost_name }
     ensures told { OperandBy (minus_operand source.now.setting minus) source.now out.old nodes.new out.new result }
 {
-    let at = usize::from(out.counters.at);
-    match (
-        source.token_of_kind(at + 1, kinds::LEFT_PAREN),
-        source.token_at(at + 2),
-    ) {
-        (Some(paren), Some(t)) if is_register_at(source, t) => {
-            out.counters.step_over(minus);
-            out.counters.step_over(paren);
-            out.counters.step_over(t);
-            parse_predecrement(source, out, minus, paren, t)
-        }
-        _ => parse_expression_operand(source, nodes, out),
-    }
+    let Some((paren, t, r)) = predecrement_at(source, out.counters.at) else {
+        return parse_expression_operand(source, nodes, out);
+    };
+    out.counters.step_over(minus);
+    out.counters.step_over(paren);
+    out.counters.step_over(t);
+    parse_predecrement(source, out, minus, paren, t, r)
 }
 
 // The operand whose first token stands at the cursor.
@@ -153,14 +159,13 @@ pub(crate) fn operand_from(
     out: &mut Progress,
     token: Token,
 ) -> Option<OperandRecord>
-    requires { (NodeRoom source.now.tokens.now nodes.old out.old.counters 0 0 1) × (out.old.counters.nodes ≡ 0) × (token_at source.now.tokens.now out.old.counters.at ≡ Some token) }
+    requires { FirstRoom source.now nodes.old out.old × (token_at source.now.tokens.now out.old.counters.at ≡ Some token) }
     ensures lent { out.new.diagnostics.ghost_name ≡ out.old.diagnostics.ghost_name }
     ensures told { OperandBy (operand_from source.now.setting) source.now out.old nodes.new out.new result }
 {
     match token.kind {
         kinds::COMMA => {
-            let span = Span::from(token);
-            out.raise(plain(DiagnosticKind::OperandExpected, span, Span::default()));
+            out.raise(operand_expected(Span::from(token)));
             None
         }
         kinds::HASH => {

@@ -1,24 +1,23 @@
 // What stands behind a parenthesis.
-ghost use Rattle.std.specs.Prelude.{◌≡◌};
+ghost use Rattle.std.specs.Prelude.{◌≡◌, Some};
 ghost use Rattle.records.specs.Rooms.{Room, NodeRoom};
 ghost use Rattle.expressions.specs.Trees.{span_e};
 ghost use Rattle.operand.specs.Operand.{unexpected, after_expression, parenthesised, parse_parenthesised_operand, grouped_expression, grouped_operand, after_comma, size_and_base, unbracketed};
-ghost use Rattle.operand_code.specs.Operands.{BaseBy, OperandBy};
+ghost use Rattle.operand_code.specs.Operands.{FirstRoom, BaseBy, OperandBy};
 ghost use Rattle.operand_code.specs.Absolutes.{FailBy, SizeAt, TreeBy, StandBy};
 
-use crate::absolutes::finish_expression_operand;
-use crate::bases::parse_base_and_index;
-use crate::expressed::{expression_at, expression_behind};
+use crate::absolutes::{finish_expression_operand, opening_at};
+use crate::bases::{Opening, parse_base_and_index};
+use crate::expressed::{expression_behind, expression_or};
 use crate::full::parse_full_index;
 use crate::lookahead::{starts_a_base, starts_a_full_index};
 use crate::memory::parse_memory_indirect;
 use crate::steps::last_tree;
 use crate::suffixes::suffix_run;
 use expressions::Source;
-use expressions_code::TermError;
 use names::{Token, kinds};
-use operand::{OperandRecord, Sized};
-use records::{DiagnosticKind, Progress, Span, expression_expected, plain};
+use operand::OperandRecord;
+use records::{Progress, Span, unclosed_parenthesis, unexpected_token_in_operand};
 
 // The parenthesis has closed behind an expression: a displacement, or a group that goes on.
 fn grouped_operand(
@@ -31,12 +30,10 @@ fn grouped_operand(
     ensures lent { out.new.diagnostics.ghost_name ≡ out.old.diagnostics.ghost_name }
     ensures told { StandBy (λ e. Unit {0}) (λ e. grouped_operand source.now.setting paren out.old.counters.end e) source.now nodes.old out.old nodes.new out.new result }
 {
-    let Some(t) = source.peek_kind(out.counters, kinds::LEFT_PAREN) else {
-        return grouped_expression(source, nodes, out, paren);
+    let Some(opening) = opening_at(source, &mut out.counters) else {
+        return Some(grouped_expression(source, nodes, out, paren));
     };
-    let d = last_tree(out.counters, 0);
-    out.counters.step_over(t);
-    parse_base_and_index(source, out, t, d)
+    parse_base_and_index(source, out, opening)
 }
 
 // The group is the first term of an absolute address.
@@ -45,10 +42,10 @@ fn grouped_expression(
     nodes: &mut [u16],
     out: &mut Progress,
     paren: Token,
-) -> Option<OperandRecord>
+) -> OperandRecord
     requires { NodeRoom source.now.tokens.now nodes.old out.old.counters 1 0 1 }
     ensures lent { out.new.diagnostics.ghost_name ≡ out.old.diagnostics.ghost_name }
-    ensures told { StandBy (λ e. Unit {0}) (λ e. grouped_expression source.now.setting paren out.old.counters.end e) source.now nodes.old out.old nodes.new out.new result }
+    ensures told { StandBy (λ e. Unit {0}) (λ e. grouped_expression source.now.setting paren out.old.counters.end e) source.now nodes.old out.old nodes.new out.new (Some result) }
 {
     let group = Span {
         start: paren.start,
@@ -65,34 +62,23 @@ fn unexpected(source: &Source, out: &mut Progress, paren: Token) -> Option<Opera
     ensures told { FailBy (unexpected paren) source.now out.old out.new result }
 {
     match source.peek(out.counters) {
-        None => {
-            let span = Span::from(paren);
-            out.raise(plain(DiagnosticKind::UnclosedParenthesis, span, Span::default()));
-        }
+        None => out.raise(unclosed_parenthesis(paren)),
         Some(t) if t.kind == kinds::ERROR => (),
-        Some(t) => {
-            let span = Span::from(t);
-            out.raise(plain(DiagnosticKind::UnexpectedTokenInOperand, span, span));
-        }
+        Some(t) => out.raise(unexpected_token_in_operand(t)),
     }
     None
 }
 
 // Behind a comma: the registers of a full index, or a base and an index.
-fn after_comma(
-    source: &Source,
-    out: &mut Progress,
-    paren: Token,
-    d: Option<Sized>,
-) -> Option<OperandRecord>
+fn after_comma(source: &Source, out: &mut Progress, opening: Opening) -> Option<OperandRecord>
     requires { Room source.now.tokens.now out.old.counters 0 1 }
     ensures lent { out.new.diagnostics.ghost_name ≡ out.old.diagnostics.ghost_name }
-    ensures told { BaseBy (λ y. after_comma source.now.setting paren y) source.now out.old out.new d result }
+    ensures told { BaseBy (λ y. after_comma source.now.setting opening.paren y) source.now out.old out.new opening.displacement result }
 {
     if starts_a_full_index(source, out.counters.at) {
-        return parse_full_index(source, out, paren, d);
+        return parse_full_index(source, out, opening);
     }
-    parse_base_and_index(source, out, paren, d)
+    parse_base_and_index(source, out, opening)
 }
 
 // A size behind the expression, which has been seen, where a comma must follow.
@@ -113,9 +99,12 @@ fn sized_base(
     };
     out.counters.step_over(suffix);
     let x = suffix_run(source, out, value.start, suffix);
-    let d = last_tree(out.counters, x.size);
+    let opening = Opening {
+        paren,
+        displacement: Some(last_tree(out.counters, x.size)),
+    };
     out.counters.step_over(t);
-    parse_full_index(source, out, paren, d)
+    parse_full_index(source, out, opening)
 }
 
 fn after_expression(
@@ -129,18 +118,26 @@ fn after_expression(
     ensures lent { out.new.diagnostics.ghost_name ≡ out.old.diagnostics.ghost_name }
     ensures told { StandBy (λ e. value ≡ span_e e) (λ e. after_expression source.now.setting paren e) source.now nodes.old out.old nodes.new out.new result }
 {
-    match source.peek(out.counters) {
-        Some(t) if t.kind == kinds::COMMA => {
-            let d = last_tree(out.counters, 0);
-            out.counters.step_over(t);
-            after_comma(source, out, paren, d)
-        }
-        Some(t) if t.kind == kinds::RIGHT_PAREN => {
-            out.counters.step_over(t);
-            grouped_operand(source, nodes, out, paren)
-        }
-        Some(t) if t.kind == kinds::SIZE_SUFFIX => sized_base(source, out, paren, value, t),
-        _ => unexpected(source, out, paren),
+    if source
+        .next_of_kind(&mut out.counters, kinds::COMMA)
+        .is_some()
+    {
+        let opening = Opening {
+            paren,
+            displacement: Some(last_tree(out.counters, 0)),
+        };
+        return after_comma(source, out, opening);
+    }
+    if source
+        .next_of_kind(&mut out.counters, kinds::RIGHT_PAREN)
+        .is_some()
+    {
+        return grouped_operand(source, nodes, out, paren);
+    }
+    let at = usize::from(out.counters.at);
+    match source.token_of_kind(at, kinds::SIZE_SUFFIX) {
+        Some(t) => sized_base(source, out, paren, value, t),
+        None => unexpected(source, out, paren),
     }
 }
 
@@ -151,18 +148,12 @@ fn parenthesised(
     out: &mut Progress,
     paren: Token,
 ) -> Option<OperandRecord>
-    requires { (NodeRoom source.now.tokens.now nodes.old out.old.counters 0 0 1) × (out.old.counters.nodes ≡ 0) }
+    requires { FirstRoom source.now nodes.old out.old }
     ensures lent { out.new.diagnostics.ghost_name ≡ out.old.diagnostics.ghost_name }
     ensures told { OperandBy (parenthesised source.now.setting paren) source.now out.old nodes.new out.new result }
 {
-    match expression_at(source, nodes, out) {
-        Ok(span) => after_expression(source, nodes, out, paren, span),
-        Err(TermError::Reported) => None,
-        Err(TermError::Absent) => {
-            out.raise(expression_expected(paren));
-            None
-        }
-    }
+    let span = expression_or(source, nodes, out, paren)?;
+    after_expression(source, nodes, out, paren, span)
 }
 
 // Behind a parenthesis that no bracket follows.
@@ -172,15 +163,19 @@ fn unbracketed(
     out: &mut Progress,
     paren: Token,
 ) -> Option<OperandRecord>
-    requires { (NodeRoom source.now.tokens.now nodes.old out.old.counters 0 0 1) × (out.old.counters.nodes ≡ 0) }
+    requires { FirstRoom source.now nodes.old out.old }
     ensures lent { out.new.diagnostics.ghost_name ≡ out.old.diagnostics.ghost_name }
     ensures told { OperandBy (unbracketed source.now.setting paren) source.now out.old nodes.new out.new result }
 {
+    let opening = Opening {
+        paren,
+        displacement: None,
+    };
     if starts_a_full_index(source, out.counters.at) {
-        return parse_full_index(source, out, paren, None);
+        return parse_full_index(source, out, opening);
     }
     if starts_a_base(source, out.counters.at) {
-        return parse_base_and_index(source, out, paren, None);
+        return parse_base_and_index(source, out, opening);
     }
     parenthesised(source, nodes, out, paren)
 }
@@ -192,13 +187,15 @@ pub(crate) fn parse_parenthesised_operand(
     out: &mut Progress,
     paren: Token,
 ) -> Option<OperandRecord>
-    requires { (NodeRoom source.now.tokens.now nodes.old out.old.counters 0 0 1) × (out.old.counters.nodes ≡ 0) }
+    requires { FirstRoom source.now nodes.old out.old }
     ensures lent { out.new.diagnostics.ghost_name ≡ out.old.diagnostics.ghost_name }
     ensures told { OperandBy (parse_parenthesised_operand source.now.setting paren) source.now out.old nodes.new out.new result }
 {
-    let Some(t) = source.peek_kind(out.counters, kinds::LEFT_BRACKET) else {
+    if source
+        .next_of_kind(&mut out.counters, kinds::LEFT_BRACKET)
+        .is_none()
+    {
         return unbracketed(source, nodes, out, paren);
-    };
-    out.counters.step_over(t);
+    }
     parse_memory_indirect(source, nodes, out, paren)
 }

@@ -40,13 +40,13 @@ pub(crate) fn indexed(
     }
 }
 
-// The tree that the last records hold, with this size: an `Option`, since that is what a displacement is.
-pub(crate) fn last_tree(c: Counters, size: u8) -> Option<Sized>
+// The tree that the last records hold, with this size.
+pub(crate) fn last_tree(c: Counters, size: u8) -> Sized
     requires { 0 < c.nodes }
-    ensures { result ≡ Some (record { node = c.nodes - 1; size = size }) }
+    ensures { result ≡ record { node = c.nodes - 1; size = size } }
 {
-    Some(Sized {
+    Sized {
         node: c.nodes - 1,
         size,
-    })
+    }
 }

@@ -1,14 +1,13 @@
 // Size suffixes.
 ghost use Rattle.std.specs.Prelude.{◌≡◌, ◌<◌};
 ghost use Rattle.records.specs.Rooms.{Room};
-ghost use Rattle.names.specs.Places.{text_of};
 ghost use Rattle.names.specs.Sizes.{run_of};
 ghost use Rattle.records.specs.Spans.{span};
 ghost use Rattle.records.specs.Diagnostics.{run_start};
 ghost use Rattle.expressions.specs.Expressions.{suffix_run, take_size_suffix};
 ghost use Rattle.operand.specs.Forms.{suffix_read};
 ghost use Rattle.expressions.specs.Told.{Same};
-ghost use Rattle.operand_code.specs.Told.{Tells};
+ghost use Rattle.operand_code.specs.Told.{SizeBy, Tells, token_text};
 
 use expressions::Source;
 use names::{SizeSuffix, Token, kinds};
@@ -19,7 +18,7 @@ use records::{DiagnosticKind, Progress, Span, plain};
 pub(crate) fn suffix_run(source: &Source, out: &mut Progress, from: u16, token: Token) -> Suffixed
     requires { out.old.counters.diagnostics < 65535 }
     ensures lent { out.new.diagnostics.ghost_name ≡ out.old.diagnostics.ghost_name }
-    ensures told { Tells suffix_read (Same out.old.counters.nodes) (suffix_run from token (run_of (text_of source.now.line.now token.start token.end))) source.now out.old out.new (Some result) }
+    ensures told { Tells suffix_read (Same out.old.counters.nodes) (suffix_run from token (run_of (token_text source.now token))) source.now out.old out.new (Some result) }
 {
     let run = names::suffix_run(source.text_of(token));
     let span = Span::from(token);
@@ -57,12 +56,24 @@ fn run_span(suffix: Span) -> Span
     Span::empty(suffix.end)
 }
 
-pub(crate) fn take_size_suffix(source: &Source, out: &mut Progress, from: u16) -> Option<Suffixed>
+fn take_size_suffix(source: &Source, out: &mut Progress, from: u16) -> Option<Suffixed>
     requires { Room source.now.tokens.now out.old.counters 0 1 }
     ensures lent { out.new.diagnostics.ghost_name ≡ out.old.diagnostics.ghost_name }
     ensures told { Tells suffix_read (Same out.old.counters.nodes) (take_size_suffix from) source.now out.old out.new result }
 {
-    let t = source.peek_kind(out.counters, kinds::SIZE_SUFFIX)?;
-    out.counters.step_over(t);
+    let t = source.next_of_kind(&mut out.counters, kinds::SIZE_SUFFIX)?;
     Some(suffix_run(source, out, from, t))
+}
+
+// The size behind what ends there: none, at its end, where no suffix stands.
+pub(crate) fn size_behind(source: &Source, out: &mut Progress, value: Span) -> Suffixed
+    requires { Room source.now.tokens.now out.old.counters 0 1 }
+    ensures lent { out.new.diagnostics.ghost_name ≡ out.old.diagnostics.ghost_name }
+    ensures told { SizeBy source.now out.old out.new value result }
+{
+    let none = Suffixed {
+        size: 0,
+        span: Span::empty(value.end),
+    };
+    take_size_suffix(source, out, value.start).unwrap_or(none)
 }

@@ -1,12 +1,11 @@
 -- What is left of a part of the input.
 -- Assumes nothing.
-use mathlib.Core.Path.{◌≡◌, refl, sym, ◌∙◌, ap, ap₂}
+use mathlib.Core.Path.{◌≡◌, refl, sym, ◌∙◌}
 use mathlib.Core.List.{List, [], ◌∷◌}
-use Prim.Native.Nat.{ℕ, zero, suc, ◌+◌, ◌-◌, ◌≤◌, ◌<◌}
-use native.Mathlib.Nat.{sub-zero}
+use Prim.Native.Nat.{ℕ, zero, suc, ◌-◌, ◌≤◌, ◌<◌}
 use native.Mathlib.Omega.{arith}
-use lib.ListN.{length, take, drop, length-drop, drop_of_length-le}
-use lib.Seq.{take_all, drop-drop}
+use lib.ListN.{length, take, drop, length-take, length-drop}
+use lib.Seq.{take_all}
 use Rattle.frames.specs.Machine.{State, steps, fresh}
 use Rattle.frames.specs.Batches.{BatchTold}
 use Rattle.frames.specs.Program.{Run, drained, Leaves}
@@ -52,41 +51,35 @@ next n (b ∷ bs) h C O p e = record { held = refl; carry = refl; out = refl }
 -- ---- the loop
 
 -- where the run over what is left leaves what the whole run leaves
-abbrev pub Rest : List ℕ → ℕ → ℕ → List ℕ → List ℕ → ℕ → List ℕ → List ℕ → Type 0
-Rest I at h C O h₀ C₀ O₀ = Same (drained (length I - at) (drop at I) h C O) (drained (length I) I h₀ C₀ O₀)
+abbrev pub Rest : List ℕ → List ℕ → ℕ → List ℕ → List ℕ → ℕ → List ℕ → List ℕ → Type 0
+Rest I R h C O h₀ C₀ O₀ = Same (drained (length R) R h C O) (drained (length I) I h₀ C₀ O₀)
 
-pub rest_all : (I : List ℕ) (h : ℕ) (C O : List ℕ) → Rest I 0 h C O h C O
-rest_all I h C O = rw sub-zero (record { held = refl; carry = refl; out = refl })
+pub rest_all : (I : List ℕ) (h : ℕ) (C O : List ℕ) → Rest I I h C O h C O
+rest_all I h C O = record { held = refl; carry = refl; out = refl }
 
-moved : (I : List ℕ) (at : ℕ) {c c' h h' : ℕ} {C C' O O' : List ℕ} {D : Run} → c ≡ c' → h ≡ h' → C ≡ C' → O ≡ O'
-    → Same (drained (length I - (at + c')) (drop c' (drop at I)) h' C' O') D → Same (drained (length I - (at + c)) (drop (at + c) I) h C O) D
-moved I at {c' = c'} e₁ e₂ e₃ e₄ q = rw (e₁, e₂, e₃, e₄, sym (drop-drop c' at I)) q
+moved : (R : List ℕ) {c c' h h' : ℕ} {C C' O O' : List ℕ} {D : Run} → c ≡ c' → h ≡ h' → C ≡ C' → O ≡ O'
+    → Same (drained (length (drop c' R)) (drop c' R) h' C' O') D → Same (drained (length (drop c R)) (drop c R) h C O) D
+moved R e₁ e₂ e₃ e₄ q = rw (e₁, e₂, e₃, e₄) q
 
-pub rest_on : (I : List ℕ) (at h : ℕ) (C O C' O' : List ℕ) (r : Batched) (h₀ : ℕ) (C₀ O₀ : List ℕ) → at < length I
-    → BatchTold (take (length I - at) (drop at I)) h C O C' O' r → Rest I at h C O h₀ C₀ O₀ → Rest I (at + r.consumed) r.held C' O' h₀ C₀ O₀
-rest_on I at h C O C' O' r h₀ C₀ O₀ on p q =
-    let xs : List ℕ = drop at I in
-    let xl : length xs ≡ length I - at = length-drop at I in
-    let s : State = steps xs (fresh h C O) in
-    let p' : BatchTold xs h C O C' O' r = rw (take_all (length I - at) xs (omega arith)) at p in
-    let n : ℕ = length I - at - 1 in
-    let m : ℕ = length I - (at + s.consumed) in
-    let e : length I - at ≡ suc n = omega arith in
-    let ys : List ℕ = drop s.consumed xs in
-    let yl : length ys ≡ length xs - s.consumed = length-drop s.consumed xs in
-    let k = batch_progress xs h C O C' O' r p' (omega arith) in
-    let one = next n xs h C O (omega arith) (omega arith) in
-    let fewer = enough m n ys s.held s.carry s.out (omega arith) (omega (arith, p'.consumed)) in
-    let old : Same (drained (suc n) xs h C O) (drained (length I) I h₀ C₀ O₀) = rw e at q in
-    moved I at p'.consumed p'.held p'.carry p'.out (joined (joined fewer (turned one)) old)
+pub rest_on : (I R : List ℕ) (h : ℕ) (C O C' O' : List ℕ) (r : Batched) (h₀ : ℕ) (C₀ O₀ : List ℕ) → 0 < length R
+    → BatchTold R h C O C' O' r → Rest I R h C O h₀ C₀ O₀ → Rest I (take (length R - r.consumed) (drop r.consumed R)) r.held C' O' h₀ C₀ O₀
+rest_on I R h C O C' O' r h₀ C₀ O₀ some p q =
+    let s : State = steps R (fresh h C O) in
+    let n : ℕ = length R - 1 in
+    let ys : List ℕ = drop s.consumed R in
+    let e : length R ≡ suc n = omega arith in
+    let few : length ys ≤ n = omega (arith, length-drop s.consumed R, p.consumed, batch_progress R h C O C' O' r p some) in
+    let fewer = enough (length ys) n ys s.held s.carry s.out (omega arith) few in
+    let one = next n R h C O some (omega arith) in
+    let old : Same (drained (suc n) R h C O) (drained (length I) I h₀ C₀ O₀) = rw e at q in
+    rw (take_all (length R - r.consumed) (drop r.consumed R) (omega (arith, length-drop r.consumed R)))
+    (moved R p.consumed p.held p.carry p.out (joined (joined fewer (turned one)) old))
 
-pub rest_end : (I : List ℕ) (at h : ℕ) (C O : List ℕ) (h₀ : ℕ) (C₀ O₀ : List ℕ) → length I ≤ at → Rest I at h C O h₀ C₀ O₀ → Leaves (drained (length I) I h₀ C₀ O₀) h C O
+-- it is shorter
+pub rest_less : (R : List ℕ) (h : ℕ) (C O C' O' : List ℕ) (r : Batched) → 0 < length R → BatchTold R h C O C' O' r → length (take (length R - r.consumed) (drop r.consumed R)) < length R
+rest_less R h C O C' O' r some p = omega (arith, batch_progress R h C O C' O' r p some, length-take {A = ℕ}, length-drop {A = ℕ})
+
+pub rest_end : (I R : List ℕ) (h : ℕ) (C O : List ℕ) (h₀ : ℕ) (C₀ O₀ : List ℕ) → length R ≡ 0 → Rest I R h C O h₀ C₀ O₀ → Leaves (drained (length I) I h₀ C₀ O₀) h C O
 unfolding drained
-rest_end I at h C O h₀ C₀ O₀ on q =
-    let z : length I - at ≡ 0 = omega arith in
-    let e : drained (length I - at) (drop at I) h C O ≡ drained 0 [] h C O = ap₂ (λ n l. drained n l h C O) z (drop_of_length-le I {i = at} on) in
-    record {
-      held = sym (ap (λ (u : Run). u.held) e) ∙ q.held;
-      carry = sym (ap (λ (u : Run). u.carry) e) ∙ q.carry;
-      out = sym (ap (λ (u : Run). u.out) e) ∙ q.out;
-    }
+rest_end I [] h C O h₀ C₀ O₀ none q = record { held = q.held; carry = q.carry; out = q.out }
+rest_end I (b ∷ bs) h C O h₀ C₀ O₀ none q = absurd (omega arith)

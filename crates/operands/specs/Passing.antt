@@ -4,22 +4,23 @@ use Rattle.std.specs.Prelude.{◌≡◌, List, ℕ, zero, suc, ◌≤◌, length
 use Rattle.frames.specs.Machine.{last_line}
 use Rattle.frames.specs.Batches.{FinishTold}
 use Rattle.frames.specs.Program.{drained, Leaves}
+use Rattle.operands.specs.declared.Answering.{Answering}
 
 -- what a read of at most n bytes may answer: how many, or that it failed
 abbrev pub Moved : ℕ → Option ℕ → Type 0
 Moved n got = IfSome got (λ k. k ≤ n)
 
 -- where the program goes on, the part I was answered as a run of `batch` answers it
-abbrev pub PartTold : List ℕ → ℕ → List ℕ → List ℕ → List ℕ → List ℕ → Option ℕ → Type 0
-PartTold I h C O C' O' r = IfSome r (λ held. Leaves (drained (length I) I h C O) held C' O')
+abbrev pub PartTold : List ℕ → Answering → Answering → Option (Unit {0}) → Type 0
+PartTold I a b r = IfSome r (λ _. Leaves (drained (length I) I a.held a.carry a.out) b.held b.carry b.out)
 
 -- the last line was answered as `finish` answers it
-abbrev pub LastTold : ℕ → List ℕ → List ℕ → List ℕ → Type 0
-LastTold h C O O' = FinishTold h C O O' (length (last_line h C))
+abbrev pub LastTold : Answering → Answering → Type 0
+LastTold a b = FinishTold a.held a.carry a.out b.out (length (last_line a.held a.carry)) × (b.held ≡ a.held) × (b.carry ≡ a.carry)
 
 -- by what the read gave: where it failed the program ends and nothing is answered; at the input's end it ends with the last line; else the part is just
 -- so many bytes, the first of the store I
-abbrev pub ReadTold : Option ℕ → List ℕ → ℕ → List ℕ → List ℕ → List ℕ → List ℕ → Option ℕ → Type 0
-ReadTold None I h C O C' O' r = (r ≡ None) × (C' ≡ C) × (O' ≡ O)
-ReadTold (Some zero) I h C O C' O' r = (r ≡ None) × (C' ≡ C) × LastTold h C O O'
-ReadTold (Some (suc k)) I h C O C' O' r = PartTold (take (suc k) I) h C O C' O' r
+abbrev pub ReadTold : Option ℕ → List ℕ → Answering → Answering → Option (Unit {0}) → Type 0
+ReadTold None I a b r = (r ≡ None) × (b ≡ a)
+ReadTold (Some zero) I a b r = (r ≡ None) × LastTold a b
+ReadTold (Some (suc k)) I a b r = PartTold (take (suc k) I) a b r

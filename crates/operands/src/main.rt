@@ -21,56 +21,49 @@ fn read(stdin: &mut Stdin, input: &mut [u8]) -> Option<usize>
     stdin.read(input).ok()
 }
 
-// Answers a part of the input, in as many calls as the room for the output asks, and returns how much of the unfinished line is held; `None`
-// where a write failed. `held`, `carry` and `out` are no struct: each of its `&mut` fields would be lent anew at every call, no plainer.
-fn answer_part(
-    rt: &impl Print,
-    input: &[u8],
+// What stays from read to read: how much of the unfinished line is held, that line, and the output.
+#[derive(Drop)]
+struct Answering {
     held: usize,
-    carry: &mut [u8; LONGEST],
-    out: &mut [u8; OUTPUT],
-) -> Option<usize>
-    ensures { PartTold input.now held carry.old out.old carry.new out.new result }
-{
-    let mut at = 0;
-    let mut h = held;
-    // Each call says how much it consumed, so that no iterator gives the next part.
-    while at < input.len() {
-        let r = batch(&input[at..], h, carry, out);
-        write(rt, out, r.written)?;
-        at += r.consumed;
-        h = r.held;
-    }
-    Some(h)
+    carry: [u8; LONGEST],
+    out: [u8; OUTPUT],
 }
 
-// Answers the last line, if it lacks its line feed.
-fn answer_last(rt: &impl Print, held: usize, carry: &[u8; LONGEST], out: &mut [u8; OUTPUT])
-    ensures { LastTold held carry.now out.old out.new }
-{
-    let n = finish(held, carry, out);
-    write(rt, out, n);
-}
-
-// Answers what a read gave: so many bytes at the beginning of the store that it was lent, 0 at the input's end. Returns how much of the
-// unfinished line is held where the program goes on, `None` where it ends.
-fn answer_read(
-    rt: &impl Print,
-    got: Option<usize>,
-    input: &[u8],
-    held: usize,
-    carry: &mut [u8; LONGEST],
-    out: &mut [u8; OUTPUT],
-) -> Option<usize>
-    requires { Moved (length input.now) got }
-    ensures { ReadTold got input.now held carry.old out.old carry.new out.new result }
-{
-    match got? {
-        0 => {
-            answer_last(rt, held, carry, out);
-            None
+impl Answering {
+    // Answers a part of the input, in as many calls as the room for the output asks; `None` where a write failed.
+    fn answer_part(&mut self, rt: &impl Print, input: &[u8]) -> Option<()>
+        ensures { PartTold input.now self.old self.new result }
+    {
+        let mut rest = input;
+        while !rest.is_empty() {
+            let r = batch(rest, self.held, &mut self.carry, &mut self.out);
+            write(rt, &self.out, r.written)?;
+            rest = &rest[r.consumed..];
+            self.held = r.held;
         }
-        n => answer_part(rt, &input[..n], held, carry, out),
+        Some(())
+    }
+
+    // Answers the last line, if it lacks its line feed.
+    fn answer_last(&mut self, rt: &impl Print)
+        ensures { LastTold self.old self.new }
+    {
+        let n = finish(self.held, &self.carry, &mut self.out);
+        write(rt, &self.out, n);
+    }
+
+    // Answers what a read gave: so many bytes at the beginning of the store that it was lent, 0 at the input's end. `None` where the program ends.
+    fn answer_read(&mut self, rt: &impl Print, got: Option<usize>, input: &[u8]) -> Option<()>
+        requires { Moved (length input.now) got }
+        ensures { ReadTold got input.now self.old self.new result }
+    {
+        match got? {
+            0 => {
+                self.answer_last(rt);
+                None
+            }
+            n => self.answer_part(rt, &input[..n]),
+        }
     }
 }
 
@@ -80,14 +73,15 @@ fn answer_read(
 fn main(rt: HostRuntime) {
     let mut stdin = rt.stdin();
     let mut input = [0u8; 65536];
-    let mut out = [0u8; OUTPUT];
-    let mut carry = [0u8; LONGEST];
-    let mut held = 0;
+    let mut answering = Answering {
+        held: 0,
+        carry: [0u8; LONGEST],
+        out: [0u8; OUTPUT],
+    };
     for _ in 0..u64::MAX {
         let got = read(&mut stdin, &mut input);
-        let Some(more) = answer_read(&rt, got, &input, held, &mut carry, &mut out) else {
+        if answering.answer_read(&rt, got, &input).is_none() {
             return;
-        };
-        held = more;
+        }
     }
 }

@@ -1,4 +1,4 @@
-// A thin reader: the lent line, its tokens and a place among them. A method leaves the work to a function of plain parameters.
+// A thin reader: the lent line, its tokens and a place among them.
 #![tactic(auto)]
 
 ghost use Rattle.std.specs.Prelude.{◌≡◌};
@@ -13,38 +13,13 @@ pub struct Reader<'a, 'b> {
     pub place: usize,
 }
 
-// The text of the token at a place, empty where none stands.
-pub fn text_at<'a, 'b>(line: &'a [u8], tokens: &'b [u8], place: usize) -> &'a [u8]
-    ensures { result.now ≡ text_at line.now tokens.now place }
-{
-    token_at(tokens, place).map_or(&[], |token| text_of(line, token))
-}
-
-// The place itself, or the end of the tokens where the place lies behind it.
-#[tactic(auto, unfolding(crate::specs::Cursor::place_in))]
-pub fn place_in(tokens: &[u8], place: usize) -> usize
-    ensures { result ≡ place_in tokens.now place }
-{
-    place.min(tokens.len() / 4)
-}
-
-// The place behind the token at a place, the same place where none stands.
-pub fn next_place(tokens: &[u8], place: usize) -> usize
-    ensures { result ≡ next_place tokens.now place }
-{
-    if token_at(tokens, place).is_some() {
-        place + 1
-    } else {
-        place
-    }
-}
-
 impl<'a, 'b> Reader<'a, 'b> {
-    // A reader at a place, which does not pass the end.
+    // A reader at the place, or at the end of the tokens where the place lies behind it.
+    #[tactic(auto, unfolding(crate::specs::Cursor::place_in))]
     pub fn new(line: &'a [u8], tokens: &'b [u8], place: usize) -> Reader<'a, 'b>
         ensures { (result.line ≡ line.entry) × (result.tokens ≡ tokens.entry) × (result.place ≡ place_in tokens.now place) }
     {
-        let place = place_in(tokens, place);
+        let place = place.min(tokens.len() / 4);
         Reader {
             line,
             tokens,
@@ -52,21 +27,21 @@ impl<'a, 'b> Reader<'a, 'b> {
         }
     }
 
-    // The text of the token at the reader's place: a part of the caller's line, for as long as the line is lent.
+    // The text of the token at the reader's place, empty where none stands: a part of the caller's line, for as long as the line is lent.
     pub fn text(self) -> &'a [u8]
         ensures { result.now ≡ text_at self.entry.line.now self.entry.tokens.now self.entry.place }
     {
-        text_at(self.line, self.tokens, self.place)
+        token_at(self.tokens, self.place).map_or(&[], |token| text_of(self.line, token))
     }
 
-    // The reader behind the token at its place.
-    pub fn advance(self) -> Reader<'a, 'b>
+    // The reader behind the token at its place, or at the same place where none stands.
+    pub fn advance(mut self) -> Reader<'a, 'b>
         ensures { (result.line ≡ self.entry.line) × (result.tokens ≡ self.entry.tokens) × (result.place ≡ next_place self.entry.tokens.now self.entry.place) }
     {
-        Reader {
-            place: next_place(self.tokens, self.place),
-            ..self
+        if token_at(self.tokens, self.place).is_some() {
+            self.place += 1;
         }
+        self
     }
 }
 

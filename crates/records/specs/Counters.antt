@@ -23,6 +23,13 @@ pub record OneMore (c r : Counters) : Type 0 where
   pub nodes : r.nodes ≡ c.nodes
   pub diagnostics : r.diagnostics ≡ min (c.diagnostics + 1) 65535
 
+-- a node more, as far as they are counted
+pub record OneNode (c r : Counters) : Type 0 where
+  pub at : r.at ≡ c.at
+  pub end : r.end ≡ c.end
+  pub nodes : r.nodes ≡ min (c.nodes + 1) 65535
+  pub diagnostics : r.diagnostics ≡ c.diagnostics
+
 pub counters_are : (c : Counters) (a l n d : ℕ) → c.at ≡ a → c.end ≡ l → c.nodes ≡ n → c.diagnostics ≡ d → c ≡ record { at = a; end = l; nodes = n; diagnostics = d }
 counters_are c a l n d h i j k = rw (sym h, sym i, sym j, sym k)
 

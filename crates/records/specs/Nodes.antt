@@ -1,6 +1,7 @@
 -- The ten numbers of a node record, and how numbers are taken apart.
 -- Assumes nothing.
 use Rattle.std.specs.Prelude.{List, [], ◌∷◌, ℕ, zero, suc, ◌/◌, ◌%◌}
+use Rattle.records.specs.declared.nodes.Node.{Node}
 use Rattle.records.specs.declared.spans.Span.{Span}
 
 -- n bytes of a number, the low byte first
@@ -20,6 +21,9 @@ absent = 65535
 -- a record: kind, detail, two children or registers, the span, and four words more
 abbrev pub node_record : ℕ → ℕ → ℕ → ℕ → Span → List ℕ → List ℕ
 node_record kind detail left right s rest = kind ∷ detail ∷ left ∷ right ∷ s.start ∷ s.end ∷ rest
+
+abbrev pub node_numbers : Node → List ℕ
+node_numbers x = node_record x.kind x.detail x.left x.right x.span (words 4 x.value)
 
 abbrev pub zeros : List ℕ
 zeros = 0 ∷ 0 ∷ 0 ∷ 0 ∷ []

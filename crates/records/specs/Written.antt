@@ -22,9 +22,24 @@ pub written_not : {A : Type 0} (N : List A) (at : ℕ) (b : List A) → length N
 unfolding written
 written_not N at b h = ap (λ t. pick t ((take at N ++ b) ++ drop (at + length b) N) N) (lt-leb (at + length b) (length N) h)
 
+-- nothing, wherever
+pub written_nothing : {A : Type 0} (N : List A) (at : ℕ) → written N at [] ≡ N
+written_nothing N at = go (leb (at + 0) (length N)) refl
+  where
+    go : (b : Bool) → leb (at + 0) (length N) ≡ b → written N at [] ≡ N
+    go true e =
+        written_fits N at [] (leb-true (at + 0) (length N) e)
+        ∙ ap₂ (λ l n. l ++ drop n N) (append-nil (take at N)) (add-zero at)
+        ∙ take-append-drop at N
+    go false e = written_not N at [] (leb-false (at + 0) (length N) e)
+
 pub cleared_fits : (N : List ℕ) (f i : ℕ) → f ≤ i → i ≤ length N → cleared N f i ≡ (take f N ++ replicate (i - f) 0) ++ drop i N
 unfolding cleared
 cleared_fits N f i l h = ap₂ (λ t u. pick (both t u) ((take f N ++ replicate (i - f) 0) ++ drop i N) N) (le-leb f i l) (le-leb i (length N) h)
+
+-- the same, where what stays on both sides is known
+pub cleared_is : (N : List ℕ) {N' b d : List ℕ} (f i : ℕ) {j : ℕ} → take f N ≡ b → f ≡ j → drop i N ≡ d → f ≤ i → i ≤ length N → N' ≡ cleared N f i → N' ≡ (b ++ replicate (i - j) 0) ++ d
+cleared_is N {b = b} {d = d} f i h e p l g k = k ∙ cleared_fits N f i l g ∙ ap₂ (λ x y. (x ++ replicate (i - f) 0) ++ y) h p ∙ ap (λ z. (b ++ replicate (i - z) 0) ++ d) e
 
 pub cleared_turned : (N : List ℕ) (f i : ℕ) → i < f → cleared N f i ≡ N
 unfolding cleared
@@ -99,6 +114,10 @@ written_more N at b c h =
     ∙ ap₂ (λ l r. (l ++ c) ++ r) (written_take N at b (omega arith)) (written_past N at b (at + length b + length c) (omega arith) (omega arith))
     ∙ ap₂ (λ l k. l ++ drop k N) (append_assoc (take at N) b c) e
     ∙ sym (written_fits N at (b ++ c) (omega (arith, e)))
+
+-- the same, by what the store was behind each
+pub written_on : (N N₁ N₂ : List ℕ) (at n : ℕ) (b c : List ℕ) → N₁ ≡ written N at b → n ≡ at + length b → N₂ ≡ written N₁ n c → at + length b + length c ≤ length N → N₂ ≡ written N at (b ++ c)
+written_on N N₁ N₂ at n b c first place second h = second ∙ ap₂ (λ l k. written l k c) first place ∙ written_more N at b c h
 
 -- ---- a record
 

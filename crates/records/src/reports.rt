@@ -1,7 +1,7 @@
 // Diagnostics made, and their records written.
 ghost use Rattle.std.specs.Prelude.{◌≡◌, ◌*◌};
 ghost use Rattle.records.specs.DiagnosticKinds;
-ghost use Rattle.records.specs.Diagnostics.{diagnostic, diagnostic_record, plain, malformed_operand, expression_expected};
+ghost use Rattle.records.specs.Diagnostics.{diagnostic, diagnostic_record, plain, malformed_operand, expression_expected, operand_expected, unclosed_parenthesis, unexpected_token_in_operand};
 ghost use Rattle.records.specs.Spans.{span_of};
 ghost use Rattle.records.specs.Problems;
 ghost use Rattle.records.specs.Shapes;
@@ -59,7 +59,34 @@ pub fn expression_expected(after: Token) -> Diagnostic
     )
 }
 
+// An operand was expected there.
+pub fn operand_expected(at: Span) -> Diagnostic
+    ensures { result ≡ operand_expected at }
+{
+    plain(DiagnosticKind::OperandExpected, at, Span::default())
+}
+
+// A parenthesis is never closed.
+pub fn unclosed_parenthesis(paren: Token) -> Diagnostic
+    ensures { result ≡ unclosed_parenthesis (span_of paren) }
+{
+    plain(
+        DiagnosticKind::UnclosedParenthesis,
+        Span::from(paren),
+        Span::default(),
+    )
+}
+
+// Nothing in an operand goes on with this token, which is quoted.
+pub fn unexpected_token_in_operand(token: Token) -> Diagnostic
+    ensures { result ≡ unexpected_token_in_operand (span_of token) }
+{
+    let span = Span::from(token);
+    plain(DiagnosticKind::UnexpectedTokenInOperand, span, span)
+}
+
 // Writes the diagnostic record d, where it fits.
+#[tactic(auto, unfolding(crate::specs::Diagnostics::diagnostic_record))]
 pub fn push_diagnostic(diagnostics: &mut [u16], d: u16, x: Diagnostic)
     ensures { diagnostics.new ≡ written diagnostics.old (10 * d) (diagnostic_record x) }
 {

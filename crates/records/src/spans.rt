@@ -4,7 +4,8 @@ ghost use Rattle.records.specs.Spans.{empty, span_of};
 
 use names::Token;
 
-// Byte offsets in the line, the end excluded. Where a record has no span, both are 0.
+// Byte offsets in the line, the end excluded. Where a record has no span, both are 0. Made by its fields, which say which is which: a call with two
+// numbers would not, and is no plainer.
 #[derive(Clone, Copy, Default)]
 pub struct Span {
     pub start: u16,
@@ -32,11 +33,9 @@ impl From<Token> for Span {
     ghost from_gives = { λ token s. s ≡ span_of token };
 
     fn from(token: Token) -> Span {
-        let first = token.start;
-        let last = token.end;
         Span {
-            start: first,
-            end: last,
+            start: token.start,
+            end: token.end,
         }
     }
 }

@@ -4,14 +4,13 @@ ghost use Rattle.std.specs.Prelude.{◌≡◌};
 ghost use Rattle.records.specs.Stores.{written};
 
 // Writes the items from a place of the store on, where all of them fit.
+#[tactic(auto, using(crate::specs::Written::written_not, crate::specs::Written::put_written))]
 pub fn write<T: Copy>(store: &mut [T], at: usize, items: &[T])
     ensures { store.new ≡ written store.old at items.now }
 {
-    if store.len() < items.len() {
-        return;
+    let last = store.len().checked_sub(items.len());
+    if last.is_some_and(|last| at <= last) {
+        // Not by `get_mut` of a range: of the store behind it the library tells nothing.
+        store[at..at + items.len()].copy_from_slice(items);
     }
-    if store.len() - items.len() < at {
-        return;
-    }
-    store[at..at + items.len()].copy_from_slice(items);
 }

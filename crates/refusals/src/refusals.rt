@@ -1,8 +1,7 @@
 // The refusals of a call, but for those of its tokens: what is lent and given is looked at in the table's order, and nothing is written.
 ghost use Rattle.std.specs.Prelude.{◌≡◌, ◌+◌, ◌/◌, ltb};
-ghost use Rattle.names.specs.Choice.{either};
 ghost use Rattle.operand.specs.Layouts.{diagnostic_size, free_records};
-ghost use Rattle.operand.specs.Entry.{highest_limit, foreign, line_and_list, start_stores_and_limit, first_of};
+ghost use Rattle.operand.specs.Entry.{foreign, line_and_list, start_stores_and_limit, first_of};
 ghost use Rattle.operand.specs.RefusalNumbers;
 
 use operand::{Layout, Refusal};
@@ -13,26 +12,20 @@ const LOWEST_LIMIT: usize = 1;
 // The highest one.
 const HIGHEST_LIMIT: usize = 128;
 
-// Whether a byte is not printable. A function of its own: where the range stands in the caller, the proof of the caller would have to name its ends.
-#[tactic(auto, using(crate::proofs::refusals::Checks::within, crate::proofs::refusals::Checks::below, crate::proofs::refusals::Checks::above))]
-fn is_foreign(byte: u8) -> bool
-    ensures { result ≡ either (ltb byte 32) (ltb 126 byte) }
-{
-    !matches!(byte, b' '..=b'~')
-}
-
 // Whether a byte of the line is not printable. All are looked at, and nothing branches, so that several are looked at in one step.
+#[tactic(auto, using(crate::proofs::refusals::Checks::foreign_end, crate::proofs::refusals::Checks::foreign_on, names::specs::Laws::or_either, names::specs::Laws::either_assoc, names::specs::Laws::either_false))]
 fn foreign(line: &[u8]) -> bool
     ensures { result ≡ foreign line.now }
 {
     let mut found = false;
     for byte in line {
-        found |= is_foreign(*byte);
+        found |= !(b' '..=b'~').contains(byte);
     }
     found
 }
 
 // The refusal of the line or the list, of number 1 to 3, if there is one.
+#[tactic(auto, unfolding(operand::specs::Entry::line_and_list, operand::specs::Entry::first_of))]
 pub fn refuse_line_and_list(layout: Layout, line: &[u8], tokens: &[u8]) -> Result<(), Refusal>
     ensures { RefusalNumbers.number_in result ≡ first_of (line_and_list layout line.now tokens.now) }
 {
@@ -43,7 +36,7 @@ pub fn refuse_line_and_list(layout: Layout, line: &[u8], tokens: &[u8]) -> Resul
         return Err(Refusal::ForeignByte);
     }
     let count = layout.token_count(tokens.len());
-    if tokens.len() % layout.token_size() != 0 || layout.most_tokens() < count {
+    if !tokens.len().is_multiple_of(layout.token_size()) || layout.most_tokens() < count {
         return Err(Refusal::BadList);
     }
     Ok(())
@@ -59,16 +52,9 @@ fn crowded(layout: Layout, bytes: usize, used: usize) -> bool
         .is_none_or(|left| left < used)
 }
 
-// Whether a nesting limit is outside 1 to 128. A function of its own, as `is_foreign` is.
-#[tactic(auto, using(crate::proofs::refusals::Checks::within, crate::proofs::refusals::Checks::below, crate::proofs::refusals::Checks::above), unfolding(operand::specs::Entry::highest_limit))]
-fn out_of_range(limit: usize) -> bool
-    ensures { result ≡ either (ltb limit 1) (ltb highest_limit limit) }
-{
-    !matches!(limit, LOWEST_LIMIT..=HIGHEST_LIMIT)
-}
-
 // The refusal of the start, a store or the nesting limit, of number 5 to 7 or 18, if there is one: by the tokens' number and the stores' bytes. No
 // struct: the definition takes the seven so, and it would be a type for one call.
+#[tactic(auto, unfolding(operand::specs::Entry::start_stores_and_limit, operand::specs::Entry::first_of))]
 pub fn refuse_start_stores_and_limit(
     layout: Layout,
     tokens: usize,
@@ -89,7 +75,7 @@ pub fn refuse_start_stores_and_limit(
     if crowded(layout, diagnostics, used) {
         return Err(Refusal::ShortDiagnostics);
     }
-    if out_of_range(limit) {
+    if !(LOWEST_LIMIT..=HIGHEST_LIMIT).contains(&limit) {
         return Err(Refusal::BadLimit);
     }
     Ok(())

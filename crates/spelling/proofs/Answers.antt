@@ -3,6 +3,7 @@
 use Rattle.std.specs.Prelude.{◌≡◌, List, [], ◌∷◌, ℕ, ◌*◌, length, Some, Result, Ok, Option, None}
 use Rattle.std.proofs.Math.Path.{refl, ap}
 use Rattle.std.proofs.Common.{sym, ◌∙◌, add-zero, arith, take-append-drop}
+use Rattle.std.proofs.lemmas.Option.{none-some}
 use Rattle.expressions.specs.Reader.{Reading}
 use Rattle.records.specs.declared.diagnostics.Diagnostic.{Diagnostic}
 use Rattle.operand.specs.Operands.{Operand}
@@ -61,7 +62,7 @@ module _ (a : Input) (N' D' : List ℕ) (r : Result Answer Refusal) (p : EntryPr
       same = cc (sym value ∙ e)
 
       go : (v : Option Operand) → s.value ≡ v → Spelt x.cursor
-      go None g = let z : ◌≡◌ {A = ℕ} 0 1 = cc (ap (λ v. (result_of s v).operand) g, ap (λ y. y.operand) same, f) in absurd (omega arith)
+      go None g = absurd (none-some _ (ap (λ v. (result_of s v).operand) (sym g) ∙ ap (λ y. y.operand) same ∙ f))
       go (Some y) g =
           let here : x.cursor ≡ s.cursor = sym (ap (λ y. y.cursor) same) in
           let quiet : s.raised ≡ [] = no_length s.raised (ap (λ y. y.diagnostics) same ∙ q) in

@@ -1,6 +1,6 @@
 -- What a name spells, it alone spells: registers, the program counter, special and suppressed registers exclude each other.
 -- Assumes nothing.
-use Rattle.std.specs.Prelude.{◌≡◌, Bool, not, List, [], ◌∷◌, ℕ, eqb, leb}
+use Rattle.std.specs.Prelude.{◌≡◌, Bool, List, [], ◌∷◌, ℕ, eqb, leb}
 use Rattle.std.proofs.Math.Path.{refl, ap}
 use Rattle.std.proofs.Common.{Option, Some, None, sym, ◌∙◌, eqb-true}
 use Rattle.std.proofs.Math.Bool.{true, false}
@@ -14,6 +14,7 @@ use Rattle.names.specs.Reserved.{is_register, is_special, reserved_rule}
 use Rattle.names.specs.declared.registers.SpecialRegister.{SpecialRegister}
 use Rattle.names.specs.declared.registers.Suppressed.{Suppressed}
 use Rattle.expressions.proofs.Costs.{true_false}
+pub use Rattle.std.proofs.lemmas.Bool.{not-true}
 use Rattle.operand.specs.Operand.{is_suppressed}
 
 -- ---- registers are not suppressed
@@ -120,7 +121,3 @@ module _ (x : List ℕ) (h : reserved x ≡ false) where
 
   pub free_unspecial : is_special (special_of x) ≡ false
   free_unspecial = either_second (program_counter x) (is_special (special_of x)) (either_second (is_register (register_of x)) counted free)
-
-pub not-true : (b : Bool) → not b ≡ true → b ≡ false
-not-true true h = absurd (true_false (sym h))
-not-true false h = refl

@@ -1,9 +1,10 @@
 -- Every spelling that is closed is read as its operand, up to its end, with no diagnostic.
 -- Assumes nothing.
-use Rattle.std.specs.Prelude.{◌≡◌, Bool, true, false, List, [], ◌⊎◌, ℕ, ◌+◌, ◌≤◌, ◌<◌, eqb, Option, Some}
+use Rattle.std.specs.Prelude.{◌≡◌, false, List, [], ℕ, ◌+◌, ◌≤◌, ◌<◌, eqb, Option, Some}
 use Rattle.std.proofs.Math.Path.{refl}
 use Rattle.std.proofs.Common.{sym, ◌∙◌, arith}
 use Rattle.std.proofs.Math.Logic.{inl, inr}
+use Rattle.std.proofs.lemmas.Bool.{cases_Bool}
 use borrow.Author.Tests.{eqb-true, ne_eqb, le-leb, lt-leb}
 use Rattle.names.specs.Choice.{pick, either}
 use Rattle.names.specs.Kinds
@@ -47,10 +48,6 @@ second (last (a_single p)) long = absurd (omega arith)
 second (last (a_range p m q low)) long = record { token = m.token; text = m.text; there = m.there; passed = rw m.of refl }
 second (more (a_single p) k h) long = record { token = k.token; text = k.text; there = k.there; passed = rw k.of refl }
 second (more (a_range p m q low) k h) long = record { token = m.token; text = m.text; there = m.there; passed = rw m.of refl }
-
-dec : (b : Bool) → (b ≡ true) ⊎ (b ≡ false)
-dec true = inl refl
-dec false = inr refl
 
 module _ (s : Setting) (at : ℕ → Place) (count : ℕ) (ends : (j : ℕ) (k : Token) (x : List ℕ) → at j ≡ stands k x → j < count) (few : count ≤ fuel) (own : ℕ) where
   abbrev Plain : ℕ → ℕ → Expr → Type 0
@@ -289,7 +286,7 @@ module _ (s : Setting) (at : ℕ → Place) (count : ℕ) (ends : (j : ℕ) (k :
     where
       go : (p : Place) → at own ≡ p → Reads (operand_from s) at own l n (Some (O.absolute e size (span s.start z)))
       go nothing q = absolute_bare h sz c (rw q refl)
-      go (stands k x) q = elim (dec (eqb k.kind Kinds.left_paren)) [
+      go (stands k x) q = elim (cases_Bool (eqb k.kind Kinds.left_paren)) [
         | inl y ↦ absolute_grouped h sz c (record { token = k; text = x; there = q; of = eqb-true _ _ y })
         | inr y ↦ absolute_bare h sz c (rw (q, y) refl)
       ]

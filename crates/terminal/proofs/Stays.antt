@@ -1,18 +1,14 @@
 -- "It returns its number; all lent bytes stay.": so does the exported call, and of all three stores.
 -- Assumes nothing.
-use Rattle.std.specs.Prelude.{◌≡◌, refl, Bool, true, false, List, [], ℕ, zero, suc, ◌≤◌, ◌<◌, ltb, length, Option, Some, None}
+use Rattle.std.specs.Prelude.{◌≡◌, refl, Bool, true, false, List, ℕ, zero, suc, ◌≤◌, ◌<◌, ltb, length, Option, Some, None}
 use Rattle.std.proofs.Common.{ap, arith, lt-ltb, le-ltb}
 use Rattle.names.specs.Choice.{pick}
-use Rattle.records.specs.Stores.{written}
-use Rattle.records.specs.Written.{written_fits}
+use Rattle.records.specs.Written.{written_nothing}
 use Rattle.operand.specs.Operands.{Operand}
 use Rattle.expressions.specs.Reader.{Reading}
 use Rattle.operand.specs.declared.layouts.Layout.{Layout}
 use Rattle.operand.specs.Entry.{Input, reading_at, refusal, answer_of, outcome, outcome_of}
 use Rattle.terminal.specs.Exported.{Exported, told, number_of, answer_laid, out_after, answered, answer_bytes, short_answer, exported}
-
-pub written_nothing : (O : List ℕ) → written O 0 [] ≡ O
-written_nothing O = written_fits O 0 [] (omega arith)
 
 none_refused : (w : Layout) (r : Reading (Option Operand)) (v : Option Operand) → number_of (answer_of w r v) ≡ 0
 unfolding number_of answer_of
@@ -44,4 +40,4 @@ stays a O = go (ltb (length O) (answer_bytes a.layout)) (refusal a)
     go : (c : Bool) (k : ℕ) → 1 ≤ (of c k).number → of c k ≡ told (of c k).number a.nodes a.diagnostics O
     go true k h = refl
     go false zero h = absurd (omega (arith, number_at a 0))
-    go false (suc k) h = ap (told (suc k) a.nodes a.diagnostics) (written_nothing O)
+    go false (suc k) h = ap (told (suc k) a.nodes a.diagnostics) (written_nothing O 0)

@@ -4,14 +4,15 @@ ghost use Rattle.operand.specs.Entry.{call};
 ghost use Rattle.layout.specs.Promise.{given};
 ghost use Rattle.terminal.specs.Exported.{answer_bytes, exported, out_after, told};
 
-use layout::{Answer, NO_OPERAND, OPERAND, head_size, write, write_head, write_operand};
+use layout::{Answer, Case, head_size, write, write_head, write_operand};
 use operand::Layout;
 
 // The number of the refusal of a store that is too short for an answer: the library's own.
 const SHORT_ANSWER: u8 = 255;
 
 // Reads the operand that begins at the token `start`, with at most `limit` terms open in each other, and writes the answer into `out`.
-// Returns 0, or the number of a refusal, which writes nothing. Parameters and no struct: the call as C's interface has it.
+// Returns 0, or the number of a refusal, which writes nothing. Parameters and no struct, and a number and no `Result`: the call as C's interface has
+// it, since both exports of `terminal_c` hand it on as it is.
 pub fn parse_operand(
     layout: Layout,
     line: &[u8],
@@ -49,6 +50,7 @@ pub fn parse_operand(
 }
 
 // The bytes of an answer: the beginning, the operand's record, the mask.
+#[tactic(auto, using(crate::specs::Exported::answer_bytes_lem, crate::proofs::call::Puts::answer_few))]
 fn answer_bytes(layout: Layout) -> usize
     ensures { result ≡ answer_bytes layout }
 {
@@ -64,12 +66,14 @@ fn put_answer(layout: Layout, out: &mut [u8], x: Answer)
     match x.operand {
         Some(operand) => {
             let mask = operand.mask.to_le_bytes();
-            write_head(layout, OPERAND, x.cursor, x.nodes, x.diagnostics, out, 0);
+            let case = u8::from(Case::Operand);
+            write_head(layout, case, x.cursor, x.nodes, x.diagnostics, out, 0);
             write_operand(layout, operand, out, head);
             write(out, head + layout.operand_size(), &mask[..2]);
         }
         None => {
-            write_head(layout, NO_OPERAND, x.cursor, 0, x.diagnostics, out, 0);
+            let case = u8::from(Case::NoOperand);
+            write_head(layout, case, x.cursor, 0, x.diagnostics, out, 0);
             out[head..answer_bytes(layout)].fill(0);
         }
     }

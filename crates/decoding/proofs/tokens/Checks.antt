@@ -11,10 +11,10 @@ use lib.Dec.{eqb}
 use lib.ListN.{length, get_or}
 use Rattle.std.proofs.lemmas.Grind.{get_or_default_zero}
 use lib.Pointwise.{pointwise}
+use Rattle.std.specs.List.{starts_with}
 use Rattle.names.specs.Choice.{pick, both}
 use Rattle.names.specs.Letters.{bytes, same}
-use Rattle.names.specs.Laws.{same_true}
-use Rattle.expressions.proofs.Costs.{true_false}
+use Rattle.names.specs.Laws.{true_false, and_both, same_true}
 use Rattle.operand.specs.Entry.{signs, spelled_as, prefixed}
 
 -- ---- a sign's text
@@ -26,10 +26,6 @@ same_slices [] [] = refl
 same_slices [] (d ∷ y) = refl
 same_slices (c ∷ x) [] = refl
 same_slices (c ∷ x) (d ∷ y) = and_both (eqb c d) (pointwise eqb x y) ∙ ap (both (eqb c d)) (same_slices x y)
-  where
-    and_both : (a b : Bool) → (a && b) ≡ both a b
-    and_both true b = refl
-    and_both false b = refl
 
 -- ---- the table of the signs
 
@@ -90,18 +86,17 @@ module _ (x : List ℕ) (n : ℕ) where
 
 -- ---- a number's prefix
 
-pub prefixed_none : (base : ℕ) (x : List ℕ) → base ≡ 0 → prefixed base x ≡ true
+pub prefixed_none : (base : ℕ) (x : List ℕ) → base ≡ 0 → true ≡ prefixed base x
 unfolding prefixed
-prefixed_none base [] h = eq-eqb base 0 h
+prefixed_none base [] h = sym (eq-eqb base 0 h)
 prefixed_none base (c ∷ cs) h = rw (eq-eqb base 0 h)
 
-module _ (base : ℕ) (n : base ≡ 0 → ⊥) where
-  pub prefixed_empty : (x : List ℕ) → length x ≡ 0 → prefixed base x ≡ false
-  unfolding prefixed
-  prefixed_empty [] h = ne_eqb base 0 n
-  prefixed_empty (c ∷ cs) h = absurd (omega arith)
-
-  pub prefixed_first : (x : List ℕ) → (length x ≡ 0 → ⊥) → prefixed base x ≡ eqb (get_or x 0 0) (pick (eqb base 1) 36 (pick (eqb base 2) 37 64))
-  unfolding prefixed
-  prefixed_first [] h = absurd (h refl)
-  prefixed_first (c ∷ cs) h = rw (ne_eqb base 0 n)
+-- at its one byte
+pub prefixed_by : (base : ℕ) (x : List ℕ) → (base ≡ 0 → ⊥) → starts_with eqb x (pick (eqb base 1) 36 (pick (eqb base 2) 37 64) ∷ []) ≡ prefixed base x
+unfolding prefixed
+prefixed_by base [] n = sym (ne_eqb base 0 n)
+prefixed_by base (c ∷ cs) n = let b = pick (eqb base 1) 36 (pick (eqb base 2) 37 64) in rw (ne_eqb base 0 n) (go b (eqb b c) refl)
+  where
+    go : (b : ℕ) (t : Bool) → eqb b c ≡ t → (eqb b c && true) ≡ eqb c b
+    go b true e = let s : c ≡ b = omega (arith, eqb-true b c e) in rw (e, eq-eqb c b s)
+    go b false e = rw (e, ne_eqb c b (λ s. eqb-false b c e (sym s)))

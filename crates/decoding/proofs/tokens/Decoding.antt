@@ -1,7 +1,7 @@
 -- Tokens decoded one behind the other.
 -- Assumes nothing.
-use mathlib.Core.Path.{◌≡◌, refl, sym, ◌∙◌, ap, ap₂}
-use mathlib.Core.Bool.{Bool, true, false, ◌&&◌}
+use mathlib.Core.Path.{◌≡◌, refl, sym, ◌∙◌, ap}
+use mathlib.Core.Bool.{Bool, ◌&&◌}
 use mathlib.Core.List.{List, [], ◌∷◌, ◌++◌}
 use Prim.Native.Nat.{ℕ, zero, suc, ◌+◌, ◌*◌, ◌/◌, ◌≤◌, ◌<◌}
 use native.Mathlib.Omega.{arith}
@@ -9,44 +9,29 @@ use borrow.Author.Tests.{le-leb, lt-leb}
 use lib.ListN.{length, take, drop, get_or}
 use lib.Seq.{length-take-le, take-add}
 use Rattle.names.specs.Choice.{pick, both}
-use Rattle.names.specs.Laws.{both_true}
+use Rattle.names.specs.Laws.{both_true, both_assoc, and_both}
 use Rattle.names.specs.Tokens.{count}
 use Rattle.records.specs.Stores.{written}
-use Rattle.records.specs.Written.{written_fits, written_take, written_more, written_not}
+use Rattle.records.specs.Written.{written_take, written_on, written_not}
 use Rattle.operand.specs.declared.layouts.Layout.{Layout}
-use Rattle.operand.specs.Layouts.{joined, joined_tokens, token_numbers}
+use Rattle.operand.specs.Layouts.{token_size, joined, joined_tokens, token_numbers, numbers_count}
 use Rattle.operand.specs.RefusalNumbers
 use Rattle.operand.specs.Entry.{good_token, good_tokens}
 use Rattle.operand.specs.Listed.{four, tokens_end, tokens_from}
 use Rattle.decoding.specs.Tokens.{decodes, decoded, Decoded}
 
--- the code's and
-and_both : (a b : Bool) → (a && b) ≡ both a b
-and_both true b = refl
-and_both false b = refl
-
-both_assoc : (a b c : Bool) → both (both a b) c ≡ both a (both b c)
-both_assoc true b c = refl
-both_assoc false b c = refl
-
 -- ---- decoded one behind the other
 
 module _ (T M : List ℕ) where
-  pub none_decoded : M ≡ written M 0 (take (4 * 0) T)
-  none_decoded = sym (written_fits M 0 [] (omega arith))
-
   pub one_decoded : (i : ℕ) → i < count T → (k d s e : ℕ) → k ≡ get_or T (4 * i) 0 → d ≡ get_or T (4 * i + 1) 0 → s ≡ get_or T (4 * i + 2) 0 → e ≡ get_or T (4 * i + 3) 0
       → (M₁ M₂ : List ℕ) → 4 * count T ≤ length M → M₁ ≡ written M 0 (take (4 * i) T) → M₂ ≡ written M₁ (4 * i) (k ∷ d ∷ s ∷ e ∷ []) → M₂ ≡ written M 0 (take (4 * (i + 1)) T)
   one_decoded i h k d s e k_is d_is s_is e_is M₁ M₂ r told f =
       let x : List ℕ = k ∷ d ∷ s ∷ e ∷ [] in
       let l : length (take (4 * i) T) ≡ 4 * i = length-take-le (4 * i) T (omega arith) in
-      let at : 4 * i ≡ 0 + length (take (4 * i) T) = omega arith in
       let n : 4 * (i + 1) ≡ 4 * i + 4 = omega arith in
       let more : take (4 * (i + 1)) T ≡ take (4 * i) T ++ x =
       ap (λ j. take j T) n ∙ take-add (4 * i) 4 T ∙ ap (λ z. take (4 * i) T ++ take 4 z) (four T i h) ∙ rw (k_is, d_is, s_is, e_is) refl in
-      f ∙ ap₂ (λ z j. written z j x) told at
-      ∙ written_more M 0 (take (4 * i) T) x (omega arith)
-      ∙ ap (written M 0) (sym more)
+      written_on M M₁ M₂ 0 (4 * i) (take (4 * i) T) x told (omega arith) f (omega arith) ∙ ap (written M 0) (sym more)
 
   -- narrow ones are the bytes
   pub narrow_decoded : (n : ℕ) → n ≡ count T → written M 0 (take (4 * n) T) ≡ decoded Layout.Narrow T M
@@ -57,13 +42,6 @@ module _ (T M : List ℕ) where
     pub all_decoded : (M' : List ℕ) (i : ℕ) → i ≡ count T → M' ≡ written M 0 (take (4 * i) T) → M' ≡ decoded w B M
     unfolding decoded
     all_decoded M' i same f = f ∙ ap (λ j. written M 0 (take (4 * j) T)) same ∙ rw is refl
-
-    pub unfit : (L : List ℕ) → length M < 4 * count T → Decoded w L B M M RefusalNumbers.bad_token
-    unfolding decodes decoded
-    unfit L h = record {
-      refusal = sym (rw (← is, lt-leb (4 * count T) (length M) h));
-      numbers = rw (← is) (sym (written_not M 0 _ (omega (arith, length-take-le (4 * count T) T (omega arith)))));
-    }
 
 -- ---- looked at one behind the other
 
@@ -89,16 +67,32 @@ whole L (k ∷ d ∷ s ∷ e ∷ ts) p =
     let n : 4 * count (k ∷ d ∷ s ∷ e ∷ ts) ≡ suc (suc (suc (suc (4 * count ts)))) = omega arith in
     rw n (ap (both (good_token L p k d s e)) (whole L ts e))
 
-pub all_told : (L T M : List ℕ) (w : Layout) (B : List ℕ) → T ≡ token_numbers w B → 4 * count T ≤ length M → (k : ℕ) → k ≡ 4 * count T → (M' : List ℕ) (r : Bool)
-    → M' ≡ decoded w B M → r ≡ good_tokens L 0 (take k M') → Decoded w L B M M' (pick r 0 RefusalNumbers.bad_token)
+-- a list of n tokens, without room for them
+pub unfit : {w : Layout} {L B M : List ℕ} {n : ℕ} → n ≡ length B / token_size w → length M < 4 * n → Decoded w L B M M RefusalNumbers.bad_token
 unfolding decodes decoded
-all_told L T M w B is h k all M' r f e =
-    let x : List ℕ = take (4 * count T) T in
-    let l : length x ≡ 4 * count T = length-take-le (4 * count T) T (omega arith) in
-    let n : k ≡ 0 + length x = omega arith in
-    let front : take k (written M 0 x) ≡ x = ap (λ j. take j (written M 0 x)) n ∙ written_take M 0 x (omega arith) in
+unfit {w} {L} {B} {M} {n} counted h =
+    let X : List ℕ = token_numbers w B in
+    let same : n ≡ count X = omega (arith, counted, numbers_count w B) in
     record {
-      refusal = ap (λ t. pick t 0 RefusalNumbers.bad_token) (e ∙ ap (λ z. good_tokens L 0 (take k z)) (f ∙ rw (← is) refl) ∙ ap (good_tokens L 0) front ∙ whole L T 0 ∙ sym (rw (← is, le-leb (4 * count T) (length M) h)));
+      refusal = sym (rw (lt-leb (4 * count X) (length M) (omega arith)));
+      numbers = sym (written_not M 0 _ (omega (arith, length-take-le (4 * count X) X (omega arith))));
+    }
+
+-- and with room
+pub all_told : {w : Layout} {L B M M' : List ℕ} {n : ℕ} {r b : Bool} → n ≡ length B / token_size w → 4 * n ≤ length M → M' ≡ decoded w B M → r ≡ good_tokens L 0 (take (4 * n) M') → r ≡ b
+    → Decoded w L B M M' (pick b 0 RefusalNumbers.bad_token)
+unfolding decodes decoded
+all_told {w} {L} {B} {M} {n = n} counted h f e is =
+    let X : List ℕ = token_numbers w B in
+    let same : n ≡ count X = omega (arith, counted, numbers_count w B) in
+    let x : List ℕ = take (4 * count X) X in
+    let l : length x ≡ 4 * count X = length-take-le (4 * count X) X (omega arith) in
+    let k : 4 * n ≡ 0 + length x = omega arith in
+    let front : take (4 * n) (written M 0 x) ≡ x = ap (λ j. take j (written M 0 x)) k ∙ written_take M 0 x (omega arith) in
+    record {
+      refusal =
+          ap (λ t. pick t 0 RefusalNumbers.bad_token)
+          (sym is ∙ e ∙ ap (λ z. good_tokens L 0 (take (4 * n) z)) f ∙ ap (good_tokens L 0) front ∙ whole L X 0 ∙ sym (rw (le-leb (4 * count X) (length M) (omega arith))));
       numbers = f;
     }
 

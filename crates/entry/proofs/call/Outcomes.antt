@@ -3,20 +3,22 @@
 use mathlib.Core.Path.{◌≡◌, refl, sym, ◌∙◌, ap, ap₂}
 use mathlib.Core.List.{List}
 use Rattle.std.specs.Prelude.{Ok}
-use Prim.Native.Nat.{ℕ, ◌*◌, ◌≤◌}
+use Prim.Native.Nat.{ℕ, ◌*◌, ◌/◌, ◌≤◌}
 use native.Mathlib.Omega.{arith}
 use lib.ListN.{length, take}
+use Rattle.std.proofs.lemmas.Option.{none-some}
 use Rattle.records.specs.declared.counters.Counters.{Counters}
 use Rattle.expressions.specs.Reader.{Reading}
 use Rattle.names.specs.Tokens.{count}
 use Rattle.operand.specs.Operands.{Operand}
 use Rattle.operand.specs.Records.{size_m}
 use Rattle.operand.specs.Forms.{record_of}
-use Rattle.operand.specs.Entry.{Input, tokens_of, place_of, reading_at, nodes_after, diagnostics_after, answer_number, outcome, outcome_of, outcome_number_lem}
+use Rattle.operand.specs.Layouts.{token_size, numbers_count}
+use Rattle.operand.specs.Entry.{Input, tokens_of, place_of, first_of, start_stores_and_limit, reading_at, nodes_after, diagnostics_after, answer_number, outcome, outcome_of, outcome_number_lem}
 use Rattle.operand.proofs.Readings.{raised_few}
 use Rattle.operand.specs.Conditions.{Valid}
 use Rattle.operand.proofs.Conditions.{valid_bounds, valid_count, valid_stores, valid_limit, cursor_bounds, nodes_bound, added_within}
-use Rattle.decoding.specs.Tokens.{decoded, tokens_stored}
+use Rattle.decoding.specs.Tokens.{Decoded, tokens_stored}
 use Rattle.layout.specs.Nodes.{nodes_encoded}
 use Rattle.layout.specs.Diagnostics.{diagnostics_encoded}
 use Rattle.layout.specs.Stored.{nodes_stored, diagnostics_stored}
@@ -25,7 +27,7 @@ use Rattle.layout.specs.declared.answer.Answer.{Answer}
 use Rattle.operand_code.specs.Reading.{OperandAsks, OperandFits, OperandPromise, nodes_alone}
 use Rattle.operand_code.specs.Reading as P
 use Rattle.entry.specs.Call.{StoresAsk, answer_of, AnswerTold}
-use Rattle.entry.proofs.call.Refusals.{whole_list}
+use Rattle.entry.proofs.call.Refusals.{whole_list, valid}
 use Rattle.std.specs.Prelude.{Option, Some, None, option_map}
 use Rattle.operand.specs.declared.forms.OperandStep.{OperandStep}
 
@@ -56,7 +58,15 @@ unfolding answer_of result_of
 answer_is s (Some x) e = rw e refl
 answer_is s None e = rw e refl
 
-module _ (a : Input) (M M' N D N₁ D₁ : List ℕ) (v : Valid a) (asks : StoresAsk a.layout a.line a.tokens (length M) (length N) (length D)) (list : M' ≡ decoded a.layout a.tokens M) where
+-- nothing was refused, of n tokens
+module _ (a : Input) (M M' N D : List ℕ) (asks : StoresAsk a.layout a.line a.tokens (length M) (length N) (length D)) (good : Decoded a.layout a.line a.tokens M M' 0) {n : ℕ} (counted : n ≡ length a.tokens / token_size a.layout)
+    (passed : 0 ≡ first_of (start_stores_and_limit a.layout n a.start a.limit (length a.nodes) (length a.diagnostics) a.used)) where
+  v : Valid a
+  v = valid a asks.passed M M' asks.tokens good n counted passed
+
+  pub limit_few : a.limit ≤ 128
+  limit_few = (valid_limit a v).1
+
   abbrev s : Reading (Option Operand)
   s = reading_at a
 
@@ -67,7 +77,7 @@ module _ (a : Input) (M M' N D N₁ D₁ : List ℕ) (v : Valid a) (asks : Store
   -- they stand at the store's front
   tokens_are : take long M' ≡ tokens_of a
   tokens_are =
-      ap (take long) list ∙ tokens_stored a.layout a.tokens M (whole_list a.layout _ _ asks.passed).0 asks.tokens
+      ap (take long) good.numbers ∙ tokens_stored a.layout a.tokens M (whole_list a.layout _ _ asks.passed).0 asks.tokens
 
   lim : 1 ≤ a.limit
   lim = (valid_limit a v).0
@@ -78,16 +88,19 @@ module _ (a : Input) (M M' N D N₁ D₁ : List ℕ) (v : Valid a) (asks : Store
   raised_room : 10 * length s.raised ≤ length D
   raised_room = omega (arith, raised_few a.limit lim a.mark (place_of a) a.start, cursor_bounds a lim v, asks.diagnostics)
 
-  module _ (end : ℕ) (whole : end ≡ long) (r : Option OperandStep) (told : OperandPromise a.line (take end M') N D N₁ D₁ a.start a.mark a.limit r) where
+  module _ {N₁ D₁ : List ℕ} (r : Option OperandStep) (told : OperandPromise a.line (take (4 * n) M') N D N₁ D₁ a.start a.mark a.limit r) where
+    whole : 4 * n ≡ long
+    whole = omega (arith, counted, numbers_count a.layout a.tokens)
+
     of_list : OperandPromise a.line (tokens_of a) N D N₁ D₁ a.start a.mark a.limit r
-    of_list = rw (ap (λ n. take n M') whole ∙ tokens_are) at told
+    of_list = rw (ap (λ k. take k M') whole ∙ tokens_are) at told
 
     -- there is room, so that it is read
     pub never_unfit : r ≡ None → ⊥
     never_unfit e = go of_list
       where
         go : OperandPromise a.line (tokens_of a) N D N₁ D₁ a.start a.mark a.limit r → ⊥
-        go (P.OperandPromise.read t f q h) = let z : ◌≡◌ {A = ℕ} 0 1 = cc in omega arith
+        go (P.OperandPromise.read t f q h) = none-some _ (sym e ∙ f)
         go (P.OperandPromise.unread f q n d) = q room
 
     fits : (t : OperandStep) → r ≡ Some t → OperandFits s N D N₁ D₁ t

@@ -45,14 +45,20 @@ whole_list w L T h =
 
 -- ---- stores with room for a list of at most n tokens
 
-pub asked : (w : Layout) (L T : List ℕ) (n m : ℕ) → 0 ≡ first_of (line_and_list w L T) → m ≡ length T / token_size w → m ≤ n
-    → StoresAsk w L T (4 * n) (10 * n) (10 * (n + 1))
-asked w L T n m passed counted few =
+pub asked : {w : Layout} {L T : List ℕ} {m : ℕ} (n : ℕ) → 0 ≡ first_of (line_and_list w L T) → m ≡ length T / token_size w → m ≤ n → StoresAsk w L T (4 * n) (10 * n) (10 * (n + 1))
+asked {w} {L} {T} n passed counted few =
     let same = numbers_count w T in
     record { passed = sym passed; tokens = omega arith; nodes = omega arith; diagnostics = omega arith }
 
-pub sizes : (n : ℕ) → n ≤ 1023 → (4 * n ≤ 4092) × (10 * n ≤ 10230) × (10 * (n + 1) ≤ 10240)
-sizes n h = (omega arith, omega arith, omega arith)
+-- the numbers of all tokens have room
+pub list_fits : {w : Layout} {L T : List ℕ} {list records reports n : ℕ} → StoresAsk w L T list records reports → n ≡ length T / token_size w → 4 * n ≤ list
+list_fits {w} {T = T} asks counted = omega (arith, asks.tokens, numbers_count w T)
+
+-- of any list that is not refused
+pub asked_most : {w : Layout} {L T : List ℕ} → 0 ≡ first_of (line_and_list w L T) → StoresAsk w L T 4092 10230 10240
+asked_most {w} {L} {T} passed =
+    let few = (whole_list w L T (sym passed)).1 in
+    record { passed = sym passed; tokens = omega arith; nodes = omega arith; diagnostics = omega arith }
 
 -- with room for all, the tokens are good where they are decoded
 decoded_good : (w : Layout) (L T M M' : List ℕ) (n : ℕ) → Decoded w L T M M' n → 4 * count (token_numbers w T) ≤ length M

@@ -1,6 +1,6 @@
 -- What the terms of one token tell.
 -- Assumes nothing.
-use Rattle.std.specs.Prelude.{Option, Some, None, Result, Ok, Err}
+use Rattle.std.specs.Prelude.{Option, Some, None, Err}
 use mathlib.Core.Path.{◌≡◌, refl, sym, ◌∙◌, ap, subst}
 use mathlib.Core.Bool.{Bool, true, false}
 use mathlib.Core.List.{List, append-nil}
@@ -15,23 +15,23 @@ use Rattle.names.specs.Tokens.{token_at}
 use Rattle.names.specs.Places.{text_of}
 use Rattle.names.specs.Numbers.{number_of}
 use Rattle.names.specs.declared.tokens.Token.{Token}
-use Rattle.names.specs.declared.numbers.NumberError.{NumberError}
 use Rattle.records.specs.Spans.{span_of, span_or}
 use Rattle.expressions.specs.Trees.{Expr, number, character_literal, symbol, current_address, span_e, size}
 use Rattle.records.specs.declared.spans.Span.{Span}
 use Rattle.records.specs.declared.diagnostics.Diagnostic.{Diagnostic}
 use Rattle.records.specs.declared.counters.Counters.{Counters}
 use Rattle.expressions_code.specs.declared.terms.TermError.TheVariants as errors
-use Rattle.records.specs.Diagnostics.{nesting_too_deep, number_too_large, register_in_expression}
-use Rattle.expressions.specs.Reader.{Reader, answer, raise, ◌>>=◌}
-use Rattle.expressions.specs.Told.{Raised, Told, Same}
-use Rattle.expressions.specs.Paths.{raised_as, renamed, counted, answered, hereby, raised, bound_as, hit, miss, seen, beyond}
-use Rattle.expressions.specs.Expressions.{Term, read, reported, absent, valued, number_term, named, leaf_term, too_deep}
+use Rattle.records.specs.Diagnostics.{nesting_too_deep, register_in_expression}
+use Rattle.expressions.specs.Reader.{Reader, answer, raise}
+use Rattle.expressions.specs.Told.{Raised, Told}
+use Rattle.expressions.specs.Paths.{counted, answered, hereby, raised, bound_as, hit, miss, seen, beyond}
+use Rattle.expressions.specs.Expressions.{Term, read, reported, absent, number_term, named, leaf_term, too_deep}
 use Rattle.expressions.proofs.Costs.{size_pos}
 use Rattle.records.specs.Nodes.{node_record, words, own}
 use Rattle.expressions.specs.Records.{nodes}
 use Rattle.records.specs.Counters.{stepped, Over, counters_are, over_is}
-use Rattle.expressions_code.specs.Terms.{Parsed, parsed_of, size_t, nodes_t, Held, Said, LeafTold, DeepTold, ReaderTold, TokenTold, DepthTold, Spared}
+use Rattle.expressions_code.specs.Numbers.{ValueTold, value_told, value_stays}
+use Rattle.expressions_code.specs.Terms.{Parsed, parsed_of, size_t, nodes_t, Held, Said, LeafTold, SymbolTold, DeepTold, ReaderTold, TokenTold, DepthTold, Spared}
 
 -- ---- a term without nodes
 
@@ -75,37 +75,17 @@ leaf_told e h b sp one = counted h.at h.end h.seen (answered (rw sp h.what) refl
 
 -- ---- numbers and names
 
-number_is : (k : Token) (x : List ℕ) {n : Result ℕ NumberError} → number_of k.detail x ≡ n → (valued k n >>= λ v. answer (read (number k.detail v (span_of k)))) ≡ number_term k x
-unfolding number_term
-number_is k x e = rw e
-
--- the code has the digits as n, of the text y
-module _ {N D : List ℕ} {c : Counters} (k : Token) (x : List ℕ) {n : Result ℕ NumberError} {y : List ℕ} (parsed : n ≡ number_of k.detail y) (text : y ≡ x) where
-  module _ {N' D' : List ℕ} {v_r : Parsed} {r : Counters} {v d : ℕ} {s : Span} where
-    -- they come to m, whose value is v
-    number_leaf : {m : Result ℕ NumberError} → n ≡ m → ((L T : List ℕ) → Told (λ z. z) (Same c.nodes) (valued k m) L T D D' c v (record { at = c.at; end = c.end; nodes = c.nodes; diagnostics = d }))
-        → s ≡ span_of k → LeafTold N N' (record { at = c.at; end = c.end; nodes = c.nodes; diagnostics = d }) 1 k.detail s v v_r r → ReaderTold (number_term k x) N D N' D' c v_r r
-    unfolding nodes span_e size
-    number_leaf e t g h = record {
-      told = λ L T. renamed (number_is k x (sym (parsed ∙ ap (number_of k.detail) text) ∙ e)) (bound_as (t L T) (leaf_told (number k.detail v (span_of k)) (rw g at h) refl refl refl));
-      stays = h.at;
-      past = h.put.past;
+pub number_read : (k : Token) (x : List ℕ) {N N' D D' : List ℕ} {c c₁ : Counters} {s : Span} {v : ℕ} {v_r : Parsed} {r : Counters} → c.diagnostics < 65535 → ValueTold D D' c k (number_of k.detail x) v c₁ → s ≡ span_of k
+    → LeafTold N N' c₁ 1 k.detail s v v_r r → ReaderTold (number_term k x) N D N' D' c v_r r
+unfolding number_term nodes span_e size
+number_read k x {N} {N'} {D' = D'} {c₁ = c₁} {v = v} {v_r = v_r} {r = r} room t g h =
+    let w = value_stays t in
+    let e = number k.detail v (span_of k) in
+    record {
+      told = λ L T. bound_as (value_told (number_of k.detail x) room t) (subst (λ m. Told parsed_of (Held N N' m) (answer (read e)) L T D' D' c₁ v_r r) w.1 (leaf_told e (rw g at h) refl refl refl));
+      stays = h.at ∙ w.0;
+      past = λ j b. h.put.past j (omega (arith, b, w.1));
     }
-
-  pub number_value : {N' : List ℕ} {v_r : Parsed} {r : Counters} {v : ℕ} {s : Span} → n ≡ Ok v → s ≡ span_of k → LeafTold N N' c 1 k.detail s v v_r r → ReaderTold (number_term k x) N D N' D c v_r r
-  unfolding valued
-  number_value e = number_leaf e λ L T. answered refl refl refl
-
-  pub number_invalid : {N' : List ℕ} {v_r : Parsed} {r : Counters} {s : Span} → n ≡ Err NumberError.Invalid → s ≡ span_of k → LeafTold N N' c 1 k.detail s 0 v_r r → ReaderTold (number_term k x) N D N' D c v_r r
-  unfolding valued
-  number_invalid e = number_leaf e λ L T. answered refl refl refl
-
-  pub number_large : {N' D' : List ℕ} {v_r : Parsed} {r c₁ : Counters} {s : Span} {z : Diagnostic} → n ≡ Err NumberError.TooLarge → s ≡ span_of k
-      → z ≡ number_too_large s → Raised D D' c z c₁ → LeafTold N N' c₁ 1 k.detail s 0 v_r r → ReaderTold (number_term k x) N D N' D' c v_r r
-  unfolding valued
-  number_large {N'} {v_r = v_r} {r = r} {s = s} {z = z} e g q p h =
-      number_leaf e (λ L T. raised (raised_as (q ∙ ap number_too_large g) (record { counters = refl; more = p.more })) (answered refl refl refl)) g
-      (subst (λ z. LeafTold N N' z 1 k.detail s 0 v_r r) p.counters h)
 
 -- the code has the text as y, and finds b of it
 module _ {N D : List ℕ} {c : Counters} (k : Token) {b : Bool} {x y : List ℕ} (found : b ≡ reserved y) (text : y ≡ x) where
@@ -118,13 +98,12 @@ module _ {N D : List ℕ} {c : Counters} (k : Token) {b : Bool} {x y : List ℕ}
     past = λ j b. refl;
   }
 
-  pub name_read : {N' : List ℕ} {v_r : Parsed} {r : Counters} {s : Span} {v : ℕ} → b ≡ false → s ≡ span_of k → (v ≡ s.start + 65536 * s.end) × (s.start < 65536) × (s.end < 65536)
-      → LeafTold N N' c 3 0 s v v_r r → ReaderTold (named k (reserved x)) N D N' D c v_r r
+  pub name_read : {N' : List ℕ} {v_r : Parsed} {r : Counters} {s : Span} → b ≡ false → s ≡ span_of k → SymbolTold N N' c s v_r r → ReaderTold (named k (reserved x)) N D N' D c v_r r
   unfolding named nodes span_e size
-  name_read e g q h = record {
-    told = λ L T. let w = rw g at q in rw (← text, ← found, e) (leaf_told (symbol (span_of k) (span_of k)) (rw g at h) (rw (w.0, own_bytes (span_of k) w.1 w.2)) refl refl);
-    stays = h.at;
-    past = h.put.past;
+  name_read e g h = record {
+    told = λ L T. let w = rw g at h in rw (← text, ← found, e) (leaf_told (symbol (span_of k) (span_of k)) w.0 (rw (own_bytes (span_of k) w.1 w.2)) refl refl);
+    stays = h.0.at;
+    past = h.0.put.past;
   }
 
 -- ---- a term of one token, by its kind
@@ -144,24 +123,23 @@ module _ {L N D : List ℕ} {c : Counters} {k : Token} where
     unfolding leaf_term nodes span_e size words
     star_told e h = record { told = λ T there. hit there (rw e) refl (leaf_told (current_address (span_of k)) (rw (stepped_leaf low over, sp) at h) refl refl refl); past = spared low over h }
 
-    module _ {v : ℕ} (w : (v ≡ s.start + 65536 * s.end) × (s.start < 65536) × (s.end < 65536)) where
-      own_told : {T : List ℕ} (e : Expr) {kind detail : ℕ} → LeafTold N N' q kind detail s v v_r r → nodes c.nodes e ≡ node_record kind detail 65535 65535 (span_of k) (own (span_of k)) → span_e e ≡ span_of k → size e ≡ 1
-          → Said (answer (read e)) L T N D N' D (stepped c k) v_r r
-      own_told e h b f g = let z = rw sp at w in leaf_told e (rw (stepped_leaf low over, sp) at h) (b ∙ rw (z.0, own_bytes (span_of k) z.1 z.2)) f g
+    own_told : {v : ℕ} {T : List ℕ} (e : Expr) {kind detail : ℕ} → (v ≡ s.start + 65536 * s.end) × (s.start < 65536) × (s.end < 65536) → LeafTold N N' q kind detail s v v_r r
+        → nodes c.nodes e ≡ node_record kind detail 65535 65535 (span_of k) (own (span_of k)) → span_e e ≡ span_of k → size e ≡ 1 → Said (answer (read e)) L T N D N' D (stepped c k) v_r r
+    own_told e w h b f g = let z = rw sp at w in leaf_told e (rw (stepped_leaf low over, sp) at h) (b ∙ rw (z.0, own_bytes (span_of k) z.1 z.2)) f g
 
-      pub string_told : k.kind ≡ Kinds.string_literal → LeafTold N N' q 2 k.detail s v v_r r → TokenTold leaf_term L k N D N' D c v_r r
-      unfolding leaf_term nodes span_e size
-      string_told e h = record {
-        told = λ T there. miss there (rw e) (miss there (rw e) (hit there (rw e) refl (own_told (character_literal k.detail (span_of k) (span_of k)) h refl refl refl)));
-        past = spared low over h;
-      }
+    pub string_told : {v : ℕ} → (v ≡ s.start + 65536 * s.end) × (s.start < 65536) × (s.end < 65536) → k.kind ≡ Kinds.string_literal → LeafTold N N' q 2 k.detail s v v_r r → TokenTold leaf_term L k N D N' D c v_r r
+    unfolding leaf_term nodes span_e size
+    string_told w e h = record {
+      told = λ T there. miss there (rw e) (miss there (rw e) (hit there (rw e) refl (own_told (character_literal k.detail (span_of k) (span_of k)) w h refl refl refl)));
+      past = spared low over h;
+    }
 
-      pub local_told : k.kind ≡ Kinds.local_identifier → LeafTold N N' q 3 0 s v v_r r → TokenTold leaf_term L k N D N' D c v_r r
-      unfolding leaf_term nodes span_e size
-      local_told e h = record {
-        told = λ T there. miss there (rw e) (miss there (rw e) (miss there (rw e) (miss there (rw e) (hit there (rw e) refl (own_told (symbol (span_of k) (span_of k)) h refl refl refl)))));
-        past = spared low over h;
-      }
+    pub local_told : k.kind ≡ Kinds.local_identifier → SymbolTold N N' q s v_r r → TokenTold leaf_term L k N D N' D c v_r r
+    unfolding leaf_term nodes span_e size
+    local_told e h = record {
+      told = λ T there. miss there (rw e) (miss there (rw e) (miss there (rw e) (miss there (rw e) (hit there (rw e) refl (own_told (symbol (span_of k) (span_of k)) (refl, h.1, h.2) h.0 refl refl refl)))));
+      past = spared low over h.0;
+    }
 
   module _ {N' D' : List ℕ} {v_r : Parsed} {r : Counters} {q : Counters} (low : c.at < 1023) (over : Over c k q) where
     pub number_told : k.kind ≡ Kinds.number → ReaderTold (number_term k (text_of L k.start k.end)) N D N' D' q v_r r → TokenTold leaf_term L k N D N' D' c v_r r

@@ -1,12 +1,12 @@
 -- What the public functions' returns show: the stores, cleared behind the records that count.
 -- Assumes nothing.
 use Rattle.std.specs.Prelude.{Some}
-use mathlib.Core.Path.{◌≡◌, refl, sym, ◌∙◌, ap, ap₂}
+use mathlib.Core.Path.{◌≡◌, refl, sym, ◌∙◌, ap}
 use mathlib.Core.Bool.{Bool, true, false, not}
-use mathlib.Core.List.{List, [], ◌∷◌, ◌++◌}
+use mathlib.Core.List.{List, [], ◌∷◌}
 use Prim.Native.Nat.{ℕ, ◌+◌, ◌-◌, ◌*◌, ◌≤◌}
 use native.Mathlib.Omega.{arith}
-use lib.ListN.{length, take, drop, replicate}
+use lib.ListN.{length, take, drop}
 use Rattle.std.proofs.lemmas.Bool.{not-false, not-true}
 use Rattle.names.specs.Laws.{true_false}
 use Rattle.expressions.specs.Trees.{span_e, with_span, size}
@@ -16,7 +16,7 @@ use Rattle.records.specs.Counters.{counters_are}
 use Rattle.expressions.specs.Expressions.{expression_from, fuel}
 use Rattle.records.specs.Rooms.{NodeRoom}
 use Rattle.records.specs.Stores.{cleared}
-use Rattle.records.specs.Written.{written_past, cleared_fits}
+use Rattle.records.specs.Written.{written_past, cleared_is}
 use Rattle.expressions_code.specs.Terms.{Parsed, ExpressionTold, Joined, ClimbTold}
 use Rattle.expressions.specs.Told.{Told}
 use Rattle.expressions_code.specs.Roots.{rooted, span_e_with_span}
@@ -28,7 +28,7 @@ use Rattle.expressions.proofs.Costs.{size_with_span}
 filled_is : (N N₁ N₂ b : List ℕ) (n i m : ℕ) → take (10 * n) N₁ ≡ b → n ≡ i → drop (10 * m) N₁ ≡ drop (10 * m) N → n ≤ m → 10 * m ≤ length N₁
     → N₂ ≡ cleared N₁ (10 * n) (10 * m) → N₂ ≡ filled b i m N
 unfolding filled
-filled_is N N₁ N₂ b n i m h e p l f k = k ∙ cleared_fits N₁ (10 * n) (10 * m) (omega arith) f ∙ ap₂ (λ x y. (x ++ replicate (10 * m - 10 * n) 0) ++ y) h p ∙ ap (λ z. (b ++ replicate (10 * m - 10 * z) 0) ++ drop (10 * m) N) e
+filled_is N N₁ N₂ b n i m h e p l f k = cleared_is N₁ (10 * n) (10 * m) h (ap (λ z. 10 * z) e) p (omega (arith, l)) f k
 
 -- ---- whether there is room
 

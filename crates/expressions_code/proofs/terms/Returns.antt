@@ -1,12 +1,16 @@
 -- What the returns of the terms and of the expression show: each follows its reader, a step at a time.
 -- Assumes nothing.
 use Rattle.std.specs.Prelude.{Some, None, Result, Ok, Err, IsErrAnd}
+use Rattle.std.specs.Result.{ResultUnwrapsOrElse, result_or}
+use Rattle.std.proofs.lemmas.Result.{err_from_is_err_and}
 use mathlib.Core.Path.{◌≡◌, refl, sym, ◌∙◌, ap, ap₂, subst}
 use mathlib.Core.Bool.{true, false}
 use mathlib.Core.List.{List, ◌++◌, append_assoc}
 use Prim.Native.Nat.{ℕ, zero, suc, ◌+◌, ◌-◌, ◌*◌, ◌<◌, ◌≤◌}
 use native.Mathlib.Numerals.{sub-one}
 use native.Mathlib.Omega.{arith}
+use mathlib.Core.Logic.{inl, inr}
+use Rattle.std.specs.Prelude.{◌⊎◌, Option, Some, None}
 use borrow.Author.Tests.{ne_eqb}
 use lib.ListN.{length, take, drop}
 use lib.Seq.{take-take, take_at, length-take-le}
@@ -15,7 +19,7 @@ use Rattle.names.specs.Tokens.{count, token_at}
 use Rattle.names.specs.Places.{Place, text_of, place, below}
 use Rattle.names.specs.declared.tokens.Token.{Token}
 use Rattle.records.specs.DiagnosticKinds
-use Rattle.records.specs.Spans.{span, span_of, no_span}
+use Rattle.records.specs.Spans.{span, span_of, no_span, blank}
 use Rattle.expressions.specs.Trees.{Expr, unary, span_e, size}
 use Rattle.records.specs.declared.spans.Span.{Span}
 use Rattle.records.specs.declared.diagnostics.Diagnostic.{Diagnostic}
@@ -25,13 +29,13 @@ use Rattle.expressions_code.specs.declared.terms.TermError.TheVariants as errors
 use Rattle.records.specs.Diagnostics.{plain, expression_expected}
 use Rattle.expressions.specs.Reader.{Reading, Reader, answer, raise, ◌>>=◌, run}
 use Rattle.expressions.specs.Told.{Raised}
-use Rattle.expressions.specs.Paths.{raised_here, raised_as, held_as, renamed, counted, answered, raised, bound, hit, miss, done}
+use Rattle.expressions.specs.Paths.{raised_here, raised_as, held_as, renamed, counted, answered, raised, raised_same, bound, hit, miss, done}
 use Rattle.expressions.specs.Expressions.{Term, read, reported, absent, unary_operator, is_unary, negated, plussed, climbed, leaf_term, parse_prefix_term, parse_prefix, parse_expression_of, parse_expression, parse_expression_from, fuel}
 use Rattle.records.specs.Nodes.{node_record, words}
 use Rattle.expressions.specs.Records.{nodes}
 use Rattle.records.specs.Counters.{stepped, Over, over_is}
 use Rattle.records.specs.Rooms.{NodeRoom}
-use Rattle.expressions_code.specs.Terms.{Parsed, NodeTold, parsed_of, size_t, nodes_t, Held, Said, DeepTold, TokenTold, DepthTold, ExpectedTold, stood, missing, TermTold, PrefixTold, ExpressionTold, unary_term, plus_term, group_term, BehindTold, ClimbTold, Spared}
+use Rattle.expressions_code.specs.Terms.{Parsed, NodeTold, parsed_of, size_t, nodes_t, Held, Said, TokenTold, DepthTold, ExpectedTold, stood, missing, TermTold, PrefixTold, ExpressionTold, unary_term, plus_term, group_term, BehindTold, ClimbTold, Spared}
 use Rattle.expressions.specs.Laws as laws
 use Rattle.expressions.specs.Laws.{law_run}
 use Rattle.expressions.proofs.Costs.{Cost, prefix_cost, expression_cost, size_pos, all_clean}
@@ -39,11 +43,30 @@ use Rattle.expressions.specs.Fuel.{fuel_enough}
 use Rattle.expressions.proofs.Grown.{grown_behind, climb_grows}
 use Rattle.expressions_code.specs.Answers.{apart, what_read, what_reported, what_absent}
 use Rattle.expressions_code.proofs.leaves.Returns.{held_none, deep_raised, absent_told}
+use Rattle.std.specs.Option.{ok_or}
+
+-- what an option was, of which `ok_or` made this result
+pub some_of : {A E : Type 0} (o : Option A) (d : E) (x : A) → ok_or o d ≡ Ok x → o ≡ Some x
+some_of (Some y) d x e = cc
+some_of None d x e = absurd cc
+
+pub none_of : {A E : Type 0} (o : Option A) (d y : E) → ok_or o d ≡ Err y → (o ≡ None) × (y ≡ d)
+none_of (Some x) d y e = absurd cc
+none_of None d y e = (refl, cc)
 
 -- an error that is passed on
 pub err_given : {A E : Type 0} (r : Result A E) (e : E) → IsErrAnd r (λ x. x ≡ e) → r ≡ Err e
-err_given (Ok a) e h = absurd h
-err_given (Err x) e h = ap Err h
+err_given r e h = let w = err_from_is_err_and r h in w.1 ∙ ap Err w.2
+
+-- a sign, by its kind
+pub a_unary : (k : Token) (x : List ℕ) → (k.kind ≡ Kinds.minus) ⊎ (k.kind ≡ Kinds.tilde) → is_unary k x ≡ true
+unfolding is_unary
+a_unary k x (inl e) = rw e refl
+a_unary k x (inr e) = rw e refl
+
+pub no_unary : (k : Token) (x : List ℕ) → ((k.kind ≡ Kinds.minus) ⊎ (k.kind ≡ Kinds.tilde) → ⊥) → is_unary k x ≡ false
+unfolding is_unary
+no_unary k x h = rw (ne_eqb _ _ (λ e. h (inl e)), ne_eqb _ _ (λ e. h (inr e))) refl
 
 -- behind a token, where there is room for a reading
 pub stepped_over : {T N : List ℕ} {c r : Counters} {i n d : ℕ} {k : Token} → NodeRoom T N c i n d → Over c k r → r ≡ stepped c k
@@ -172,12 +195,12 @@ module _ {p : Reader Term} {L T N D N₁ D₁ : List ℕ} {c : Counters} {v_r : 
 
   -- it has failed or is not there, told with one diagnostic more
   told_more : 10 * c.nodes ≤ length N → (tail : Term → Reader Term) {x y : Diagnostic} (v : Term) → first.value ≡ v → size_t v ≡ 0 → raise x (answer reported) ≡ tail v → y ≡ x
-      → {D₂ : List ℕ} {v_q : Parsed} {q : Counters} → DeepTold D₁ D₂ r y v_q q → BehindTold (p >>= tail) L T N D N₁ D₂ c v_q q
+      → {D₂ : List ℕ} {v_q : Parsed} {q : Counters} → v_q ≡ Err errors.Reported → Raised D₁ D₂ r y q → BehindTold (p >>= tail) L T N D N₁ D₂ c v_q q
   unfolding parsed_of size_t
-  told_more long tail v e z eq f h =
+  told_more long tail v e z eq f w h =
       let back : r.nodes ≡ c.nodes = omega (arith, (held_as g.told e).total, z) in
-      behind (bound g.told e (renamed eq (raised (raised_as f (deep_raised h)) (answered h.what refl (held_none reported refl (h.same ∙ back) (kept g.told.held long)))))) (λ j b. refl)
-      h.at (omega (arith, h.same)) (omega (arith, h.push.next))
+      behind (bound g.told e (renamed eq (raised (raised_as f h) (answered w refl (held_none reported refl (raised_same h ∙ back) (kept g.told.held long)))))) (λ j b. refl)
+      (ap (λ z. z.at) h.counters) (omega (arith, raised_same h)) (omega (arith, ap (λ z. z.diagnostics) h.counters))
 
   -- it has failed or is not there, where it had to stand behind the token k
   pub fails_behind : {k : Token} → 10 * c.nodes ≤ length N → (tail : Term → Reader Term) → answer reported ≡ tail reported → raise (expression_expected (span_of k)) (answer reported) ≡ tail absent
@@ -185,7 +208,7 @@ module _ {p : Reader Term} {L T N D N₁ D₁ : List ℕ} {c : Counters} {v_r : 
   unfolding size_t
   fails_behind long tail a b errors.Reported (stood n w d s) h = rw (d, s) (fails_on tail (sym w ∙ h) a)
   fails_behind long tail a b errors.Absent (stood n w d s) h = absurd (n (sym w ∙ h))
-  fails_behind long tail a b e (missing w m) h = rw (← h) (told_more long tail absent (is_absent w) refl b refl m)
+  fails_behind long tail a b e (missing w m) h = rw (← h) (told_more long tail absent (is_absent w) refl b refl m.what (deep_raised m))
 
   -- it is read
   pub read_on : {k : Token} {D₂ : List ℕ} {v_s : Parsed} {q : Counters} {x : Span} → ExpectedTold D₁ D₂ r v_r k v_s q → v_s ≡ Ok x → TermTold p L T N D N₁ D₂ c (Ok x) q
@@ -235,23 +258,17 @@ module _ {L T N D N₁ D₁ : List ℕ} {c : Counters} (room : ℕ) {i n d : ℕ
     unfolding negated
     unary_fails = fails_behind g long (negated k) refl refl
 
-    plus_reports : {D₂ : List ℕ} {s : Span} {y : Diagnostic} {v_q : Parsed} {q : Counters} → v_r ≡ Err errors.Reported → s ≡ span_of k → y ≡ plain DiagnosticKinds.plus_is_not_a_unary_operator s no_span → DeepTold D₁ D₂ r y v_q q
-        → BehindTold (plus_term room k) L T N D N₁ D₂ c v_q q
+    plus_reports : {D₂ : List ℕ} {s : Span} {y : Diagnostic} {q : Counters} → v_r ≡ Err errors.Reported → s ≡ span_of k → y ≡ plain DiagnosticKinds.plus_is_not_a_unary_operator s no_span → Raised D₁ D₂ r y q
+        → BehindTold (plus_term room k) L T N D N₁ D₂ c (Err errors.Reported) q
     unfolding plussed size_t
-    plus_reports w sp f h = told_more g long (plussed k) reported (is_reported g w) refl refl (f ∙ ap (λ z. plain DiagnosticKinds.plus_is_not_a_unary_operator z no_span) sp) h
+    plus_reports w sp f h = told_more g long (plussed k) reported (is_reported g w) refl refl (f ∙ ap (λ z. plain DiagnosticKinds.plus_is_not_a_unary_operator z no_span) sp) refl h
 
-    plus_absents : {D₂ : List ℕ} {s : Span} {y : Diagnostic} {v_q : Parsed} {q : Counters} → v_r ≡ Err errors.Absent → s ≡ span_of k → y ≡ plain DiagnosticKinds.plus_is_not_a_unary_operator s no_span → DeepTold D₁ D₂ r y v_q q
-        → BehindTold (plus_term room k) L T N D N₁ D₂ c v_q q
+    plus_absents : {D₂ : List ℕ} {s : Span} {y : Diagnostic} {q : Counters} → v_r ≡ Err errors.Absent → s ≡ span_of k → y ≡ plain DiagnosticKinds.plus_is_not_a_unary_operator s no_span → Raised D₁ D₂ r y q
+        → BehindTold (plus_term room k) L T N D N₁ D₂ c (Err errors.Reported) q
     unfolding plussed size_t
-    plus_absents w sp f h = told_more g long (plussed k) absent (is_absent g w) refl refl (f ∙ ap (λ z. plain DiagnosticKinds.plus_is_not_a_unary_operator z no_span) sp) h
+    plus_absents w sp f h = told_more g long (plussed k) absent (is_absent g w) refl refl (f ∙ ap (λ z. plain DiagnosticKinds.plus_is_not_a_unary_operator z no_span) sp) refl h
 
-    -- it has failed or is not there
-    pub plus_fails : (e : TermError) {D₂ : List ℕ} {s : Span} {y : Diagnostic} {v_q : Parsed} {q : Counters} → v_r ≡ Err e → s ≡ span_of k → y ≡ plain DiagnosticKinds.plus_is_not_a_unary_operator s no_span → DeepTold D₁ D₂ r y v_q q
-        → BehindTold (plus_term room k) L T N D N₁ D₂ c v_q q
-    plus_fails errors.Reported w = plus_reports w
-    plus_fails errors.Absent w = plus_absents w
-
-    pub plus_reads : {D₂ : List ℕ} {s x : Span} {y : Diagnostic} {q : Counters} → v_r ≡ Ok x → s ≡ span_of k → y ≡ plain DiagnosticKinds.plus_is_not_a_unary_operator s x → Raised D₁ D₂ r y q
+    plus_reads : {D₂ : List ℕ} {s x : Span} {y : Diagnostic} {q : Counters} → v_r ≡ Ok x → s ≡ span_of k → y ≡ plain DiagnosticKinds.plus_is_not_a_unary_operator s x → Raised D₁ D₂ r y q
         → BehindTold (plus_term room k) L T N D N₁ D₂ c (Ok x) q
     unfolding plussed parsed_of
     plus_reads w sp f h =
@@ -261,6 +278,13 @@ module _ {L T N D N₁ D₁ : List ℕ} {c : Counters} (room : ℕ) {i n d : ℕ
         behind g
         (bound g.told y.1 (raised (raised_as (f ∙ ap₂ (λ a b. plain DiagnosticKinds.plus_is_not_a_unary_operator a b) sp y.2) (raised_here h)) (answered (ap Ok y.2) h.counters record { total = t.total; bytes = t.bytes })))
         (λ j b. refl) (ap (λ z. z.at) h.counters) (omega (arith, same)) (omega (arith, ap (λ z. z.diagnostics) h.counters))
+
+    -- whatever was read, the span of that or none is told beside the plus
+    pub plus_tells : {D₂ : List ℕ} {s w : Span} {y : Diagnostic} {v_q : Parsed} {q : Counters} (u : Parsed) → v_r ≡ u → ResultUnwrapsOrElse u (λ z. (z.start ≡ 0) × (z.end ≡ 0)) w → v_q ≡ result_or u (Err errors.Reported)
+        → s ≡ span_of k → y ≡ plain DiagnosticKinds.plus_is_not_a_unary_operator s w → Raised D₁ D₂ r y q → BehindTold (plus_term room k) L T N D N₁ D₂ c v_q q
+    plus_tells {s = s} (Ok x) e d v sp f h = rw v (plus_reads e sp (f ∙ ap (plain DiagnosticKinds.plus_is_not_a_unary_operator s) d) h)
+    plus_tells {s = s} (Err errors.Reported) e d v sp f h = rw v (plus_reports e sp (f ∙ ap (plain DiagnosticKinds.plus_is_not_a_unary_operator s) (blank d)) h)
+    plus_tells {s = s} (Err errors.Absent) e d v sp f h = rw v (plus_absents e sp (f ∙ ap (plain DiagnosticKinds.plus_is_not_a_unary_operator s) (blank d)) h)
 
   -- ---- an expression whose first term answers r
 

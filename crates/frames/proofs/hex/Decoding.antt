@@ -3,7 +3,7 @@
 use mathlib.Core.Path.{◌≡◌, refl, sym, ◌∙◌, ap, ap₂}
 use mathlib.Core.Bool.{Bool, true, false}
 use mathlib.Core.List.{List, [], ◌∷◌, ◌++◌, append_assoc, append-nil}
-use Prim.Native.Nat.{ℕ, zero, suc, ◌+◌, ◌*◌, ◌/◌, ◌%◌, ◌≤◌, ◌<◌}
+use Prim.Native.Nat.{ℕ, ◌+◌, ◌*◌, ◌/◌, ◌%◌, ◌≤◌, ◌<◌}
 use native.Mathlib.Numerals.{add-one}
 use native.Mathlib.Omega.{arith}
 use lib.ListN.{length, take, drop, get_or, set, drop_of_length-le}
@@ -11,7 +11,9 @@ use lib.Seq.{take-suc-set}
 use Rattle.std.proofs.lemmas.List.{length-drop, drop-drop}
 use Rattle.std.specs.Simd.{first_chunks}
 use Rattle.std.specs.Prelude.{Some, None}
+use Rattle.std.proofs.lemmas.Option.{none-some}
 use Rattle.names.specs.Choice.{pick, both}
+use Rattle.records.specs.Chunks.{chunk}
 use Rattle.frames.specs.Hex.{value, is_digit, spells, spelled}
 use Rattle.frames.specs.Inner.{digit_value, Spelled}
 use Rattle.frames.specs.Lengths.{length_spelled}
@@ -29,7 +31,7 @@ digit_no : (c : ℕ) → None ≡ digit_value c → is_digit c ≡ false
 digit_no c = go (is_digit c)
   where
     go : (b : Bool) → None ≡ pick b (Some (value c)) None → b ≡ false
-    go true e = let z : ◌≡◌ {A = ℕ} 0 1 = cc in absurd (omega arith)
+    go true e = absurd (none-some _ e)
     go false e = refl
 
 digit_yes : (c v : ℕ) → Some v ≡ digit_value c → (is_digit c ≡ true) × (v ≡ value c)
@@ -37,14 +39,9 @@ digit_yes c v = go (is_digit c)
   where
     go : (b : Bool) → Some v ≡ pick b (Some (value c)) None → (b ≡ true) × (v ≡ value c)
     go true e = (refl, cc)
-    go false e = let z : ◌≡◌ {A = ℕ} 0 1 = cc in absurd (omega arith)
+    go false e = absurd (none-some _ (sym e))
 
 -- ---- two characters
-
-chunk : (k : ℕ) (x : List ℕ) (i : ℕ) (z : List ℕ) → i < k → get_or (first_chunks 2 k x) i z ≡ take 2 (drop (2 * i) x)
-chunk zero x i z h = absurd (omega arith)
-chunk (suc k) x zero z h = refl
-chunk (suc k) x (suc i) z h = chunk k (drop 2 x) i z (omega arith) ∙ ap (take 2) (drop-drop (2 * i) 2 x) ∙ ap (λ n. take 2 (drop n x)) (omega arith)
 
 first_two : (y : List ℕ) → 2 ≤ length y → y ≡ get_or (take 2 y) 0 0 ∷ (get_or (take 2 y) 1 0 ∷ drop 2 y)
 first_two [] h = absurd (omega arith)
@@ -55,7 +52,7 @@ first_two (a ∷ (b ∷ y)) h = refl
 pub pair : (x : List ℕ) (C : List (List ℕ)) (i : ℕ) (z : List ℕ) → C ≡ first_chunks 2 (length x / 2) x → length C ≡ length x / 2 → i < length C
     → drop (2 * i) x ≡ get_or (get_or C i z) 0 0 ∷ (get_or (get_or C i z) 1 0 ∷ drop (2 * (i + 1)) x)
 pair x C i z all len on =
-    let r : get_or C i z ≡ take 2 (drop (2 * i) x) = ap (λ X. get_or X i z) all ∙ chunk (length x / 2) x i z (omega arith) in
+    let r : get_or C i z ≡ take 2 (drop (2 * i) x) = ap (λ X. get_or X i z) all ∙ chunk 2 (length x / 2) x i z (omega arith) in
     let rest : drop 2 (drop (2 * i) x) ≡ drop (2 * (i + 1)) x = drop-drop 2 (2 * i) x ∙ ap (λ n. drop n x) (omega arith) in
     rw (r, ← rest) (first_two (drop (2 * i) x) (omega (arith, length-drop (2 * i) x)))
 

@@ -1,56 +1,19 @@
 -- Digits, one byte after the other.
 -- Assumes nothing.
-use mathlib.Core.Path.{◌≡◌, refl, sym, ◌∙◌, ap, ap₂}
-use mathlib.Core.Bool.{Bool, true, false}
-use mathlib.Core.List.{List, [], ◌∷◌, ◌++◌, append_assoc, append-nil}
-use Prim.Native.Nat.{ℕ, suc, ◌+◌, ◌-◌, ◌*◌, ◌/◌, ◌%◌, ◌≤◌, ◌<◌}
-use native.Mathlib.Nat.{add-zero}
+use mathlib.Core.Path.{◌≡◌, sym, ◌∙◌, ap, ap₂}
+use mathlib.Core.List.{List, [], ◌∷◌, ◌++◌, append_assoc}
+use Prim.Native.Nat.{ℕ, suc, ◌+◌, ◌*◌, ◌/◌, ◌%◌, ◌≤◌, ◌<◌}
 use native.Mathlib.Numerals.{add-one}
 use native.Mathlib.Omega.{arith}
-use borrow.Author.Tests.{le-leb, lt-leb, leb-true, lt-ltb, le-ltb}
-use lib.Dec.{leb}
-use lib.ListN.{length, take, drop, get_or, set, length-append, length-take, take-append-drop}
+use lib.ListN.{length, take, drop, get_or, set, length-append, length-take}
 use lib.Seq.{drop-cons, set_at, append_snoc, take-suc, take-length, length-take-le}
 use Rattle.records.specs.Stores.{written}
-use Rattle.records.specs.Written.{written_fits}
-use Rattle.frames.specs.Hex.{digit, digits, value}
-use Rattle.std.specs.Prelude.{Some, None}
-use Rattle.names.specs.Choice.{pick, both}
-use Rattle.frames.specs.Inner.{digit_value, Put}
+use Rattle.records.specs.Written.{length_written, written_fits}
+use Rattle.frames.specs.Hex.{digit, digits}
+use Rattle.frames.specs.Inner.{Put}
 use Rattle.frames.specs.Lengths.{digits_append, length_digits}
 
--- ---- the value of a character
-
-outside : (a b n : ℕ) → (a ≤ n → n ≤ b → ⊥) → both (leb a n) (leb n b) ≡ false
-outside a b n h = go (leb a n) refl (leb n b) refl
-  where
-    go : (x : Bool) → leb a n ≡ x → (y : Bool) → leb n b ≡ y → both x y ≡ false
-    go false e y f = refl
-    go true e false f = refl
-    go true e true f = absurd (h (leb-true a n e) (leb-true n b f))
-
-pub value_figure : (c : ℕ) → 48 ≤ c → c ≤ 57 → c - 48 ≡ value c
-unfolding value
-value_figure c h g = rw (le-leb 48 c h, le-leb c 57 g)
-
-pub value_letter : (c : ℕ) → 97 ≤ c → c ≤ 102 → c - 87 ≡ value c
-unfolding value
-value_letter c h g = rw (le-leb 48 c (omega arith), lt-leb c 57 (omega arith), le-leb 97 c h, le-leb c 102 g)
-
-pub value_none : (c : ℕ) → (48 ≤ c → c ≤ 57 → ⊥) → (97 ≤ c → c ≤ 102 → ⊥) → 16 ≡ value c
-unfolding value
-value_none c h g = rw (outside 48 57 c h, outside 97 102 c g)
-
-pub digit_some : (c v : ℕ) → v ≡ value c → v < 16 → Some v ≡ digit_value c
-digit_some c v e h = ap Some e ∙ sym (ap (λ t. pick t (Some (value c)) None) (lt-ltb (value c) 16 (omega arith)))
-
-pub digit_none : (c : ℕ) → 16 ≡ value c → None ≡ digit_value c
-digit_none c e = sym (ap (λ t. pick t (Some (value c)) None) (le-ltb (value c) 16 (omega arith)))
-
 -- ---- bytes written one after the other
-
-pub written_none : (O : List ℕ) (at : ℕ) → at ≤ length O → O ≡ written O at []
-written_none O at h = sym (written_fits O at [] (omega arith) ∙ ap (λ l. l ++ drop (at + 0) O) (append-nil (take at O)) ∙ ap (λ n. take at O ++ drop n O) (add-zero at) ∙ take-append-drop at O)
 
 pub written_one : (O : List ℕ) (at : ℕ) (y : List ℕ) (b : ℕ) → at + length y < length O
     → set (written O at y) (at + length y) b ≡ written O at (y ++ (b ∷ []))
@@ -94,8 +57,7 @@ put_next O O' at bs i p q e h g f₁ f₂ =
     ∙ ap₂ (λ j k. written O at ((y ++ (j ∷ [])) ++ (k ∷ []))) f₁ f₂
     ∙ ap (written O at) (digits_next bs i h)
 
-pub put_all : (O O' : List ℕ) (at : ℕ) (bs : List ℕ) (i : ℕ) → O' ≡ written O at (digits (take i bs)) → i ≡ length bs → Put O O' at (digits bs) (at + 2 * length bs)
-put_all O O' at bs i e h = record {
-  next = omega (arith, length_digits bs);
-  out = e ∙ ap (λ n. written O at (digits (take n bs))) h ∙ ap (λ l. written O at (digits l)) (take-length bs);
-}
+pub put_all : (O O' : List ℕ) (at : ℕ) (bs : List ℕ) (i : ℕ) → O' ≡ written O at (digits (take i bs)) → i ≡ length bs → at + 2 * length bs ≤ length O → Put O O' at (digits bs) (at + 2 * length bs)
+put_all O O' at bs i e h g =
+    let all = e ∙ ap (λ n. written O at (digits (take n bs))) h ∙ ap (λ l. written O at (digits l)) (take-length bs) in
+    record { next = omega (arith, length_digits bs); kept = ap length all ∙ length_written O at (digits bs) (omega (arith, length_digits bs)); out = all }

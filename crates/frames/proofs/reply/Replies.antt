@@ -26,10 +26,13 @@ use Rattle.std.specs.Bool.{then_some}
 use Rattle.std.specs.Option.{ok_or}
 use Rattle.operand.specs.declared.refusals.Refusal.{Refusal}
 use Rattle.layout.specs.declared.answer.Answer.{Answer}
+use Rattle.frames.specs.declared.output.Output.{Output}
+use Rattle.std.proofs.Common.{subst}
+use Rattle.frames.specs.Hex.{spells}
 use Rattle.frames.specs.Frame.{diagnostic_bytes, max_nesting_depth, max_nesting_depth_lem, line_length, token_count, frame_length, is_frame, input_of, lent}
 use Rattle.frames.specs.Reply.{refused, bytes_at, input_bytes, frame_bytes, line_bytes}
 use Rattle.frames.specs.Lent.{lent_same}
-use Rattle.frames.specs.Inner.{case_of, record_bytes, answer_bytes, AnswerAsks, AnswerTold, ReadTold, ReadAsks, FramedAs}
+use Rattle.frames.specs.Inner.{DecodedAs, Spelled, case_of, record_bytes, answer_bytes, AnswerAsks, AnswerTold, ReadTold, ReadAsks, FramedAs}
 
 -- ---- of a call that keeps the entry's promise
 
@@ -148,19 +151,31 @@ module _ (w : Layout) (x B N D N' D' : List ℕ) (is : frame_bytes w B ≡ line_
   read_told (Err k) p = refused_bytes (lent w B N D) refl N' D' k p ∙ same_bytes
 
 -- what the answer of a line asks to be put
-pub put_asks : (w : Layout) (x N D O : List ℕ) (at : ℕ) (a : Answer) → AnswerTold w x N D a → length N ≡ node_store w → length D ≡ diagnostic_bytes w → at + 102408 ≤ length O → AnswerAsks w O at a N D
-put_asks w x N D O at a t n d room = record { room = room; nodes_few = t.nodes_few; nodes_long = n; diagnostics_few = t.diagnostics_few; diagnostics_long = d }
+pub put_asks : (w : Layout) (x N D : List ℕ) (o : Output) (a : Answer) → AnswerTold w x N D a → length N ≡ node_store w → length D ≡ diagnostic_bytes w → o.filled + 102408 ≤ length o.bytes.now → AnswerAsks w o a N D
+put_asks w x N D o a t n d room = record { room = room; nodes_few = t.nodes_few; nodes_long = n; diagnostics_few = t.diagnostics_few; diagnostics_long = d }
 
 -- a line that spells no frame
 pub told_bad : (w : Layout) (x N D : List ℕ) (r : Result Answer Refusal) → r ≡ Err Refusal.BadFrame → refused RefusalNumbers.bad_frame ≡ line_bytes w x → ReadTold w x N D r
 unfolding ReadTold
 told_bad w x N D r e f = rw e f
 
--- what an option of `?` was, from the result that it was made
-pub some_of : {A E : Type 0} (o : Option A) (d : E) (x : A) → ok_or o d ≡ Ok x → o ≡ Some x
-some_of (Some y) d x e = cc
-some_of None d x e = absurd cc
+-- what is told of the option that `ok_or` made a result of, where `?` goes on, and where it returns
+pub spelled_by : {E : Type 0} {r : Result ℕ E} {x S : List ℕ} {n : ℕ} (o : Option ℕ) (d : E) → DecodedAs x S o → r ≡ ok_or o d → r ≡ Ok n → Spelled x S n
+unfolding DecodedAs
+spelled_by {x = x} {S = S} (Some m) d told e f = let k : m ≡ _ = cc in subst (Spelled x S) k told
+spelled_by None d told e f = absurd cc
 
-pub none_of : {A E : Type 0} (o : Option A) (d y : E) → ok_or o d ≡ Err y → (o ≡ None) × (y ≡ d)
-none_of (Some x) d y e = absurd cc
-none_of None d y e = (refl, cc)
+pub unspelled_by : {E : Type 0} {y : E} {r : Result ℕ E} (x S : List ℕ) (o : Option ℕ) (d : E) → DecodedAs x S o → r ≡ ok_or o d → r ≡ Err y → (spells x ≡ false) × (y ≡ d)
+unfolding DecodedAs
+unspelled_by x S (Some m) d told e f = absurd cc
+unspelled_by x S None d told e f = (told, cc)
+
+pub framed_by : {E : Type 0} {r : Result ℕ E} {w : Layout} {B : List ℕ} {n : ℕ} (o : Option ℕ) (d : E) → FramedAs w B o → r ≡ ok_or o d → r ≡ Ok n → ReadAsks w B n
+unfolding FramedAs
+framed_by {w = w} {B = B} (Some m) d told e f = let k : m ≡ _ = cc in subst (ReadAsks w B) k told
+framed_by None d told e f = absurd cc
+
+pub unframed_by : {E : Type 0} {y : E} {r : Result ℕ E} (w : Layout) (B : List ℕ) (o : Option ℕ) (d : E) → FramedAs w B o → r ≡ ok_or o d → r ≡ Err y → (length B ≡ frame_length w B → ⊥) × (y ≡ d)
+unfolding FramedAs
+unframed_by w B (Some m) d told e f = absurd cc
+unframed_by w B None d told e f = (told, cc)

@@ -1,6 +1,7 @@
 -- A record as a chunk of ten numbers.
 -- Assumes nothing.
-use Rattle.std.proofs.Common.{◌≡◌, refl, ◌∙◌, ap, List, ℕ, ◌+◌, ◌*◌, ◌/◌, ◌<◌, ◌≤◌, length, get_or, get_or-take, take, arith}
+use Rattle.std.proofs.Common.{◌≡◌, refl, ◌∙◌, ap, List, ℕ, ◌+◌, ◌-◌, ◌*◌, ◌/◌, ◌<◌, ◌≤◌, length, get_or, get_or-take, take, arith}
+use Rattle.std.specs.List.{slice_range}
 use Rattle.std.specs.Simd.{first_chunks}
 use Rattle.records.specs.Chunks as Chunks
 use Rattle.records.specs.Stores.{written}
@@ -9,9 +10,9 @@ use Rattle.operand.specs.Layout.{node_from}
 use Rattle.layout.specs.Diagnostics.{diagnostic_from}
 
 -- r is the i-th of the first n chunks
-module _ (M : List ℕ) (C : List (List ℕ)) (n i : ℕ) (r x : List ℕ) (all : C ≡ first_chunks 10 (length M / 10) M) (len : length C ≡ length M / 10) (at : r ≡ get_or (take n C) i x) (h : i < n) (room : n ≤ length C) where
+module _ (M : List ℕ) (C : List (List ℕ)) (n i : ℕ) (r x : List ℕ) (all : C ≡ first_chunks 10 (length M / 10) M) (len : length C ≡ length M / 10) (at : r ≡ get_or (slice_range C 0 n) i x) (h : i < n) (room : n ≤ length C) where
   whole : r ≡ get_or C i x
-  whole = at ∙ get_or-take n C i x h
+  whole = let z : n - 0 ≡ n = omega arith in at ∙ ap (λ k. get_or (take k C) i x) z ∙ get_or-take n C i x h
 
   number : (j : ℕ) → j < 10 → get_or r j 0 ≡ get_or M (10 * i + j) 0
   number j g = ap (λ l. get_or l j 0) whole ∙ Chunks.number 10 (length M / 10) M C all i x (omega arith) j g

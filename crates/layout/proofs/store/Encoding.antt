@@ -1,23 +1,22 @@
 -- Records written one behind the other.
 -- Assumes nothing.
 use mathlib.Core.Path.{◌≡◌, refl, sym, ◌∙◌, ap, ap₂}
-use mathlib.Core.Bool.{Bool, true, false}
-use mathlib.Core.List.{List, [], ◌++◌, append_assoc, append-nil}
+use mathlib.Core.List.{List, ◌++◌, append_assoc, append-nil}
 use Prim.Native.Nat.{ℕ, suc, ◌+◌, ◌-◌, ◌*◌, ◌/◌, ◌≤◌, ◌<◌}
 use native.Mathlib.Nat.{mul-suc, mul-add, mul-le-mul_left}
 use native.Mathlib.Omega.{arith}
 use native.Mathlib.Numerals.{add-one}
-use borrow.Author.Tests.{leb-true, leb-false, le-leb, lt-leb}
-use lib.Dec.{leb}
-use lib.ListN.{length, take, drop, drop_of_length-le, replicate, length-append, length-take, length-drop, length-replicate, take-append-drop, replicate-append-replicate}
+use borrow.Author.Tests.{le-leb, lt-leb}
+use lib.ListN.{length, take, drop, drop_of_length-le, replicate, length-append, length-take, length-drop, length-replicate, replicate-append-replicate}
 use lib.Seq.{drop_at}
 use Rattle.records.specs.Nodes.{low_first}
 use Rattle.records.specs.Stores.{written, cleared}
-use Rattle.records.specs.Written.{written_fits, written_more, written_not, cleared_fits}
+use Rattle.records.specs.Written.{written_fits, written_nothing, written_on, written_not, cleared_fits}
 use Rattle.operand.specs.declared.layouts.Layout.{Layout}
 use Rattle.operand.specs.Layouts.{number, node_size, diagnostic_size, most_tokens, node_store, nodes_within, records_within, records_past}
 use Rattle.operand.specs.Layout.{records_laid, node_from, node_bytes}
 use Rattle.operand.specs.Lengths.{length_records, length_node_bytes}
+use Rattle.names.specs.Laws.{both_false}
 use Rattle.layout.specs.Nodes.{head_from, last_from, nodes_encoded}
 use Rattle.layout.specs.Diagnostics.{diagnostic_from, diagnostics_encoded}
 
@@ -30,37 +29,23 @@ place_within k i n h = omega (arith, mul-le-mul_left {m = suc i} {n = n} k h, mu
 module _ (f : List ℕ → ℕ → List ℕ) (k : ℕ) (M : List ℕ) (long : (p : ℕ) → length (f M p) ≡ k) (N : List ℕ) (from : ℕ) where
   pub records_none : N ≡ written N from (records_laid f M 0)
   unfolding records_laid
-  records_none = go (leb from (length N)) refl
-    where
-      go : (b : Bool) → leb from (length N) ≡ b → N ≡ written N from []
-      go true q =
-          let h : from ≤ length N = leb-true from (length N) q in
-          let z : from + 0 ≡ from = omega arith in
-          sym (written_fits N from [] (omega arith) ∙ ap₂ (λ x y. x ++ drop y N) (append-nil (take from N)) z ∙ take-append-drop from N)
-      go false q = sym (written_not N from [] (omega (arith, leb-false from (length N) q)))
+  records_none = sym (written_nothing N from)
 
   pub records_on : (N₁ N₂ : List ℕ) (i at : ℕ) → at ≡ from + k * i → at + k ≤ length N → N₁ ≡ written N from (records_laid f M i) → N₂ ≡ written N₁ at (f M (10 * i))
       → N₂ ≡ written N from (records_laid f M (i + 1))
   unfolding records_laid
   records_on N₁ N₂ i at place h e g =
       let l = length_records f k M long i in
-      let j : at ≡ from + length (records_laid f M i) = omega (arith, l) in
-      g ∙ ap₂ (λ n p. written n p (f M (10 * i))) e j
-      ∙ written_more N from (records_laid f M i) (f M (10 * i)) (omega (arith, l, long (10 * i)))
+      written_on N N₁ N₂ from at (records_laid f M i) (f M (10 * i)) e (omega (arith, l)) g (omega (arith, l, long (10 * i)))
       ∙ ap (λ n. written N from (records_laid f M n)) (sym (add-one i))
 
 -- ---- a node
 
-node_parts : (w : Layout) (M : List ℕ) (p : ℕ)
+pub node_parts : (w : Layout) (M : List ℕ) (p : ℕ)
     → head_from w M p ++ last_from w M p ≡ node_from w M p
 unfolding node_from number low_first
 node_parts Layout.Narrow M p = refl
 node_parts Layout.Wide M p = refl
-
-pub node_written : (w v : Layout) (M : List ℕ) (p at : ℕ) (N N' h r : List ℕ) → w ≡ v → N' ≡ written N at (h ++ r) → h ≡ head_from v M p
-    → r ≡ last_from w M p → N' ≡ written N at (node_from w M p)
-node_written w v M p at N N' h r is e f g =
-    e ∙ ap₂ (λ x y. written N at (x ++ y)) (f ∙ ap (λ l. head_from l M p) (sym is)) g ∙ ap (written N at) (node_parts w M p)
 
 -- ---- all nodes
 
@@ -82,9 +67,7 @@ cleared_on N N₁ N₂ f a b low l h e g =
     let long : length N₁ ≡ length N = cleared_long N N₁ f a low (omega arith) e in
     let from : a ≡ f + length x = omega (arith, length-replicate {A = ℕ} (a - f) 0) in
     let all : a - f + (b - a) ≡ b - f = omega arith in
-    g ∙ zeros_written N₁ a b l (omega arith)
-    ∙ ap₂ (λ n j. written n j y) first from
-    ∙ written_more N f x y (omega (arith, length-replicate {A = ℕ} (a - f) 0, length-replicate {A = ℕ} (b - a) 0))
+    written_on N N₁ N₂ f a x y first from (g ∙ zeros_written N₁ a b l (omega arith)) (omega (arith, length-replicate {A = ℕ} (a - f) 0, length-replicate {A = ℕ} (b - a) 0))
     ∙ ap (written N f) (replicate-append-replicate (a - f) (b - a) 0 ∙ ap (λ k. replicate k 0) all)
     ∙ sym (zeros_written N f b (omega arith) h)
 
@@ -129,9 +112,9 @@ module _ (w : Layout) (M N : List ℕ) where
   unfolding nodes_encoded
   nodes_many n h = rw (lt-leb n (most_tokens w) h)
 
-  pub nodes_missing : (n : ℕ) → n ≤ most_tokens w → length M < 10 * n → N ≡ nodes_encoded w M n N
+  pub nodes_missing : (n : ℕ) → length M < 10 * n → N ≡ nodes_encoded w M n N
   unfolding nodes_encoded
-  nodes_missing n h g = rw (le-leb n (most_tokens w) h, lt-leb (10 * n) (length M) g)
+  nodes_missing n h = rw (lt-leb (10 * n) (length M) h, both_false)
 
   pub nodes_short : (n : ℕ) → n ≤ most_tokens w → 10 * n ≤ length M → length N < node_store w → N ≡ nodes_encoded w M n N
   unfolding nodes_encoded
@@ -159,8 +142,8 @@ module _ (w : Layout) (M : List ℕ) (n : ℕ) (D : List ℕ) (used : ℕ) where
   diagnostics_missing h = rw (lt-leb (10 * n) (length M) h)
 
   -- the used records and the added ones
-  pub records_together : (r : ℕ) → r ≡ length D / diagnostic_size w → n ≤ r → used ≤ r - n → diagnostic_size w * used + diagnostic_size w * n ≤ length D
-  records_together r e h g = omega (arith, records_within w (used + n) (length D) (omega arith), mul-add (diagnostic_size w) used n)
+  pub records_together : (r : ℕ) → r ≡ length D / diagnostic_size w → used + n ≤ r → diagnostic_size w * used + diagnostic_size w * n ≤ length D
+  records_together r e h = omega (arith, records_within w (used + n) (length D) (omega arith), mul-add (diagnostic_size w) used n)
 
   module _ (h : 10 * n ≤ length M) where
     pub diagnostics_short : (r : ℕ) → r ≡ length D / diagnostic_size w → r < used + n → D ≡ diagnostics_encoded w M n D used

@@ -16,7 +16,8 @@ use Rattle.names.specs.Letters.{bytes, lower, lowered, same, spelled}
 use Rattle.names.specs.Registers.{pair, first_of_bank, register, register_of, program_counter, suppressing, suppressed, suppressed_of}
 use Rattle.names.specs.Sizes.{letter_size, size_of}
 use Rattle.names.specs.declared.registers.Suppressed.TheVariants.{ProgramCounter}
-use Rattle.names.proofs.tokens.Lists.{rest, rest_is}
+use Rattle.names.proofs.tokens.Lists.{rest}
+use Rattle.std.proofs.lemmas.List.{take_rest}
 use Rattle.names.proofs.letters.Spelling.{lowered_letters, lower_rises}
 
 pub register_not : (n : List ℕ) → (length n ≡ 2 → ⊥) → register_of n ≡ None
@@ -99,4 +100,4 @@ pub suppressed_some : (n : List ℕ) → 1 ≤ length n
     ≡ pick (eqb (lower (get_or n 0 0)) 122) (pick (program_counter (rest n)) (Some ProgramCounter) (suppressing (register_of (rest n)))) None
 unfolding suppressed_of suppressed lowered program_counter spelled register_of
 suppressed_some [] h = absurd (omega arith)
-suppressed_some (c ∷ cs) h = rw (rest_is (c ∷ cs))
+suppressed_some (c ∷ cs) h = rw (take_rest (c ∷ cs) 1)

@@ -4,7 +4,6 @@ use mathlib.Core.Path.{◌≡◌, refl, sym, ◌∙◌, ap}
 use mathlib.Core.Bool.{Bool, true, false}
 use mathlib.Core.List.{List, [], ◌∷◌}
 use Rattle.std.specs.Prelude.{Some, None}
-use Rattle.std.specs.Bool.{then_some}
 use Rattle.names.specs.Choice.{pick, either}
 use Prim.Native.Nat.{ℕ, ◌<◌}
 use native.Mathlib.Omega.{arith}
@@ -16,10 +15,6 @@ use Rattle.names.specs.declared.registers.SpecialRegister.TheVariants.{Cacr, Caa
 use Rattle.names.specs.Reserved.{is_register, is_special, reserved_rule}
 use Rattle.names.proofs.letters.Spelling.{spelled_differ, letters, lowered_letters}
 use Rattle.names.proofs.registers.Pairs.{register_not}
-
-pub then_some_pick : {A : Type 0} (b : Bool) (x : A) → then_some b x ≡ pick b (Some x) None
-then_some_pick true x = refl
-then_some_pick false x = refl
 
 pub special_letters : (n : List ℕ) (k : ℕ) → length n ≡ k → special_of n ≡ named special_registers (letters 0 k n)
 unfolding special_of

@@ -3,20 +3,18 @@
 use mathlib.Core.Path.{◌≡◌, refl, sym, ◌∙◌, ap}
 use mathlib.Core.Bool.{true, false}
 use mathlib.Core.List.{List, append-nil}
-use Prim.Native.Nat.{ℕ}
+use Prim.Native.Nat.{ℕ, ◌<◌}
 use native.Mathlib.Omega.{arith}
 use Rattle.names.specs.Kinds
 use Rattle.names.specs.Choice.{pick}
-use Rattle.names.specs.Tokens.{token_at}
 use Rattle.names.specs.declared.tokens.Token.{Token}
 use Rattle.records.specs.Problems
 use Rattle.records.specs.Shapes
 use Rattle.records.specs.Diagnostics.{malformed_operand, malformed_open}
 use Rattle.records.specs.Spans.{span, span_of, no_span}
 use Rattle.expressions.specs.Trees.{Expr}
-use Rattle.records.specs.Counters.{stepped}
 use Rattle.expressions.proofs.Costs.{true_false}
-use Rattle.expressions.specs.Reader.{of_kind, Reader, answer}
+use Rattle.expressions.specs.Reader.{Reader, answer}
 use Rattle.records.specs.declared.spans.Span.{Span}
 use Rattle.records.specs.declared.counters.Counters.{Counters}
 use Rattle.expressions.specs.declared.reading.Setting.{Setting}
@@ -26,8 +24,7 @@ use Rattle.operand.specs.Operands as O
 use Rattle.operand.specs.Operand.{base_shape, indexed_operand, closed_base, closed_counter, unclosed, not_an_address_register}
 use Rattle.operand.specs.Forms.{sized_of, form_of, record_of}
 use Rattle.operand.specs.Records.{size_d, nodes_d, size_o, nodes_o}
-use Rattle.operand_code.specs.Lookahead.{is_base}
-use Rattle.expressions.specs.Told.{Raised, Told}
+use Rattle.expressions.specs.Told.{Raised, Told, NextTold}
 use Rattle.operand_code.specs.Operands.{HeldBy, Kept, Unsized, Plain}
 use Rattle.operand.specs.declared.forms.Register.{Register}
 use Rattle.operand.specs.declared.forms.IndexRegister.{IndexRegister}
@@ -35,7 +32,7 @@ use Rattle.operand.specs.declared.forms.BaseRegister.{BaseRegister}
 use Rattle.operand.specs.declared.forms.Sized.{Sized}
 use Rattle.operand.specs.declared.forms.Registers.{Registers}
 use Rattle.operand.specs.declared.forms.OperandRecord.{OperandRecord}
-use Rattle.expressions.specs.Paths.{renamed, reheld, raised_as, answered, hit_kind, miss_kind, raised_same}
+use Rattle.expressions.specs.Paths.{renamed, reheld, raised_as, answered, hit_next, miss_next, raised_same}
 use Rattle.operand_code.proofs.malformed.Failures.{failed_malformed, failed_unclosed, failed_register}
 use Rattle.std.specs.Prelude.{Option, Some, None, is_some, option_map}
 
@@ -95,19 +92,20 @@ module _ {L T D : List ℕ} {c : Counters} {n : ℕ} {u : OperandRecord} {d : Op
   base_displaced (displaced e m) h z i k g w = operand_told (O.displacement e q (span t₀.start close.end)) (displaced e m) (refl, refl) (w ∙ rw (g, sym h, z)) k refl refl
   base_displaced undisplaced h z i k g w = absurd (not_displaced h i)
 
-  pub base_indirect : (y : Displacement) → sized_of 0 y ≡ d → is_some d ≡ false → c.nodes ≡ n → s ≡ span t₀.start close.end → u ≡ form_of FormNumbers.indirect s d (BaseRegister.Address q) None → of_kind Kinds.plus (token_at T c.at) ≡ None
-      → Told (option_map record_of) (Kept n y) (closed_base t₀ q y close) L T D D c (Some u) c
+  pub base_indirect : (y : Displacement) → sized_of 0 y ≡ d → is_some d ≡ false → c.nodes ≡ n → s ≡ span t₀.start close.end → u ≡ form_of FormNumbers.indirect s d (BaseRegister.Address q) None
+      → {o : Option Token} {c₁ : Counters} → NextTold T Kinds.plus c o c₁ → o ≡ None
+      → Told (option_map record_of) (Kept n y) (closed_base t₀ q y close) L T D D c (Some u) c₁
   unfolding closed_base record_of size_o nodes_o nodes_d size_d sized_of
-  base_indirect (displaced e m) h i k g w f = absurd (not_undisplaced e m h i)
-  base_indirect undisplaced h i k g w f = miss_kind Kinds.plus f (operand_told (O.indirect q (span t₀.start close.end)) undisplaced (refl, refl) (w ∙ rw (g, sym h)) k refl refl)
+  base_indirect (displaced e m) h i k g w f p = absurd (not_undisplaced e m h i)
+  base_indirect undisplaced h i k g w f p = miss_next f p (operand_told (O.indirect q (span t₀.start close.end)) undisplaced (refl, refl) (w ∙ rw (g, sym h)) (f.nodes ∙ k) refl refl)
 
   pub base_postincrement : (y : Displacement) {t : Token} {c₁ : Counters} → sized_of 0 y ≡ d → is_some d ≡ false → c₁.nodes ≡ n → s ≡ span t₀.start t.end → u ≡ form_of FormNumbers.postincrement s d (BaseRegister.Address q) None
-      → of_kind Kinds.plus (token_at T c₁.at) ≡ Some t → c ≡ stepped c₁ t
+      → {o : Option Token} → NextTold T Kinds.plus c₁ o c → o ≡ Some t → c₁.at < 65535
       → Told (option_map record_of) (Kept n y) (closed_base t₀ q y close) L T D D c₁ (Some u) c
   unfolding closed_base record_of size_o nodes_o nodes_d size_d sized_of
-  base_postincrement (displaced e m) h i k g w f p = absurd (not_undisplaced e m h i)
-  base_postincrement undisplaced {t} h i k g w f p =
-      hit_kind Kinds.plus f p (operand_told (O.postincrement q (span t₀.start t.end)) undisplaced (refl, refl) (w ∙ rw (g, sym h)) (ap (λ z. z.nodes) p ∙ k) refl refl)
+  base_postincrement (displaced e m) h i k g w f p l = absurd (not_undisplaced e m h i)
+  base_postincrement undisplaced {t} h i k g w f p l =
+      hit_next f p l (operand_told (O.postincrement q (span t₀.start t.end)) undisplaced (refl, refl) (w ∙ rw (g, sym h)) (f.nodes ∙ k) refl refl)
 
 -- ---- the program counter alone
 
@@ -146,21 +144,3 @@ pub register_told : {L T D D' : List ℕ} {c m : Counters} {n sh shape : ℕ} (s
     → Told (option_map record_of) (Kept n y) (not_an_address_register s shape k) L T D D' c None m
 unfolding HeldBy
 register_told {c = c} s k y q e h = failed_register s _ k (raised_as (ap (λ w. malformed_operand w Problems.not_an_address_register (span s.start c.end) (span_of k)) e) h) refl refl (raised_same h ∙ q, tt)
-
--- a register as the code has it
-pub register_at_base : {n : ℕ} {s z : Span} {q : Register} → s ≡ z → q ≡ record { index = n; span = z } → ◌≡◌ {A = Register} (record { index = n; span = s }) q
-register_at_base {n} e h = ap (λ w. record { index = n; span = w }) e ∙ sym h
-
--- ---- the base of a full index
-
-pub some_base : (b : BaseRegister) → is_base b ≡ true → b ≡ BaseRegister.Omitted → ⊥
-unfolding is_base
-some_base b h e = true_false (sym h ∙ ap is_base e)
-
-pub no_base_lem : (b : BaseRegister) → is_base b ≡ false → b ≡ BaseRegister.Omitted
-unfolding is_base
-no_base_lem (BaseRegister.Address r) h = absurd (true_false h)
-no_base_lem BaseRegister.ProgramCounter h = absurd (true_false h)
-no_base_lem (BaseRegister.SuppressedAddress n) h = absurd (true_false h)
-no_base_lem BaseRegister.SuppressedProgramCounter h = absurd (true_false h)
-no_base_lem BaseRegister.Omitted h = refl

@@ -114,13 +114,6 @@ module _ (L : List ℕ) {T N D N' D' : List ℕ} {c : Counters} (limit : ℕ) {v
 -- ---- a tree that goes on from a group
 
 module _ (L : List ℕ) {T N D N' D' : List ℕ} {c : Counters} (group : Span) (limit : ℕ) {v : Span} {r : Counters} (h : NodeRoom T N c 1 0 1) (p : FromFits L T N D N' D' c group limit v r) where
-  pub from_room : length N' ≡ length N → NodeRoom T N' r 1 0 1
-  from_room n = record {
-    room = record { few = h.room.few; within = p.within; stand = p.some; seen_fit = omega (arith, h.room.seen_fit, p.quiet) };
-    nodes_fit = omega (arith, p.few, h.nodes_fit);
-    nodes_long = omega (arith, p.few, h.nodes_long);
-  }
-
   module _ {P : List ℕ} {b : ℕ} {e : Expr} (st : Stands N c.nodes P b e) where
     abbrev on : Expr
     on = (run (expression_from limit (with_span e group)) (place L T) c.at c.end).value

@@ -1,6 +1,9 @@
 -- What the returns of the suffixes, the scales and the index registers show: each follows its reader.
 -- Assumes nothing.
-use mathlib.Core.Path.{◌≡◌, refl, sym, ◌∙◌, ap}
+use mathlib.Core.Path.{◌≡◌, refl, sym, ◌∙◌, ap, ap₂}
+use mathlib.Core.Logic.{inl, inr}
+use Rattle.std.specs.Prelude.{◌⊎◌}
+use Rattle.std.proofs.lemmas.Option.{none-some}
 use mathlib.Core.Bool.{Bool, true, false}
 use mathlib.Core.List.{List}
 use Prim.Native.Nat.{ℕ, ◌<◌, ◌≤◌}
@@ -16,35 +19,32 @@ use Rattle.records.specs.Counters.{stepped}
 use Rattle.names.specs.Cases.{size_number}
 use Rattle.names.specs.Sizes.{run_of, size_of}
 use Rattle.names.specs.Numbers.{number_of}
-use Rattle.names.specs.declared.numbers.NumberError.{NumberError}
 use Rattle.names.specs.declared.sizes.SizeSuffix.{SizeSuffix}
 use Rattle.names.specs.declared.tokens.Token.{Token}
 use Rattle.records.specs.Spans.{span, span_of}
-use Rattle.records.specs.Diagnostics.{plain, run_start, number_too_large}
-use Rattle.expressions.specs.Expressions.{Suffix, suffixed, bare, known, suffix_run, take_size_suffix, valued}
+use Rattle.records.specs.Diagnostics.{plain, run_start}
+use Rattle.expressions.specs.Expressions.{Suffix, suffixed, bare, known, suffix_run, take_size_suffix}
 use Rattle.expressions.specs.declared.reading.Setting.{Setting}
-use Rattle.expressions.specs.Reader.{Reader, of_kind, is, raise, answer, bump}
+use Rattle.expressions.specs.Reader.{raise, answer}
 use Rattle.records.specs.declared.spans.Span.{Span}
 use Rattle.records.specs.declared.diagnostics.Diagnostic.{Diagnostic}
 use Rattle.records.specs.declared.counters.Counters.{Counters}
 use Rattle.operand.specs.Forms.{suffix_read}
-use Rattle.operand.specs.Operand.{scale_of, scaled, scale_value, index_scale, index_size}
+use Rattle.records.specs.Problems
+use Rattle.operand.specs.Operand.{scale_of, scaled, scale_value, index_scale, index_size, index_register, parse_index_register, stepped_over}
 use Rattle.operand.specs.declared.forms.Register.{Register}
 use Rattle.operand.specs.declared.forms.IndexRegister.{IndexRegister}
+use Rattle.names.specs.Laws.{true_false}
 use Rattle.names.specs.Choice.{either}
 use Rattle.expressions.specs.Told.{Raised, Told, Same}
-use Rattle.operand_code.specs.Lookahead.{sized_index}
-use Rattle.expressions.specs.Paths.{answered, raised, raised_as, raised_same, chosen, unchosen, hit_same, kind_token, bound_as, same}
-use Rattle.std.specs.Prelude.{None, Ok, Err, Option, Some}
+use Rattle.expressions_code.specs.Numbers.{ValueTold, value_told}
+use Rattle.operand_code.specs.Lookahead.{suppressed_or, index_at, NextBy, hits, misses, ends}
+use Rattle.operand_code.specs.Told.{size_or_none}
+use Rattle.operand_code.proofs.lookahead.Names.{is_a_register, no_register, register_is, suppressed_hit, suppressed_miss, suppressed_no_register, suppressed_as}
+use Rattle.operand_code.proofs.Next.{Found}
+use Rattle.expressions.specs.Paths.{answered, raised, raised_as, chosen, unchosen, hit_same, miss, done, hereby, renamed, bound_as, same}
+use Rattle.std.specs.Prelude.{None, Option, Some}
 use Rattle.operand.specs.declared.forms.Suffixed.{Suffixed}
-
--- ---- a token is stepped over
-
--- one of a kind, and no node is written
-pub hit_kind_same : {A E : Type 0} {f : A → E} {L T D D' : List ℕ} {c : Counters} {v : E} {r : Counters} (kind : ℕ) {y : Token → List ℕ → Reader A} {n : Unit {0} → Reader A} {k : Token} {c₁ : Counters}
-    → of_kind kind (token_at T c.at) ≡ Some k → c₁ ≡ stepped c k
-    → Told f (Same c₁.nodes) (y k (text_of L k.start k.end)) L T D D' c₁ v r → Told f (Same c.nodes) (bump (is kind) y n) L T D D' c v r
-hit_kind_same kind h e g = let t = kind_token kind _ h in hit_same t.0 t.1 e g
 
 -- ---- a size suffix
 
@@ -85,28 +85,12 @@ scale_small v h = first (eqb v 1) refl (eqb v 2) refl (eqb v 4) refl (eqb v 8) r
     first false p true q c r d s h = omega (arith, eqb-true v 2 q)
     first false p false q true r d s h = omega (arith, eqb-true v 4 r)
     first false p false q false r true s h = omega (arith, eqb-true v 8 s)
-    first false p false q false r false s h = let z : ◌≡◌ {A = ℕ} 0 1 = cc in absurd (omega arith)
-
--- a number's value, 0 where it has none
-
-module _ (t : Token) (x L T D : List ℕ) (c : Counters) where
-  pub value_known : {v : ℕ} → number_of t.detail x ≡ Ok v → Told (λ z. z) (Same c.nodes) (valued t (number_of t.detail x)) L T D D c v c
-  unfolding valued
-  value_known e = rw e (answered refl refl refl)
-
-  pub value_invalid : number_of t.detail x ≡ Err NumberError.Invalid → Told (λ z. z) (Same c.nodes) (valued t (number_of t.detail x)) L T D D c 0 c
-  unfolding valued
-  value_invalid e = rw e (answered refl refl refl)
-
-  pub value_large : {D' : List ℕ} {y : Diagnostic} {m : Counters} → number_of t.detail x ≡ Err NumberError.TooLarge → y ≡ number_too_large (span_of t) → Raised D D' c y m
-      → Told (λ z. z) (Same c.nodes) (valued t (number_of t.detail x)) L T D D' c 0 m
-  unfolding valued
-  value_large e w h = rw e (raised (raised_as w h) (answered refl refl (raised_same h)))
+    first false p false q false r false s h = absurd (true_false (sym h))
 
 -- a scale behind its value
-pub value_scaled : (s : Setting) (shape : ℕ) (i : IndexRegister) (t : Token) (x : List ℕ) {L T D D₁ D₂ : List ℕ} {c c₁ : Counters} {n : ℕ} {v : Option IndexRegister} {r : Counters} → Told (λ z. z) (Same c₁.nodes) (scaled s shape i t n) L T D₁ D₂ c₁ v r
-    → Told (λ z. z) (Same c.nodes) (valued t (number_of t.detail x)) L T D D₁ c n c₁ → Told (λ z. z) (Same c.nodes) (scale_value s shape i t x) L T D D₂ c v r
-value_scaled s shape i t x k h = bound_as h (same h.held k)
+pub value_scaled : (s : Setting) (shape : ℕ) (i : IndexRegister) (t : Token) (x : List ℕ) {L T D D₁ D₂ : List ℕ} {c c₁ : Counters} {n : ℕ} {v : Option IndexRegister} {r : Counters} → c.diagnostics < 65535
+    → ValueTold D D₁ c t (number_of t.detail x) n c₁ → Told (λ z. z) (Same c₁.nodes) (scaled s shape i t n) L T D₁ D₂ c₁ v r → Told (λ z. z) (Same c.nodes) (scale_value s shape i t x) L T D D₂ c v r
+value_scaled s shape i t x room h k = let w = value_told (number_of t.detail x) room h in bound_as w (same w.held k)
 
 -- behind the token of a suffix
 pub suffix_taken : (from : ℕ) {L T D D' : List ℕ} {c c₁ : Counters} {v : Option Suffixed} {r : Counters} {k : Token} → token_at T c.at ≡ Some k → k.kind ≡ Kinds.size_suffix → c₁ ≡ stepped c k
@@ -114,8 +98,42 @@ pub suffix_taken : (from : ℕ) {L T D D' : List ℕ} {c c₁ : Counters} {v : O
 unfolding take_size_suffix
 suffix_taken from h e step g = hit_same h (eq-eqb _ Kinds.size_suffix e) step g
 
--- an index with its suffix, as the code has it
-pub index_sized : (s : Setting) (shape : ℕ) (q : Register) (b : Bool) (z : Suffix) → index_scale s shape (sized_index q b (suffix_read z)) ≡ index_size s shape q b z
-unfolding index_size sized_index suffix_read
-index_sized s shape q b (suffixed n t) = refl
-index_sized s shape q b bare = refl
+-- an index with its size, as the code has it
+pub index_sized : (s : Setting) (shape : ℕ) (q : Register) (b : Bool) (z : Suffix) {x : Suffixed} → x ≡ size_or_none q.span (suffix_read z)
+    → index_scale s shape (record { register = q; size = x.size; scale = 0; suppressed = b; span = span q.span.start x.span.end }) ≡ index_size s shape q b z
+unfolding index_size suffix_read
+index_sized s shape q b (suffixed n t) e = rw e refl
+index_sized s shape q b bare e = rw e refl
+
+-- ---- an index register
+
+suppressed_or_is : (m n : Option Register) {q : Register} {b : Bool} → suppressed_or m n ≡ Some (q, b) → ((m ≡ Some q) × (b ≡ true)) ⊎ ((n ≡ Some q) × (b ≡ false))
+unfolding suppressed_or
+suppressed_or_is (Some a) n {q} {b} h = let z : ◌≡◌ {A = Register × Bool} (a, true) (q, b) = cc in inl (ap (λ w. Some w.0) z, ap (λ (w : Register × Bool). w.1) (sym z))
+suppressed_or_is None (Some a) {q} {b} h = let z : ◌≡◌ {A = Register × Bool} (a, false) (q, b) = cc in inr (ap (λ w. Some w.0) z, ap (λ (w : Register × Bool). w.1) (sym z))
+suppressed_or_is None None h = absurd (none-some _ h)
+
+suppressed_or_not : (m n : Option Register) → suppressed_or m n ≡ None → (m ≡ None) × (n ≡ None)
+unfolding suppressed_or
+suppressed_or_not (Some a) n h = absurd (none-some _ (sym h))
+suppressed_or_not None (Some a) h = absurd (none-some _ (sym h))
+suppressed_or_not None None h = (refl, refl)
+
+module _ {L T D D' : List ℕ} {c : Counters} {v : Option IndexRegister} {r : Counters} (s : Setting) (shape : ℕ) where
+  pub index_found : {q : Register} {b : Bool} {c₁ : Counters} → Found (index_at s c.at) L T c (q, b) c₁ → Told (λ z. z) (Same c₁.nodes) (index_register s shape q b) L T D D' c₁ v r
+      → Told (λ z. z) (Same c.nodes) (parse_index_register s shape) L T D D' c v r
+  unfolding parse_index_register index_at
+  index_found {q} {b} f g =
+      hereby (elim (suppressed_or_is _ _ f.is) [
+        | inl w ↦ miss f.stands (suppressed_no_register s c.at _ _ w.0) (hit_same f.stands (suppressed_hit s c.at _ _ w.0) f.over (renamed (ap₂ (index_register s shape) (sym (suppressed_as s c.at _ _ w.0)) w.1) g))
+        | inr w ↦ hit_same f.stands (is_a_register _ _ w.0) f.over (renamed (ap₂ (index_register s shape) (sym (register_is _ _ w.0)) w.1) g)
+      ])
+
+  pub index_missing : {x : Option (Register × Bool)} {c₁ : Counters} → NextBy (index_at s c.at) L T c x c₁ → x ≡ None → Told (λ z. z) (Same c₁.nodes) (stepped_over s shape Problems.index_missing) L T D D' c₁ v r
+      → Told (λ z. z) (Same c.nodes) (parse_index_register s shape) L T D D' c v r
+  unfolding parse_index_register index_at
+  index_missing (hits t y at e w o) h g = absurd (none-some _ (sym h ∙ w))
+  index_missing (misses t at e w o) h g =
+      let m = suppressed_or_not _ _ e in
+      hereby (miss at (no_register _ _ m.1) (miss at (suppressed_miss s c.at _ _ m.0) (rw o at g)))
+  index_missing (ends at w o) h g = hereby (done at (done at (rw o at g)))

@@ -1,7 +1,6 @@
 -- Register lists: a register behind a sign, an item, its bits and its node, and a turn of the list's loop.
 -- Assumes nothing.
 use mathlib.Core.Path.{◌≡◌, refl, sym, ◌∙◌, ap, ap₂, subst}
-use mathlib.Core.Bool.{true}
 use mathlib.Core.List.{List, [], ◌∷◌}
 use Prim.Native.Nat.{ℕ, zero, suc, ◌+◌, ◌-◌, ◌*◌, ◌/◌, ◌%◌, ◌^◌, ◌≤◌, ◌<◌, max}
 use native.Mathlib.Omega.{arith}
@@ -15,41 +14,29 @@ use Rattle.names.specs.Tokens.{count, token_at}
 use Rattle.names.specs.Places.{text_of, live}
 use Rattle.names.specs.declared.tokens.Token.{Token}
 use Rattle.records.specs.Problems
-use Rattle.records.specs.Spans.{span_of, span_or}
+use Rattle.records.specs.Spans.{span_or}
 use Rattle.records.specs.declared.counters.Counters.{Counters}
 use Rattle.records.specs.Diagnostics.{register_expected_in_register_list}
-use Rattle.expressions.specs.Reader.{of_kind}
 use Rattle.records.specs.NodeKinds
 use Rattle.records.specs.declared.node_kinds.NodeKind.{NodeKind}
 use Rattle.records.specs.declared.spans.Span.{Span}
-use Rattle.records.specs.Nodes.{node_record, words}
-use Rattle.records.specs.Stores.{PutTold}
-use Rattle.records.specs.Counters.{stepped}
-use Rattle.expressions_code.specs.Terms.{NodeTold}
-use Rattle.operand.specs.Operands.{single}
-use Rattle.operand.specs.Operand.{a_register, register_from, register_expected, ranged, list_item}
+use Rattle.records.specs.Nodes.{node_record, node_numbers, words}
+use Rattle.records.specs.declared.nodes.Node.{Node}
+use Rattle.operand.specs.Operand.{register_from, register_expected, ranged, list_item}
 use Rattle.operand.specs.Mask.{bits_from}
 use Rattle.records.specs.Rooms.{Room}
-use Rattle.expressions.specs.Told.{Raised, Told}
-use Rattle.operand_code.specs.Lookahead.{reg_at}
+use Rattle.expressions.specs.Told.{NextTold, Raised, Told}
 use Rattle.operand_code.specs.Lists.{RegisterTold, found, missing, item_of, RangedTold, rising, falling, ItemHeld, ItemTold, item_bytes}
 use Rattle.operand.specs.declared.forms.Register.{Register}
 use Rattle.operand_code.specs.declared.lists.Item.{Item}
-use Rattle.operand_code.proofs.lookahead.Names.{reg_is, reg_from, reg_small}
-use Rattle.expressions.specs.Paths.{answered, hereby, raised, hit, missed, hit_kind, miss_kind, seen, beyond, chosen, unchosen}
+use Rattle.names.specs.Laws.{true_false}
+use Rattle.operand.specs.Operand.{a_register}
+use Rattle.operand_code.specs.Lookahead.{register_at, NextBy, hits, misses, ends}
+use Rattle.operand_code.proofs.lookahead.Names.{holds_at, holds_end, no_register, is_a_register, register_is, register_within}
+use Rattle.expressions.specs.Paths.{answered, hereby, raised, hit, missed, miss_next, seen, beyond, chosen, unchosen}
 use Rattle.std.proofs.lemmas.Option.{none-some}
-use Rattle.std.specs.Prelude.{Option, Some, None, option_map}
-
--- ---- a register at a place
-
--- what `register_at` says of a token, as the definition asks it
-pub record IsRegister (t : Token) (x : List ℕ) (n : ℕ) : Type 0 where
-  pub passes : a_register t x ≡ true
-  pub from : register_from t x ≡ record { index = n; span = span_of t }
-  pub small : n < 16
-
-pub is_register_lem : (t : Token) (x : List ℕ) (n : ℕ) → reg_at t x ≡ Some n → IsRegister t x n
-is_register_lem t x n h = record { passes = reg_is t x n h; from = reg_from t x n h; small = reg_small t x n h }
+use Rattle.operand_code.proofs.Next.{hit_some, next_on}
+use Rattle.std.specs.Prelude.{true, Option, Some, None, is_some, option_map}
 
 -- ---- a register behind a sign
 
@@ -66,17 +53,28 @@ pub record FoundAt (T : List ℕ) (c : Counters) (q : Register) (r : Counters) :
 
 pub found_at : {L T D D' : List ℕ} {c : Counters} {sign : ℕ} {v : Option Register} {r : Counters} {q : Register} → RegisterTold L T D D' c sign v r → v ≡ Some q → FoundAt T c q r
 found_at {L} {T} {c = c} {r = r} {q = q} (found t n h g e f d) w =
-    let z : ◌≡◌ {A = Register} q (record { index = n; span = span_of t }) = cc in
-    let m = (is_register_lem t _ n g).small in
+    let z : n ≡ q = cc in
     let l = live T c.at t h in
     record {
       on = ap (λ z. z.at) f;
       within = omega (arith, ap (λ z. z.at) f);
       same = ap (λ z. z.nodes) f;
       quiet = ap (λ z. z.diagnostics) f;
-      small = omega (arith, ap (λ (z : Register). z.index) z);
+      small = subst (λ y. y.index < 16) z (register_within t _ g);
     }
 found_at (missing h e f) w = absurd (none-some _ (sym e ∙ w))
+
+-- as the code looks it up
+pub register_found : {L T D : List ℕ} {c : Counters} {sign : ℕ} {v : Option Register} {r : Counters} → NextBy register_at L T c v r → is_some v ≡ true → RegisterTold L T D D c sign v r
+register_found (hits t y at e w o) h = found t y at e w o refl
+register_found (misses t at e w o) h = absurd (true_false (sym h ∙ rw w refl))
+register_found (ends at w o) h = absurd (true_false (sym h ∙ rw w refl))
+
+pub register_missed : {L T D D' : List ℕ} {c : Counters} {sign : ℕ} {v : Option Register} {r s : Counters} → NextBy register_at L T c v r → v ≡ None
+    → Raised D D' r (register_expected_in_register_list sign (span_or (token_at T r.at) r.end)) s → RegisterTold L T D D' c sign v s
+register_missed (hits t y at e w o) h g = absurd (none-some _ (sym h ∙ w))
+register_missed (misses t at e w o) h g = missing (holds_at a_register _ _ _ _ at ∙ no_register _ _ e) h (rw o at g)
+register_missed (ends at w o) h g = missing (holds_end a_register _ _ _ at) h (rw o at g)
 
 -- what the reader says where none stands
 pub expected : {A B : Type 0} {f : Option A → B} {Q : Option A → Counters → Type 0} {L T D D' : List ℕ} {c r : Counters} {v : B} (sign : ℕ)
@@ -141,28 +139,18 @@ low_four a b c d h i j k =
     ∙ low_cons 3 a _ h
     ∙ ap (λ l. a ∷ l) (low_cons 2 b _ i ∙ ap (λ l. b ∷ l) (low_cons 1 c _ j ∙ ap (λ l. c ∷ l) (low_cons 0 d 0 k)))
 
-pub node_told : {N N' : List ℕ} {c : Counters} (x : Item) {kind from to p q r : ℕ} → kind ≡ NodeKinds.number x.kind → from ≡ x.from.index → to ≡ x.to.index → Packed x.from.span p → Packed x.to.span q
-    → PutTold N N' c.nodes (node_record kind 0 from to x.span (words 4 (p + 4294967296 * q))) r
-    → NodeTold N N' c (item_bytes x) (record { at = c.at; end = c.end; nodes = r; diagnostics = c.diagnostics })
+pub item_numbers : (x : Item) {node : Node} {p q : ℕ} → node.kind ≡ NodeKinds.number x.kind → node.detail ≡ 0 → node.left ≡ x.from.index → node.right ≡ x.to.index → node.span ≡ x.span → Packed x.from.span p → Packed x.to.span q
+    → node.value ≡ p + 4294967296 * q → node_numbers node ≡ item_bytes x
 unfolding item_bytes
-node_told {N} {N'} {c} x {r = r} k a b f t h = record {
-  at = refl;
-  end = refl;
-  seen = refl;
-  put = subst (λ z. PutTold N N' c.nodes (node_record (NodeKinds.number x.kind) 0 x.from.index x.to.index x.span z) r) (low_four _ _ _ _ f.1 f.2 t.1 t.2)
-      (rw (← k, ← a, ← b, ← f.0, ← t.0) h);
-}
+item_numbers x k d a b s f t v = rw (k, d, a, b, s, v, f.0, t.0) (ap (λ z. node_record (NodeKinds.number x.kind) 0 x.from.index x.to.index x.span z) (low_four _ _ _ _ f.1 f.2 t.1 t.2))
 
 -- ---- an item
 
-alone : (T : List ℕ) (c : Counters) (r : Register) → c.at ≤ count T → r.index < 16 → ItemHeld T c (Some (single r)) c
-unfolding ItemHeld item_of
-alone T c r w n = record { same = refl; on = omega arith; within = w; quiet = omega arith; from_small = n; to_small = n }
-
-pub single_told : {L T D : List ℕ} {c : Counters} (r : Register) {x : Item} → c.at ≤ count T → r.index < 16 → x ≡ record { kind = NodeKind.Single; from = r; to = r; span = r.span }
-    → of_kind Kinds.minus (token_at T c.at) ≡ None → ItemTold L T D D c r (Some x) c
-unfolding list_item item_of
-single_told {T = T} {c = c} r w n e h = miss_kind Kinds.minus h (answered (ap Some e) refl (alone T c r w n))
+pub single_told : {L T D : List ℕ} {c c₁ : Counters} (r : Register) {x : Item} {o : Option Token} → c.at ≤ count T → r.index < 16 → x ≡ record { kind = NodeKind.Single; from = r; to = r; span = r.span }
+    → NextTold T Kinds.minus c o c₁ → o ≡ None → ItemTold L T D D c r (Some x) c₁
+unfolding list_item item_of ItemHeld
+single_told r w n e h m =
+    miss_next h m (answered (ap Some e) refl (record { same = h.nodes; on = h.from; within = omega (arith, w, h); quiet = omega (arith, h); from_small = n; to_small = n }))
 
 -- a range, two tokens behind c
 ranged_told : (c : Counters) {L T D D' : List ℕ} {c₁ : Counters} {r q : Register} {x : Item} {s : Counters} → c₁.at ≤ count T → c₁.at ≡ c.at + 2 → c₁.nodes ≡ c.nodes → c₁.diagnostics ≡ c.diagnostics
@@ -185,26 +173,24 @@ ranged_told c {c₁ = c₁} {r = r} {q = q} w a b d m n (falling h e f) =
     })))
 
 -- behind a minus
-module _ {L T D D₁ : List ℕ} {c c₁ : Counters} (r : Register) {t : Token} (h : of_kind Kinds.minus (token_at T c.at) ≡ Some t) (e : c₁ ≡ stepped c t) where
+module _ {L T D D₁ : List ℕ} {c c₁ : Counters} (r : Register) {o : Option Token} (h : NextTold T Kinds.minus c o c₁) (e : is_some o ≡ true) (l : c.at < 65535) where
   pub range_none : {v : Option Register} {u : Counters} → RegisterTold L T D D₁ c₁ 45 v u → v ≡ None → ItemTold L T D D₁ c r None u
   unfolding list_item ItemHeld
   range_none (found t₂ n h₂ g a b d) w = absurd (none-some _ (sym w ∙ a))
-  range_none (missing g a f) w = hit_kind Kinds.minus h e (missed g (expected Problems.after_minus f refl tt))
+  range_none (missing g a f) w = hit_some h e l λ k w. (missed g (expected Problems.after_minus f refl tt))
 
   pub range_some : {D₂ : List ℕ} {v : Option Register} {u : Counters} {q : Register} {x : Item} {s : Counters} → r.index < 16 → RegisterTold L T D D₁ c₁ 45 v u → v ≡ Some q
       → RangedTold D₁ D₂ u r q x s → ItemTold L T D D₂ c r (Some x) s
   unfolding list_item
   range_some {D₂} {v} {u} {q} {x = i} {s = s} m (found t₂ n h₂ g a b d) w x =
-      let y = is_register_lem t₂ _ n g in
-      let z : ◌≡◌ {A = Register} q (register_from t₂ (text_of L t₂.start t₂.end)) = cc y.from in
+      let y = register_is t₂ _ g in
+      let z : ◌≡◌ {A = Register} q (register_from t₂ (text_of L t₂.start t₂.end)) = cc y in
       let j : RegisterTold L T D D₁ c₁ 45 v u = found t₂ n h₂ g a b d in
       let f = found_at j w in
-      let l : c₁.at ≡ c.at + 1 = ap (λ z. z.at) e in
-      let o : c₁.nodes ≡ c.nodes = ap (λ z. z.nodes) e in
-      let p : c₁.diagnostics ≡ c.diagnostics = ap (λ z. z.diagnostics) e in
-      hit_kind Kinds.minus h e
-      (hit h₂ y.passes b
+      let at₁ : c₁.at ≡ c.at + 1 = next_on h e l in
+      hit_some h e l λ k w.
+      (hit h₂ (is_a_register t₂ _ g) b
       (subst (λ E. Told (option_map item_of) (ItemHeld T c) (ranged r (register_from t₂ (text_of L t₂.start t₂.end))) L T E D₂ u (Some i) s) d
       (subst (λ j. Told (option_map item_of) (ItemHeld T c) (ranged r j) L T D₁ D₂ u (Some i) s) z
-      (ranged_told c f.within (omega arith) (omega arith) (omega arith) m f.small x))))
+      (ranged_told c f.within (omega arith) (omega (arith, h)) (omega (arith, h)) m f.small x))))
   range_some m (missing g a f) w x = absurd (none-some _ (sym a ∙ w))

@@ -7,7 +7,7 @@ use native.Mathlib.Omega.{arith}
 use lib.Bits.{bit_or, or_zero_l, or_zero_r}
 use lib.ListN.{length, take, length-append}
 use Rattle.names.specs.Kinds
-use Rattle.names.specs.Tokens.{count, token_at}
+use Rattle.names.specs.Tokens.{count}
 use Rattle.names.specs.Places.{text_of, place, below}
 use Rattle.names.specs.declared.tokens.Token.{Token}
 use Rattle.records.specs.Problems
@@ -15,8 +15,7 @@ use Rattle.records.specs.Spans.{span}
 use Rattle.records.specs.declared.spans.Span.{Span}
 use Rattle.records.specs.declared.counters.Counters.{Counters}
 use Rattle.expressions.specs.Expressions.{fuel}
-use Rattle.expressions.specs.Reader.{of_kind, run}
-use Rattle.records.specs.Counters.{stepped}
+use Rattle.expressions.specs.Reader.{run}
 use Rattle.expressions_code.specs.Terms.{NodeTold}
 use Rattle.expressions.specs.declared.reading.Setting.{Setting}
 use Rattle.operand.specs.Operands.{RegisterListItem, single, range, Operand}
@@ -27,16 +26,18 @@ use Rattle.operand.specs.Mask as M
 use Rattle.operand.specs.Forms.{record_of}
 use Rattle.operand.specs.Fuel.{list_equation}
 use Rattle.records.specs.Rooms.{Room}
-use Rattle.expressions.specs.Told.{Told}
+use Rattle.expressions.specs.Told.{NextTold, Told}
 use Rattle.operand_code.specs.Operands.{HeldBy, Stored, OperandTold}
 use Rattle.operand_code.specs.Lists.{RegisterTold, found, missing, item_of, Behind, ItemHeld, ItemTold, item_bytes, list_record, ListAsks}
 use Rattle.operand.specs.declared.forms.Register.{Register}
 use Rattle.operand_code.specs.declared.lists.Item.{Item}
-use Rattle.expressions.specs.Paths.{held_as, retold, answered, hereby, bound, hit, missed, hit_kind, miss_kind}
+use Rattle.expressions.specs.Paths.{held_as, retold, answered, hereby, bound, hit, missed, miss_next}
 use Rattle.operand_code.proofs.Rooms.{map_is, map_not}
-use Rattle.operand_code.proofs.lists.Ranges.{or_assoc, is_register_lem, room_on, found_at, expected}
+use Rattle.operand_code.proofs.lists.Ranges.{or_assoc, room_on, found_at, expected}
+use Rattle.operand_code.proofs.lookahead.Names.{is_a_register, register_is}
 use Rattle.std.proofs.lemmas.Option.{none-some}
-use Rattle.std.specs.Prelude.{Option, Some, None, option_map}
+use Rattle.std.specs.Prelude.{true, is_some, Option, Some, None, option_map}
+use Rattle.operand_code.proofs.Next.{hit_some, next_on}
 use Rattle.operand.specs.declared.forms.OperandRecord.{OperandRecord}
 
 -- ---- one more item
@@ -151,33 +152,36 @@ module _ {L T N₀ D₀ N D D₁ : List ℕ} {c : Counters} {t₀ : Setting} {fi
       }
 
 module _ {L T N₀ D₀ N D : List ℕ} {c : Counters} {t₀ : Setting} {first : Register} {mask : ℕ} {e : Counters} (w : Reached L T N₀ D₀ N D c t₀ first mask e) where
-  pub ends : {x : OperandRecord} {s : Span} → of_kind Kinds.slash (token_at T e.at) ≡ None → s ≡ span t₀.start e.end → x ≡ list_record s.start s.end mask → OperandTold (parse_register_list t₀ first) L T D₀ N D c (Some x) e
+  at_fits : e.at < 65535
+  at_fits = omega (arith, w.room)
+
+  pub ends : {x : OperandRecord} {s : Span} {o : Option Token} {c₁ : Counters} → NextTold T Kinds.slash e o c₁ → o ≡ None
+      → s ≡ span t₀.start c₁.end → x ≡ list_record s.start s.end mask → OperandTold (parse_register_list t₀ first) L T D₀ N D c (Some x) c₁
   unfolding parse_register_list next_item listed record_of HeldBy nodes_o size_o
-  ends h q g = record {
-    told = w.whole N D _ _ (miss_kind Kinds.slash h
-        (hereby (answered (ap Some g ∙ ap₂ (λ (z : Span) m. Some (list_record z.start z.end m)) q w.joined) refl (sym w.bytes, sym w.total))));
+  ends h k q g = record {
+    told = w.whole N D _ _ (miss_next h k
+        (hereby (answered (ap Some g ∙ ap₂ (λ (z : Span) m. Some (list_record z.start z.end m)) q w.joined) refl (sym (ap (λ m. take (10 * m) N) h.nodes ∙ w.bytes), sym (h.nodes ∙ w.total)))));
   }
 
-  module _ {D₁ : List ℕ} {t : Token} {c₁ : Counters} {v : Option Register} {u : Counters} (h : of_kind Kinds.slash (token_at T e.at) ≡ Some t) (k : c₁ ≡ stepped e t) where
+  module _ {D₁ : List ℕ} {c₁ : Counters} {v : Option Register} {u : Counters} {s : Option Token} (h : NextTold T Kinds.slash e s c₁) (k : is_some s ≡ true) where
     pub ends_expected : RegisterTold L T D D₁ c₁ 47 v u → v ≡ None → OperandTold (parse_register_list t₀ first) L T D₀ N D₁ c None u
     unfolding parse_register_list next_item HeldBy
     ends_expected (found t₂ n h₂ g a b d) r = absurd (none-some _ (sym r ∙ a))
     ends_expected (missing g a f) r =
         record {
-          told = w.whole N D₁ _ _ (hit_kind Kinds.slash h k (missed g (expected Problems.after_slash f refl tt)));
+          told = w.whole N D₁ _ _ (hit_some h k at_fits λ q p. (missed g (expected Problems.after_slash f refl tt)));
         }
 
     pub again : {q : Register} → RegisterTold L T D D₁ c₁ 47 v u → v ≡ Some q → length N ≡ length N₀ → Going L T N₀ D₀ N D₁ c t₀ first mask u q
     unfolding next_item
     again {q} (found t₂ n h₂ g a b d) r l =
-        let y = is_register_lem t₂ _ n g in
-        let z : ◌≡◌ {A = Register} q (register_from t₂ (text_of L t₂.start t₂.end)) = cc y.from in
+        let y = register_is t₂ _ g in
+        let z : ◌≡◌ {A = Register} q (register_from t₂ (text_of L t₂.start t₂.end)) = cc y in
         let j : RegisterTold L T D D₁ c₁ 47 v u = found t₂ n h₂ g a b d in
         let o = found_at j r in
-        let at₁ : c₁.at ≡ e.at + 1 = ap (λ z. z.at) k in
-        let same : c₁.nodes ≡ e.nodes = ap (λ z. z.nodes) k in
-        let quiet : c₁.diagnostics ≡ e.diagnostics = ap (λ z. z.diagnostics) k in
-        let nodes : u.nodes ≡ e.nodes = omega arith in
+        let at₁ : c₁.at ≡ e.at + 1 = next_on h k at_fits in
+        let quiet : c₁.diagnostics ≡ e.diagnostics = h.diagnostics in
+        let nodes : u.nodes ≡ e.nodes = omega (arith, h.nodes) in
         record {
           items = w.items ++ (w.item ∷ []);
           joined = w.joined;
@@ -188,7 +192,7 @@ module _ {L T N₀ D₀ N D : List ℕ} {c : Counters} {t₀ : Setting} {first :
           spent = omega (arith, w.spent);
           room = room_on w.room o.within (omega arith);
           small = o.small;
-          whole = λ N' D' x s f. w.whole N' D' x s (hit_kind Kinds.slash h k (hit h₂ y.passes b
+          whole = λ N' D' x s f. w.whole N' D' x s (hit_some h k at_fits λ q p. (hit h₂ (is_a_register t₂ _ g) b
               (subst (λ E. Told (option_map record_of) (Stored N') (list_loop fuel t₀ (w.items ++ (w.item ∷ [])) (register_from t₂ (text_of L t₂.start t₂.end))) L T E D' u x s) d
               (subst (λ j. Told (option_map record_of) (Stored N') (list_loop fuel t₀ (w.items ++ (w.item ∷ [])) j) L T D₁ D' u x s) z f))));
         }

@@ -1,8 +1,9 @@
 -- What a name is by the definition's tests and by the code's functions.
 -- Assumes nothing.
 use Rattle.std.proofs.Common.{Option, Some, None, is_some}
+use Rattle.std.specs.Prelude.{option_map}
 use Rattle.std.proofs.lemmas.Option.{none-some}
-use mathlib.Core.Path.{◌≡◌, refl, sym, ◌∙◌, ap}
+use mathlib.Core.Path.{◌≡◌, refl, sym, ◌∙◌, ap, subst}
 use mathlib.Core.Bool.{Bool, true, false, not}
 use mathlib.Core.List.{List, [], ◌∷◌}
 use Prim.Native.Nat.{ℕ, ◌+◌, ◌-◌, ◌<◌, ◌≤◌}
@@ -25,9 +26,9 @@ use Rattle.expressions.specs.Reader.{Test}
 use Rattle.records.specs.Spans.{span_of}
 use Rattle.expressions.specs.declared.reading.Setting.{Setting}
 use Rattle.operand.specs.Operand.{is_address, is_suppressed, is_suppressed_register, a_register, an_address_register, a_program_counter, unmarked, an_index, a_base_or_an_index, index_of, suppressed_index, register_from}
-use Rattle.records.specs.declared.spans.Span.{Span}
 use Rattle.operand.specs.declared.forms.Register.{Register}
-use Rattle.operand_code.specs.Lookahead.{address_of, reg_at, suppressed_at, suppressed_reg}
+use Rattle.operand_code.specs.Lookahead.{address_of, reg_at, registered, register_at, suppressed_at, suppressed_reg, suppressed_index_at}
+use Rattle.operand_code.proofs.Rooms.{map_is, map_not}
 
 -- ---- choices
 
@@ -61,17 +62,11 @@ module _ (t : Token) (x : List ℕ) where
   unfolding an_address_register reg_at is_address
   an_address = picked (eqb t.kind Kinds.identifier) is_address (register_of x) None refl
 
-  pub reg_not : reg_at t x ≡ None → a_register t x ≡ false
-  reg_not h = a_register_lem ∙ ap is_register h
-
-  pub address_none : reg_at t x ≡ None → an_address_register t x ≡ false
+  address_none : reg_at t x ≡ None → an_address_register t x ≡ false
   unfolding is_address
   address_none h = an_address ∙ ap is_address h
 
   module _ (r : ℕ) (h : reg_at t x ≡ Some r) where
-    pub reg_is : a_register t x ≡ true
-    reg_is = a_register_lem ∙ ap is_register h
-
     -- the name is that register
     named : register_of x ≡ Some r
     unfolding reg_at
@@ -127,57 +122,81 @@ register_small (c ∷ []) = small_not
 register_small (c ∷ d ∷ []) = pair_small c d
 register_small (c ∷ d ∷ e ∷ es) = small_not
 
--- an address register
-pub address_hit : (t : Token) (x : List ℕ) {r : ℕ} → address_of (reg_at t x) ≡ Some r → (an_address_register t x ≡ true) × (register_from t x ≡ record { index = r; span = span_of t })
-unfolding address_of
-address_hit t x {r} h = go (reg_at t x) refl h
-  where
-    found : (n : ℕ) → reg_at t x ≡ Some n → (b : Bool) → leb 8 n ≡ b → pick b (Some n) None ≡ Some r → (an_address_register t x ≡ true) × (register_from t x ≡ record { index = r; span = span_of t })
-    found n e true q g = let z : n ≡ r = cc in (address_is t x n e (leb-true 8 n q), reg_from t x n e ∙ ap (λ m. record { index = m; span = span_of t }) z)
-    found n e false q g = absurd (none-some _ g)
+-- the register that a token is
+module _ (t : Token) (x : List ℕ) where
+  pub a_register_is : a_register t x ≡ is_some (register_at t x)
+  unfolding register_at
+  a_register_is = a_register_lem t x ∙ go (reg_at t x)
+    where
+      go : (q : Option ℕ) → is_register q ≡ is_some (option_map (registered t) q)
+      go (Some r) = refl
+      go None = refl
 
-    go : (m : Option ℕ) → reg_at t x ≡ m → address_of m ≡ Some r → (an_address_register t x ≡ true) × (register_from t x ≡ record { index = r; span = span_of t })
-    go (Some n) e g = found n e (leb 8 n) refl g
+  pub no_register : register_at t x ≡ None → a_register t x ≡ false
+  no_register h = a_register_is ∙ ap is_some h
+
+  pub no_address_register : register_at t x ≡ None → an_address_register t x ≡ false
+  unfolding register_at
+  no_address_register h = address_none t x (map_not (registered t) _ h)
+
+  module _ {q : Register} (h : register_at t x ≡ Some q) where
+    pub is_a_register : a_register t x ≡ true
+    is_a_register = a_register_is ∙ ap is_some h
+
+    pub register_is : register_from t x ≡ q
+    unfolding register_at
+    register_is = let m = map_is (registered t) _ h in reg_from t x m.part m.is ∙ m.form
+
+    pub register_within : q.index < 16
+    unfolding register_at register_of
+    register_within =
+        let m = map_is (registered t) _ h in
+        subst (λ z. z.index < 16) m.form (register_small (lowered x) m.part (named t x m.part m.is))
+
+    pub address_if : 8 ≤ q.index → an_address_register t x ≡ true
+    unfolding register_at
+    address_if l = let m = map_is (registered t) _ h in address_is t x m.part m.is (subst (λ z. 8 ≤ z.index) (sym m.form) l)
+
+    pub address_unless : (8 ≤ q.index → ⊥) → an_address_register t x ≡ false
+    unfolding register_at
+    address_unless l = let m = map_is (registered t) _ h in address_not t x m.part m.is (subst (λ z. 8 ≤ z.index → ⊥) (sym m.form) l)
+
+-- what is an address register, of the register that a token is
+picked_address : (q : Register) (b : Bool) → leb 8 q.index ≡ b → {r : Register} → pick b (Some q) None ≡ Some r → (q ≡ r) × (leb 8 q.index ≡ true)
+picked_address q true e g = (cc, e)
+picked_address q false e g = absurd (none-some _ g)
+
+unpicked_address : (q : Register) (b : Bool) → leb 8 q.index ≡ b → pick b (Some q) None ≡ None → leb 8 q.index ≡ false
+unpicked_address q true e g = absurd (none-some _ (sym g))
+unpicked_address q false e g = e
+
+-- an address register
+pub record IsAddress (t : Token) (x : List ℕ) (r : Register) : Type 0 where
+  pub passes : an_address_register t x ≡ true
+  pub from : register_from t x ≡ r
+  pub above : leb 8 r.index ≡ true
+
+pub address_hit : (t : Token) (x : List ℕ) {r : Register} → address_of (register_at t x) ≡ Some r → IsAddress t x r
+unfolding address_of
+address_hit t x {r} h = go (register_at t x) refl h
+  where
+    go : (m : Option Register) → register_at t x ≡ m → address_of m ≡ Some r → IsAddress t x r
+    go (Some q) e g =
+        let p = picked_address q (leb 8 q.index) refl g in
+        record {
+          passes = address_if t x e (leb-true 8 q.index p.1);
+          from = register_is t x e ∙ p.0;
+          above = sym (ap (λ z. leb 8 z.index) p.0) ∙ p.1;
+        }
     go None e g = absurd (none-some _ g)
 
-pub address_miss : (t : Token) (x : List ℕ) → address_of (reg_at t x) ≡ None → an_address_register t x ≡ false
+pub address_miss : (t : Token) (x : List ℕ) → address_of (register_at t x) ≡ None → an_address_register t x ≡ false
 unfolding address_of
-address_miss t x h = go (reg_at t x) refl h
+address_miss t x h = go (register_at t x) refl h
   where
-    found : (n : ℕ) → reg_at t x ≡ Some n → (b : Bool) → leb 8 n ≡ b → pick b (Some n) None ≡ None → an_address_register t x ≡ false
-    found n e true q g = absurd (none-some _ (sym g))
-    found n e false q g = address_not t x n e (λ l. let z = leb-false 8 n q in absurd (omega arith))
-
-    go : (m : Option ℕ) → reg_at t x ≡ m → address_of m ≡ None → an_address_register t x ≡ false
-    go (Some n) e g = found n e (leb 8 n) refl g
-    go None e g = address_none t x e
-
--- its number
-pub address_number : (m : Option ℕ) {r : ℕ} → address_of m ≡ Some r → leb 8 r ≡ true
-unfolding address_of
-address_number (Some n) {r} h = found (leb 8 n) refl h
-  where
-    found : (b : Bool) → leb 8 n ≡ b → pick b (Some n) None ≡ Some r → leb 8 r ≡ true
-    found true q g = let z : n ≡ r = cc in sym (ap (leb 8) z) ∙ q
-    found false q g = absurd (none-some _ g)
-address_number None h = absurd (none-some _ h)
-
--- a register that is no address register
-pub data_number : (t : Token) (x : List ℕ) → a_register t x ≡ true → address_of (reg_at t x) ≡ None → leb 8 (register_from t x).index ≡ false
-unfolding address_of
-data_number t x k h = go (reg_at t x) refl h
-  where
-    found : (n : ℕ) (b : Bool) → leb 8 n ≡ b → pick b (Some n) None ≡ None → leb 8 n ≡ false
-    found n true q g = absurd (none-some _ (sym g))
-    found n false q g = q
-
-    go : (m : Option ℕ) → reg_at t x ≡ m → address_of m ≡ None → leb 8 (register_from t x).index ≡ false
-    go (Some n) e g = ap (λ z. leb 8 z.index) (reg_from t x n e) ∙ found n (leb 8 n) refl g
-    go None e g = absurd (true_false (sym k ∙ reg_not t x e))
-
-pub reg_small : (t : Token) (x : List ℕ) (r : ℕ) → reg_at t x ≡ Some r → r < 16
-unfolding register_of
-reg_small t x r h = register_small (lowered x) r (named t x r h)
+    go : (m : Option Register) → register_at t x ≡ m → address_of m ≡ None → an_address_register t x ≡ false
+    go (Some q) e g = address_unless t x e (λ l. let z = leb-false 8 q.index (unpicked_address q (leb 8 q.index) refl g) in absurd (omega arith))
+    go None e g = no_address_register t x e
 
 -- ---- suppressed registers
 
@@ -230,36 +249,39 @@ suppressed_asked (Some Suppressed.ProgramCounter) = refl
 suppressed_asked None = refl
 
 module _ (s : Setting) (i : ℕ) (t : Token) (x : List ℕ) where
-  pub suppressed_miss : suppressed_reg (suppressed_at s i t x) ≡ None → unmarked s i is_suppressed_register t x ≡ false
-  unfolding is_suppressed_register
-  suppressed_miss h = unmarked_is s i is_suppressed_register t x refl ∙ index_asked (suppressed_at s i t x) ∙ ap is_some h
+  unmarked_index : unmarked s i is_suppressed_register t x ≡ is_some (suppressed_index_at s i t x)
+  unfolding is_suppressed_register suppressed_index_at
+  unmarked_index = unmarked_is s i is_suppressed_register t x refl ∙ index_asked (suppressed_at s i t x) ∙ go (suppressed_reg (suppressed_at s i t x))
+    where
+      go : (q : Option ℕ) → is_some q ≡ is_some (option_map (registered t) q)
+      go (Some r) = refl
+      go None = refl
 
-  module _ {r : ℕ} (h : suppressed_reg (suppressed_at s i t x) ≡ Some r) where
+  pub suppressed_miss : suppressed_index_at s i t x ≡ None → unmarked s i is_suppressed_register t x ≡ false
+  suppressed_miss h = unmarked_index ∙ ap is_some h
+
+  module _ {q : Register} (h : suppressed_index_at s i t x ≡ Some q) where
     pub suppressed_hit : unmarked s i is_suppressed_register t x ≡ true
-    unfolding is_suppressed_register
-    suppressed_hit = unmarked_is s i is_suppressed_register t x refl ∙ ap is_suppressed_register (index_of_lem (suppressed_at s i t x) h)
+    suppressed_hit = unmarked_index ∙ ap is_some h
 
     pub suppressed_no_register : a_register t x ≡ false
-    unfolding a_register register_of suppressed_of
-    suppressed_no_register = rw (no_both (lowered x) (suppressed_is s i t x r (index_of_lem (suppressed_at s i t x) h))) (both_false (eqb t.kind Kinds.identifier))
+    unfolding a_register register_of suppressed_of suppressed_index_at
+    suppressed_no_register =
+        let m = map_is (registered t) _ h in
+        rw (no_both (lowered x) (suppressed_is s i t x m.part (index_of_lem (suppressed_at s i t x) m.is))) (both_false (eqb t.kind Kinds.identifier))
+
+    -- as the definition has it
+    pub suppressed_as : registered t (suppressed_index (suppressed_of x)) ≡ q
+    unfolding suppressed_index suppressed_index_at
+    suppressed_as = let m = map_is (registered t) _ h in rw (suppressed_is s i t x m.part (index_of_lem (suppressed_at s i t x) m.is)) m.form
 
 -- ---- an index, a base or an index
 
 module _ (s : Setting) (i : ℕ) (t : Token) (x : List ℕ) where
-  pub an_index_lem : an_index s i t x ≡ either (a_register t x) (is_some (suppressed_reg (suppressed_at s i t x)))
-  unfolding an_index is_suppressed_register
-  an_index_lem = rw (unmarked_is s i is_suppressed_register t x refl, index_asked (suppressed_at s i t x))
+  pub an_index_lem : an_index s i t x ≡ either (a_register t x) (is_some (suppressed_index_at s i t x))
+  unfolding an_index
+  an_index_lem = rw (unmarked_index s i t x)
 
   pub a_base_or_an_index_lem : a_base_or_an_index s i t x ≡ either (a_program_counter t x) (either (a_register t x) (is_some (suppressed_at s i t x)))
   unfolding a_base_or_an_index is_suppressed
   a_base_or_an_index_lem = rw (unmarked_is s i is_suppressed t x refl, suppressed_asked (suppressed_at s i t x))
-
--- ---- registers as the code has them
-
-pub register_as : (t : Token) (x : List ℕ) {r : ℕ} {s : Span} → reg_at t x ≡ Some r → s ≡ span_of t → record { index = r; span = s } ≡ register_from t x
-register_as t x {r} e h = ap (λ z. record { index = r; span = z }) h ∙ sym (reg_from t x r e)
-
-pub suppressed_as : (s : Setting) (i : ℕ) (t : Token) (x : List ℕ) {r : ℕ} {z : Span} → suppressed_reg (suppressed_at s i t x) ≡ Some r → z ≡ span_of t
-    → ◌≡◌ {A = Register} (record { index = r; span = z }) (record { index = suppressed_index (suppressed_of x); span = span_of t })
-unfolding suppressed_index
-suppressed_as s i t x {r} e h = ap (λ z. record { index = r; span = z }) h ∙ rw (suppressed_is s i t x r (index_of_lem (suppressed_at s i t x) e))

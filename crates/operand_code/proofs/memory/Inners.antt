@@ -6,8 +6,7 @@ use mathlib.Core.List.{List, [], ◌++◌, append-nil}
 use Prim.Native.Nat.{ℕ, ◌+◌, ◌-◌, ◌*◌}
 use native.Mathlib.Omega.{arith}
 use lib.ListN.{length, take}
-use Rattle.names.specs.Tokens.{token_at}
-use Rattle.names.specs.Places.{text_of, place}
+use Rattle.names.specs.Places.{place}
 use Rattle.names.specs.declared.tokens.Token.{Token}
 use Rattle.records.specs.Problems
 use Rattle.records.specs.Shapes
@@ -16,10 +15,9 @@ use Rattle.records.specs.declared.spans.Span.{Span}
 use Rattle.expressions.specs.declared.reading.Setting.{Setting}
 use Rattle.expressions.specs.Expressions.{take_size_suffix}
 use Rattle.expressions.proofs.Costs.{all_clean, true_false}
-use Rattle.expressions.specs.Reader.{is, of_kind, Reader, answer, here, bump, peek, run, ◌>>=◌}
+use Rattle.expressions.specs.Reader.{Reader, answer, here, peek, run, ◌>>=◌}
 use Rattle.expressions.specs.Laws as laws
 use Rattle.expressions.specs.Laws.{Law, law_run, holds}
-use Rattle.records.specs.Counters.{stepped}
 use Rattle.expressions.specs.Trees.{Expr, span_e}
 use Rattle.operand.specs.Operands.{Displacement, displaced, undisplaced}
 use Rattle.operand.specs.Operands as O
@@ -36,7 +34,7 @@ use Rattle.operand.specs.declared.forms.Registers.{Registers}
 use Rattle.operand.specs.declared.forms.IndexRegister.{IndexRegister}
 use Rattle.operand_code.specs.declared.memory_inner.InnerPart.{InnerPart}
 use Rattle.operand_code.specs.declared.memory_outer.OuterPart.{OuterPart}
-use Rattle.expressions.specs.Paths.{held_as, answered, hereby, hit_kind, passed, unseen}
+use Rattle.expressions.specs.Paths.{held_as, answered, hereby, passed, unseen}
 use Rattle.operand_code.proofs.Rooms.{left_room}
 use Rattle.operand_code.proofs.expressed.Trees.{TreeRead}
 use Rattle.std.specs.Prelude.{Option, Some, None, is_some, option_map}
@@ -97,20 +95,19 @@ same_room {p = p} {L = L} {T = T} {c = c} h t q = record {
 -- ---- a displacement
 
 -- the tree e of the last records, with a size
-pub sized_told : (e : Expr) (k : ℕ) {L T D N N' : List ℕ} {n : ℕ} {c c₁ : Counters} {v : Option (Option Sized)} {r : Counters} → StoredD N N' n (displaced e 0) c → c₁.nodes ≡ c.nodes
-    → v ≡ Some (Some (record { node = c₁.nodes - 1; size = k })) → r ≡ c₁
-    → Told (option_map (sized_of n)) (StoredPart (λ y. y) N N' n) (answer (Some (displaced e k))) L T D D c₁ v r
+pub sized_told : (e : Expr) (k : ℕ) {L T D N N' : List ℕ} {n : ℕ} {c c₁ : Counters} {s : ℕ} → StoredD N N' n (displaced e 0) c → c₁.nodes ≡ c.nodes
+    → s ≡ k → Told (option_map (sized_of n)) (StoredPart (λ y. y) N N' n) (answer (Some (displaced e k))) L T D D c₁ (Some (Some (record { node = c₁.nodes - 1; size = s }))) c₁
 unfolding sized_of size_d nodes_d
-sized_told e k {N' = N'} st h w u =
-    answered (w ∙ ap (λ m. Some (Some (record { node = m - 1; size = k }))) (h ∙ st.total)) u
+sized_told e k {N' = N'} st h w =
+    answered (ap₂ (λ m z. Some (Some (record { node = m - 1; size = z }))) (h ∙ st.total) w) refl
     (record { bytes = ap (λ m. take (10 * m) N') h ∙ st.bytes; total = h ∙ st.total })
 
 -- behind a tree that was read
-pub displacement_read_lem : {L T N D N₁ D₁ D₂ : List ℕ} {c : Counters} {limit : ℕ} {s : Span} {c₁ : Counters} {v : Option (Option Sized)} {r : Counters} (k : TreeRead L T N D N₁ D₁ c limit s c₁) → SizedTold s.start L T D₁ D₂ c₁ v r
+pub displacement_read_lem : {L T N D N₁ D₁ D₂ : List ℕ} {c : Counters} {limit : ℕ} {s : Span} {c₁ : Counters} {v : Option (Option Sized)} {r : Counters} (k : TreeRead L T N D N₁ D₁ c limit s c₁) → SizedTold s L T D₁ D₂ c₁ v r
     → Told (option_map (sized_of c.nodes)) (StoredPart (λ y. y) N N₁ c.nodes) (take_size_suffix (span_e k.tree).start >>= sized k.tree) L T D₁ D₂ c₁ v r
 unfolding size_d nodes_d
 displacement_read_lem {L} {T} {N} {D} {N₁} {D₁} {D₂} {c} {c₁ = c₁} {v = v} {r = r} k h =
-    let g : SizedTold (span_e k.tree).start L T D₁ D₂ c₁ v r = subst (λ z. SizedTold z.start L T D₁ D₂ c₁ v r) k.span h in
+    let g : SizedTold (span_e k.tree) L T D₁ D₂ c₁ v r = subst (λ z. SizedTold z L T D₁ D₂ c₁ v r) k.span h in
     g.told N N₁ c.nodes k.tree (record { bytes = k.bytes; total = k.total })
 
 -- ---- between the brackets
@@ -128,14 +125,6 @@ pub outer_answered : (x : Option IndexRegister) (i : ℕ) (y : Displacement) {d 
     → Told (option_map (outer_of n)) (StoredPart outer_d N N' n) (answer (Some (outer x i y))) L T D D c v r
 unfolding outer_of
 outer_answered x i y e w u st = answered (w ∙ ap (λ z. Some (record { index = x; indirection = i; displacement = z })) (sym e)) u st
-
--- behind a token that is stepped over
-pub outer_hit : {L T N D N' D' : List ℕ} {c c₁ : Counters} {v : Option OuterPart} {r : Counters} (kind : ℕ) {y : Token → List ℕ → Reader (Option Outer)} {n : Unit {0} → Reader (Option Outer)} {k : Token}
-    → of_kind kind (token_at T c.at) ≡ Some k → c₁ ≡ stepped c k
-    → OuterTold (y k (text_of L k.start k.end)) L T N D N' D' c₁ v r → OuterTold (bump (is kind) y n) L T N D N' D' c v r
-outer_hit {L} {T} {N} {D} {N'} {D'} {v = v} {r = r} kind {y = y} {k = k} h e g =
-    let w = subst (λ z. OuterTold (y k (text_of L k.start k.end)) L T N D N' D' z v r) e g in
-    record { told = hit_kind kind h refl w.told }
 
 -- from counters that count n nodes
 pub outer_from : {p : Reader (Option Outer)} {L T N D N' D' : List ℕ} {c : Counters} {v : Option OuterPart} {r : Counters} {n : ℕ} → c.nodes ≡ n → OuterTold p L T N D N' D' c v r → Told (option_map (outer_of n)) (StoredPart outer_d N N' n) p L T D D' c v r

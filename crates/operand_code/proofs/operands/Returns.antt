@@ -34,20 +34,23 @@ use Rattle.expressions.specs.Trees.{Expr, span_e, size}
 use Rattle.expressions.specs.declared.reading.Setting.{Setting}
 use Rattle.operand.specs.Operands.{displaced, undisplaced}
 use Rattle.operand.specs.Operands as O
-use Rattle.operand.specs.Operand.{name, a_register, register_from, over, predecrement_close, parse_predecrement, register_direct, parse_register_operand, immediate_size, absolute_size, special_index}
+use Rattle.operand.specs.Operand.{name, a_register, over, predecrement_close, parse_predecrement, minus_operand, parse_expression_operand, register_direct, immediate_size, absolute_size, special_index}
 use Rattle.operand.specs.Records.{flag, size_d, nodes_d, size_o, nodes_o}
 use Rattle.operand.specs.Forms.{record_of, suffix_read}
 use Rattle.expressions.specs.Told.{Raised, Told, Same}
 use Rattle.operand_code.specs.Operands.{Kept, Stored}
-use Rattle.operand_code.specs.Lookahead.{reg_at}
 use Rattle.operand_code.specs.Absolutes.{immediate_record, absolute_record, SizeAt}
 use Rattle.operand.specs.declared.forms.Register.{Register}
 use Rattle.operand.specs.declared.forms.Suffixed.{Suffixed}
-use Rattle.expressions.specs.Paths.{bound, chosen, unchosen, hit, raised_same, kind_token}
+use Rattle.expressions.specs.Paths.{bound, chosen, unchosen, hit, seen, other, beyond, seen_kind, unseen_kind, renamed, raised_same, kind_token}
 use Rattle.operand_code.proofs.malformed.Failures.{failed_malformed}
-use Rattle.operand_code.proofs.lookahead.Names.{reg_from}
-use Rattle.operand_code.proofs.Rooms.{suffix_is, suffix_not, over_room, room_over}
-use Rattle.operand_code.proofs.bases.Tails.{operand_told, register_at_base}
+use Rattle.std.proofs.lemmas.Option.{none-some}
+use Rattle.operand_code.specs.Lookahead.{register_at, PredecrementAt, predecrement, paren_not, token_not, register_not}
+use Rattle.operand_code.proofs.lookahead.Names.{is_a_register, no_register, register_is}
+use Rattle.operand_code.specs.Told.{SizeTold}
+use Rattle.operand_code.proofs.Next.{by_size}
+use Rattle.operand_code.proofs.Rooms.{suffix_is, over_room, room_over}
+use Rattle.operand_code.proofs.bases.Tails.{operand_told}
 use Rattle.operand_code.proofs.Holdings.{kept_none, unstored_told, tree_is_lem}
 use Rattle.std.specs.Prelude.{Option, Some, None, option_map}
 use Rattle.operand.specs.declared.forms.OperandRecord.{OperandRecord}
@@ -74,16 +77,19 @@ direct_told N q e h = unstored_told N e (operand_told (register_direct q q.span)
 
 -- ---- a size behind a tree
 
-module _ {L T D D₁ : List ℕ} {c : Counters} (value : Span) {m : Option Suffixed} {s : Counters} (h : Told suffix_read (Same c.nodes) (take_size_suffix value.start) L T D D₁ c m s) (e : Expr) (v : value ≡ span_e e) where
-  from_tree : Told suffix_read (Same c.nodes) (take_size_suffix (span_e e).start) L T D D₁ c m s
-  from_tree = subst (λ (z : Span). Told suffix_read (Same c.nodes) (take_size_suffix z.start) L T D D₁ c m s) v h
+pub behind_size : {A E : Type 0} {f : A → E} {Q : A → Counters → Type 0} {L T D D₁ D₂ : List ℕ} {c : Counters} (value : Span) {x : Suffixed} {s : Counters} {q : Suffix → Reader A} {w : E} {r : Counters}
+    → Told suffix_read (Same c.nodes) (take_size_suffix value.start) L T D D₁ c (Some x) s → (e : Expr) → value ≡ span_e e
+    → Told f Q (q (suffixed x.size x.span)) L T D₁ D₂ s w r → Told f Q (take_size_suffix (span_e e).start >>= q) L T D D₂ c w r
+behind_size {L = L} {T} {D} {D₁} {c = c} value {x} {s} h e v k =
+    let g = subst (λ (z : Span). Told suffix_read (Same c.nodes) (take_size_suffix z.start) L T D D₁ c (Some x) s) v h in bound g (suffix_is _ (sym g.what)) k
 
-  module _ {A E : Type 0} {f : A → E} {Q : A → Counters → Type 0} {D₂ : List ℕ} {q : Suffix → Reader A} {w : E} {r : Counters} where
-    pub behind_bare : m ≡ None → Told f Q (q bare) L T D₁ D₂ s w r → Told f Q (take_size_suffix (span_e e).start >>= q) L T D D₂ c w r
-    behind_bare g k = bound from_tree (suffix_not _ (sym from_tree.what ∙ g)) k
-
-    pub behind_size : {x : Suffixed} → m ≡ Some x → Told f Q (q (suffixed x.size x.span)) L T D₁ D₂ s w r → Told f Q (take_size_suffix (span_e e).start >>= q) L T D D₂ c w r
-    behind_size g k = bound from_tree (suffix_is _ (sym from_tree.what ∙ g)) k
+-- a suffix or none
+pub behind_either : {A E : Type 0} {f : A → E} {Q : A → Counters → Type 0} {L T D D₁ D₂ : List ℕ} {c : Counters} (value : Span) {x : Suffixed} {s : Counters} {q : Suffix → Reader A} {w : E} {r : Counters}
+    → SizeTold L T D D₁ c value x s → (e : Expr) → value ≡ span_e e
+    → (x.size ≡ 0 → x.span.end ≡ (span_e e).end → Told f Q (q bare) L T D₁ D₂ s w r) → Told f Q (q (suffixed x.size x.span)) L T D₁ D₂ s w r
+    → Told f Q (take_size_suffix (span_e e).start >>= q) L T D D₂ c w r
+behind_either {L = L} {T} {D} {D₁} {c = c} value {x} {s} h e v g k =
+    let i = subst (λ z. SizeTold L T D D₁ c z x s) v h in by_size i (λ m a b. bound i.told m (g a b)) (λ m. bound i.told m k)
 
 known_stays : (k : Token) (z : Option SizeSuffix) (at : ℕ → Place) (i l : ℕ) → (run (known k z) at i l).cursor ≡ i
 unfolding run known
@@ -124,9 +130,9 @@ module _ (e : Expr) {n : ℕ} (h : n ≡ size e) {L T D : List ℕ} {c : Counter
   absolute_told {b} {t} {z} {m} w q = operand_told (O.absolute e m (span b z)) (displaced e 0) (refl, refl) (w ∙ rw (q, tree_is_lem e (k ∙ h) refl)) k refl refl
 
   module _ (s : Setting) where
-    pub absolute_bare : {t : ℕ} {u : OperandRecord} → u ≡ absolute_record c s.start t 0 → t ≡ (span_e e).end → Told (option_map record_of) (Kept n (displaced e 0)) (absolute_size s e bare) L T D D c (Some u) c
+    pub absolute_bare : {t m : ℕ} {u : OperandRecord} → u ≡ absolute_record c s.start t m → m ≡ 0 → t ≡ (span_e e).end → Told (option_map record_of) (Kept n (displaced e 0)) (absolute_size s e bare) L T D D c (Some u) c
     unfolding absolute_size
-    absolute_bare w q = absolute_told w q
+    absolute_bare w m q = absolute_told (rw m at w) q
 
     pub absolute_sized : (x : Suffixed) {u : OperandRecord} → u ≡ absolute_record c s.start x.span.end x.size → Told (option_map record_of) (Kept n (displaced e 0)) (absolute_size s e (suffixed x.size x.span)) L T D D c (Some u) c
     unfolding absolute_size
@@ -162,9 +168,6 @@ pub unnamed_register : (t : Token) (x : List ℕ) → (t.kind ≡ Kinds.identifi
 unfolding a_register
 unnamed_register t x h = unnamed (λ y. is_register (register_of y)) t x h
 
-pub register_read : (s : Setting) (t : Token) (x : List ℕ) {n : ℕ} {w : Span} → reg_at t x ≡ Some n → w ≡ span_of t → parse_register_operand s (record { index = n; span = w }) ≡ parse_register_operand s (register_from t x)
-register_read s t x {n} e w = ap (parse_register_operand s) (register_at_base w (reg_from t x n e))
-
 module _ (t : Token) (x : List ℕ) (k : t.kind ≡ Kinds.identifier) where
   pub special_is : {n : SpecialRegister} → special_of x ≡ Some n → name (λ y. is_special (special_of y)) t x ≡ true
   special_is e = rw (k, e)
@@ -182,7 +185,10 @@ special_told N c t x z e q f w a =
 -- ---- a predecrement
 
 -- its three tokens are stepped over
-pub record Thrice (T : List ℕ) (c c₁ c₂ c₃ : Counters) (minus k t : Token) : Type 0 where
+pub record Thrice (L T : List ℕ) (c c₁ c₂ c₃ : Counters) (minus k t : Token) (q : Register) : Type 0 where
+  pub paren : of_kind Kinds.left_paren (token_at T (c.at + 1)) ≡ Some k
+  pub token : token_at T (c.at + 2) ≡ Some t
+  pub register : register_at t (text_of L t.start t.end) ≡ Some q
   pub first : token_at T c.at ≡ Some minus
   pub over_first : c₁ ≡ stepped c minus
   pub second : token_at T c₁.at ≡ Some k
@@ -191,14 +197,20 @@ pub record Thrice (T : List ℕ) (c c₁ c₂ c₃ : Counters) (minus k t : Toke
   pub over_third : c₃ ≡ stepped c₂ t
   pub room : Room T c₃ 0 1
 
-pub stepped_thrice : (kind : ℕ) {T : List ℕ} {c c₁ c₂ c₃ : Counters} {minus k t : Token} {at : ℕ} → Room T c 0 1 → token_at T c.at ≡ Some minus → at ≡ c.at → of_kind kind (token_at T (at + 1)) ≡ Some k → token_at T (at + 2) ≡ Some t
-    → Over c minus c₁ → Over c₁ k c₂ → Over c₂ t c₃ → Thrice T c c₁ c₂ c₃ minus k t
-stepped_thrice kind {T} h p i q r a b d =
+pub stepped_thrice : {L T : List ℕ} {c c₁ c₂ c₃ : Counters} {minus k t : Token} {q : Register} {v : Option (Token × Token × Register)} → Room T c 0 1 → token_at T c.at ≡ Some minus → PredecrementAt L T c.at v → v ≡ Some (k, t, q)
+    → Over c minus c₁ → Over c₁ k c₂ → Over c₂ t c₃ → Thrice L T c c₁ c₂ c₃ minus k t q
+stepped_thrice {L} {T} {c} {c₁} {c₂} {c₃} {minus} {k} {t} {q} h p (predecrement {k = k₁} {t = t₁} {r = q₁} e f g w) z a b d =
+    let same : ◌≡◌ {A = Token × Token × Register} (k₁, t₁, q₁) (k, t, q) = cc in
+    let e₂ = e ∙ ap (λ (y : Token × Token × Register). Some y.0) same in
+    let f₂ = f ∙ ap (λ (y : Token × Token × Register). Some y.1) same in
     let room = room_over h a p in
-    let next = token_from_lem T (omega (arith, h, i, a)) (kind_token kind _ q).0 in
+    let next = token_from_lem T (omega (arith, h, a)) (kind_token Kinds.left_paren _ e₂).0 in
     let room₂ = room_over room b next in
-    let last = token_from_lem T (omega (arith, h, room, i, a, b)) r in
+    let last = token_from_lem T (omega (arith, h, room, a, b)) f₂ in
     record {
+      paren = e₂;
+      token = f₂;
+      register = subst (λ (y : Token × Token × Register). register_at y.1 (text_of L y.1.start y.1.end) ≡ Some y.2) same g;
       first = p;
       over_first = over_room h a;
       second = next;
@@ -207,11 +219,25 @@ stepped_thrice kind {T} h p i q r a b d =
       over_third = over_room room₂ d;
       room = room_over room₂ d last;
     }
+stepped_thrice h p (paren_not e w) z a b d = absurd (none-some _ (sym w ∙ z))
+stepped_thrice h p (token_not e f w) z a b d = absurd (none-some _ (sym w ∙ z))
+stepped_thrice h p (register_not e f g w) z a b d = absurd (none-some _ (sym w ∙ z))
 
-pub predecrement_told : (s : Setting) {minus k t : Token} {L T D D' : List ℕ} {c c₁ c₂ c₃ : Counters} {v : Option OperandRecord} {r : Counters} (N : List ℕ) → c.nodes ≡ 0 → Thrice T c c₁ c₂ c₃ minus k t
-    → Told (option_map record_of) (Kept c₃.nodes undisplaced) (predecrement_close s minus k t (register_from t (text_of L t.start t.end))) L T D D' c₃ v r
-    → Told (option_map record_of) (Stored N) (parse_predecrement s minus k t (text_of L t.start t.end)) L T D D' c v r
-unfolding parse_predecrement over
-predecrement_told s {c₃ = c₃} N z w h =
+pub predecrement_told : (s : Setting) {minus k t : Token} {q : Register} {L T D D' : List ℕ} {c c₁ c₂ c₃ : Counters} {v : Option OperandRecord} {r : Counters} (N : List ℕ) → c.nodes ≡ 0 → Thrice L T c c₁ c₂ c₃ minus k t q
+    → Told (option_map record_of) (Kept c₃.nodes undisplaced) (predecrement_close s minus k t q) L T D D' c₃ v r
+    → Told (option_map record_of) (Stored N) (minus_operand s minus) L T D D' c v r
+unfolding minus_operand parse_predecrement over
+predecrement_told s {minus} {k} {t} {c₃ = c₃} N z w h =
     let none : c₃.nodes ≡ 0 = ap (λ y. y.nodes) w.over_third ∙ ap (λ y. y.nodes) w.over_second ∙ ap (λ y. y.nodes) w.over_first ∙ z in
-    hit w.first refl w.over_first (hit w.second refl w.over_second (hit w.third refl w.over_third (unstored_told N none h)))
+    seen_kind Kinds.left_paren refl w.paren
+    (seen refl w.token (is_a_register _ _ w.register)
+    (hit w.first refl w.over_first (hit w.second refl w.over_second (hit w.third refl w.over_third
+    (unstored_told N none (renamed (ap (predecrement_close s minus k t) (sym (register_is _ _ w.register))) h))))))
+
+pub no_predecrement : (s : Setting) (minus : Token) {L T D D' : List ℕ} {c : Counters} {x : Option (Token × Token × Register)} {v : Option OperandRecord} {r : Counters} (N : List ℕ) → PredecrementAt L T c.at x → x ≡ None
+    → Told (option_map record_of) (Stored N) (parse_expression_operand s) L T D D' c v r → Told (option_map record_of) (Stored N) (minus_operand s minus) L T D D' c v r
+unfolding minus_operand
+no_predecrement s minus N (predecrement e f g w) z h = absurd (none-some _ (sym z ∙ w))
+no_predecrement s minus N (paren_not e w) z h = unseen_kind Kinds.left_paren refl e h
+no_predecrement s minus N (token_not e f w) z h = seen_kind Kinds.left_paren refl e (beyond refl f h)
+no_predecrement s minus N (register_not e f g w) z h = seen_kind Kinds.left_paren refl e (other refl f (no_register _ _ g) h)

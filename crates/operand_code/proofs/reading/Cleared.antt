@@ -1,6 +1,6 @@
 -- The whole operand: its nodes alone stand in the store, and all behind them is cleared.
 -- Assumes nothing.
-use mathlib.Core.Path.{◌≡◌, refl, sym, ◌∙◌, ap, ap₂, subst}
+use mathlib.Core.Path.{◌≡◌, refl, sym, ◌∙◌, ap, subst}
 use mathlib.Core.List.{List, ◌++◌, append-nil}
 use Prim.Native.Nat.{ℕ, ◌-◌, ◌*◌, ◌≤◌}
 use native.Mathlib.Omega.{arith}
@@ -12,7 +12,7 @@ use Rattle.names.specs.declared.tokens.Token.{Token}
 use Rattle.records.specs.declared.counters.Counters.{Counters}
 use Rattle.records.specs.Counters.{counters_are}
 use Rattle.records.specs.Stores.{cleared, added}
-use Rattle.records.specs.Written.{cleared_fits}
+use Rattle.records.specs.Written.{cleared_is}
 use Rattle.expressions.specs.Reader.{Reading, run}
 use Rattle.expressions.specs.declared.source.Source.{Source}
 use Rattle.operand.specs.Operands.{Operand}
@@ -24,16 +24,16 @@ use Rattle.operand_code.specs.Operands.{HeldBy, OperandTold}
 use Rattle.operand_code.specs.Reading.{first, ReadAsks, nodes_alone, OperandFits, NothingTold}
 use Rattle.std.specs.Prelude.{Option, Some, None}
 use Rattle.operand.specs.declared.forms.OperandStep.{OperandStep}
+use Rattle.operand.specs.Forms.{record_of}
+use Rattle.operand_code.proofs.Rooms.{MappedAs, map_is, map_not}
 
--- a store whose first n records are b, cleared behind them
+-- a store whose first n records are v's, cleared behind them
 alone : (v : Option Operand) (N N₁ N₂ : List ℕ) (n : ℕ) → take (10 * n) N₁ ≡ nodes_m v → n ≡ size_m v → length N₁ ≡ length N → 10 * n ≤ length N → N₂ ≡ cleared N₁ (10 * n) (length N₁) → N₂ ≡ nodes_alone v (length N)
 unfolding nodes_alone
 alone v N N₁ N₂ n b e l f k =
-    k
-    ∙ cleared_fits N₁ (10 * n) (length N₁) (omega arith) (omega arith)
-    ∙ ap (λ z. (take (10 * n) N₁ ++ replicate (length N₁ - 10 * n) 0) ++ z) (drop-length N₁)
-    ∙ append-nil (take (10 * n) N₁ ++ replicate (length N₁ - 10 * n) 0)
-    ∙ ap₂ (λ x y. x ++ replicate y 0) b (ap₂ (λ i j. i - 10 * j) l e)
+    cleared_is N₁ (10 * n) (length N₁) b (ap (λ z. 10 * z) e) (drop-length N₁) (omega (arith, l, f)) (omega arith) k
+    ∙ append-nil (nodes_m v ++ replicate (length N₁ - 10 * size_m v) 0)
+    ∙ ap (λ z. nodes_m v ++ replicate (z - 10 * size_m v) 0) l
 
 -- a store that was lent ends as the reference to it that comes back holds it
 pub lent_back : {G : Type 0} {g k : G} {D₁ D₂ : List ℕ} → k ≡ g → (g ≡ k → D₂ ≡ D₁) → D₂ ≡ D₁
@@ -64,21 +64,13 @@ module _ {a : Source} {N N₁ D D₁ : List ℕ} {c : Counters} (k : Token) (h :
 
   module _ {x : OperandRecord} (e : v ≡ Some x) where
     -- the operand that is read
-    record Read : Type 0 where
-      read : Operand
-      value : whole.value ≡ Some read
-
-    is_read : Read
-    is_read = go whole.value refl
-      where
-        go : (z : Option Operand) → whole.value ≡ z → Read
-        go (Some y) q = record { read = y; value = q }
-        go None q = let z : ◌≡◌ {A = ℕ} 0 1 = cc (whole_told.told.what, e) in absurd (omega arith)
+    is_read : MappedAs record_of whole.value x
+    is_read = map_is record_of whole.value (sym whole_told.told.what ∙ e)
 
     -- its nodes are the records that count
     held : (size_m whole.value ≡ r.nodes) × (nodes_m whole.value ≡ take (10 * r.nodes) N₁)
     unfolding HeldBy size_m nodes_m
-    held = let w = rw is_read.value at whole_told.told.held in (rw is_read.value w.1, rw is_read.value w.0)
+    held = let w = rw is_read.is at whole_told.told.held in (rw is_read.is w.1, rw is_read.is w.0)
 
     pub operand_kept : {N₂ : List ℕ} → N₂ ≡ cleared N₁ (10 * r.nodes) (length N₁) → OperandFits (reading_of a.setting.limit a.setting.mark (place a.line.now a.tokens.now) c.at) N D N₂ D₁ (record { operand = Some x; counters = r })
     operand_kept {N₂} e₂ =
@@ -93,16 +85,15 @@ module _ {a : Source} {N N₁ D D₁ : List ℕ} {c : Counters} (k : Token) (h :
   -- without an operand no node is used
   pub nothing_kept : {N₂ : List ℕ} {q : OperandStep} → v ≡ None → NothingTold N₁ N₂ r q → OperandFits (reading_of a.setting.limit a.setting.mark (place a.line.now a.tokens.now) c.at) N D N₂ D₁ q
   unfolding size_m nodes_m
-  nothing_kept {N₂} {q} e w = rw reads (go whole.value refl)
-    where
-      go : (z : Option Operand) → whole.value ≡ z → OperandFits whole N D N₂ D₁ q
-      go (Some y) q = let z : ◌≡◌ {A = ℕ} 0 1 = cc (whole_told.told.what, e) in absurd (omega arith)
-      go None q = record {
+  nothing_kept {N₂} e w =
+      let none = map_not record_of whole.value (sym whole_told.told.what ∙ e) in
+      rw reads
+      (record {
         operand = w.operand ∙ sym e ∙ whole_told.told.what;
-        counters = w.counters ∙ counters_are _ whole.cursor whole.end (size_m whole.value) (length whole.raised) whole_told.told.at whole_told.told.end (sym (ap size_m q)) (omega (arith, whole_told.told.seen));
-        nodes = alone whole.value N N₁ N₂ 0 (sym (ap nodes_m q)) (sym (ap size_m q)) long (omega arith) w.nodes;
+        counters = w.counters ∙ counters_are _ whole.cursor whole.end (size_m whole.value) (length whole.raised) whole_told.told.at whole_told.told.end (sym (ap size_m none)) (omega (arith, whole_told.told.seen));
+        nodes = alone whole.value N N₁ N₂ 0 (sym (ap nodes_m none)) (sym (ap size_m none)) long (omega arith) w.nodes;
         diagnostics = whole_told.told.more;
-      }
+      })
 
 pub nothing_from : {N N' : List ℕ} {c c₁ : Counters} {r : OperandStep} → c₁ ≡ c → NothingTold N N' c₁ r → NothingTold N N' c r
 nothing_from {N} {N'} {r = r} e h = subst (λ z. NothingTold N N' z r) e h

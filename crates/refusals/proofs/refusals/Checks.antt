@@ -1,16 +1,19 @@
 -- The tests of the refusals, each at what the code looks at: a byte of the line, a number in a range, the list.
 -- Assumes nothing.
 use mathlib.Core.Path.{◌≡◌, refl}
-use mathlib.Core.Bool.{Bool, true, false, not, ◌||◌}
+use mathlib.Core.Bool.{Bool, true, false, not, ◌&&◌}
 use mathlib.Core.List.{List}
-use Prim.Native.Nat.{ℕ, ◌+◌, ◌/◌, ◌%◌, ◌≤◌, ◌<◌}
+use Prim.Native.Nat.{ℕ, ◌+◌, ◌≤◌, ◌<◌}
 use native.Mathlib.Omega.{arith}
-use borrow.Author.Tests.{lt-ltb, le-ltb, eq-eqb, ne_eqb}
-use lib.Dec.{eqb, ltb}
+use borrow.Author.Tests.{lt-ltb, le-ltb}
+use lib.Dec.{ltb}
 use lib.ListN.{length, get_or, drop, drop_of_length-le}
+use Rattle.std.specs.Prelude.{Some, cond}
+use Rattle.std.specs.declared.cmp.Ordering.{Ordering}
+use Rattle.std.specs.declared.cmp.Ordering.TheVariants.{Less, Equal, Greater}
+use Rattle.std.specs.Ordering.{is_le, nat_cmp, partial_le, partial_lt}
+use Rattle.std.specs.Cmp.{ranked}
 use Rattle.names.specs.Choice.{either}
-use Rattle.operand.specs.declared.layouts.Layout.{Layout}
-use Rattle.operand.specs.Layouts.{token_size, most_tokens}
 use Rattle.operand.specs.Listed.{from}
 use Rattle.operand.specs.Entry.{foreign}
 
@@ -25,36 +28,21 @@ module _ (l : List ℕ) (i : ℕ) where
   unfolding foreign
   foreign_on h = rw (from l i (i + 1) refl h)
 
--- the code's or
-pub or_either : (a b : Bool) → (a || b) ≡ either a b
-or_either true b = refl
-or_either false b = refl
+-- ---- a number within a range or not
 
-either_true : (a : Bool) → either a true ≡ true
-either_true true = refl
-either_true false = refl
+at_most : (a b : ℕ) → partial_le (λ x y. Some (nat_cmp x y)) a b ≡ not (ltb b a)
+at_most a b = go (nat_cmp a b) refl
+  where
+    go : (o : Ordering) → o ≡ nat_cmp a b → is_le o ≡ not (ltb b a)
+    go Less e = let h : a < b = ranked a b Less e in rw (le-ltb b a (omega arith))
+    go Equal e = let h : a ≡ b = ranked a b Equal e in rw (le-ltb b a (omega arith))
+    go Greater e = let h : b < a = ranked a b Greater e in rw (lt-ltb b a h)
 
--- ---- a number within a range, below it and above it
-
-module _ (low high n : ℕ) where
-  pub within : low ≤ n → n ≤ high → either (ltb n low) (ltb high n) ≡ false
-  within l h = rw (le-ltb n low l, le-ltb high n h)
-
-  pub below : n < low → either (ltb n low) (ltb high n) ≡ true
-  below h = rw (lt-ltb n low h)
-
-  pub above : high < n → either (ltb n low) (ltb high n) ≡ true
-  above h = rw (lt-ltb high n h) (either_true _)
-
--- ---- the list
-
-module _ (w : Layout) (bytes s : ℕ) (size : s ≡ token_size w) where
-  pub no_tokens : (bytes % s ≡ 0 → ⊥) → either (not (eqb (bytes % token_size w) 0)) (ltb (most_tokens w) (bytes / token_size w)) ≡ true
-  no_tokens h = rw (ne_eqb (bytes % token_size w) 0 (rw size at h))
-
-  module _ (n m : ℕ) (count : n ≡ bytes / token_size w) (most : m ≡ most_tokens w) where
-    pub many_tokens : m < n → either (not (eqb (bytes % token_size w) 0)) (ltb (most_tokens w) (bytes / token_size w)) ≡ true
-    many_tokens h = rw (lt-ltb (most_tokens w) (bytes / token_size w) (omega (arith, count, most))) (either_true _)
-
-    pub good_list : bytes % s ≡ 0 → n ≤ m → either (not (eqb (bytes % token_size w) 0)) (ltb (most_tokens w) (bytes / token_size w)) ≡ false
-    good_list e h = rw (eq-eqb (bytes % token_size w) 0 (rw size at e), le-ltb (most_tokens w) (bytes / token_size w) (omega (arith, count, most)))
+pub outside : (low high n a b : ℕ) (spent : Bool) → a ≡ low → b ≡ high → spent ≡ false
+    → not (partial_le (λ x y. Some (nat_cmp x y)) a n && cond spent (partial_lt (λ x y. Some (nat_cmp x y)) n b) (partial_le (λ x y. Some (nat_cmp x y)) n b)) ≡ either (ltb n low) (ltb high n)
+outside low high n a b spent start end fresh = rw (start, end, fresh, at_most low n, at_most n high) (go (ltb n low) (ltb high n))
+  where
+    go : (p q : Bool) → not (not p && not q) ≡ either p q
+    go true q = refl
+    go false true = refl
+    go false false = refl

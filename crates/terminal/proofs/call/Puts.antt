@@ -10,7 +10,7 @@ use Rattle.std.proofs.lemmas.List.{length-drop}
 use borrow.Rule.Slice.PartMut.{put_mid}
 use Rattle.records.specs.Nodes.{low_first}
 use Rattle.records.specs.Stores.{written}
-use Rattle.records.specs.Written.{put_written, length_written, written_more}
+use Rattle.records.specs.Written.{put_written, length_written, written_nothing, written_on}
 use Rattle.operand.specs.declared.layouts.Layout.{Layout}
 use Rattle.operand.specs.Layouts.{operand_size}
 use Rattle.operand.specs.Layout.{bytes_of, head_laid}
@@ -24,16 +24,12 @@ use Rattle.layout.specs.Promise.{given_read, given, EntryPromise}
 use Rattle.layout.specs.Head.{head_size, length_head}
 use Rattle.layout.specs.declared.answer.Answer.{Answer}
 use Rattle.terminal.specs.Exported.{told, number_of, answer_laid, out_after, answered, answer_bytes, answer_bytes_lem, short_answer, exported}
-use Rattle.terminal.proofs.Stays.{written_nothing}
 
 -- one piece behind the other
-two : (O P Q y z : List ℕ) (k : ℕ) → P ≡ written O 0 y → Q ≡ written P k z → k ≡ 0 + length y → 0 + length y + length z ≤ length O → Q ≡ written O 0 (y ++ z)
-two O P Q y z k p q e h = q ∙ ap (λ l. written l k z) p ∙ ap (λ j. written (written O 0 y) j z) e ∙ written_more O 0 y z h
-
 three : (O P Q R x y z : List ℕ) (j k : ℕ) → P ≡ written O 0 x → Q ≡ written P j y → R ≡ written Q k z → j ≡ length x → k ≡ length x + length y
     → length x + length y + length z ≤ length O → R ≡ written O 0 (x ++ (y ++ z))
 three O P Q R x y z j k p q r e f h =
-    two O Q R (x ++ y) z k (two O P Q x y j p q (omega arith) (omega arith)) r (simp length-append (omega arith)) (simp length-append (omega arith))
+    written_on O Q R 0 k (x ++ y) z (written_on O P Q 0 j x y p (omega arith) q (omega arith)) (simp length-append (omega arith)) r (simp length-append (omega arith))
     ∙ ap (written O 0) (append_assoc x y z)
 
 -- the longest answer
@@ -61,7 +57,7 @@ module _ (w : Layout) (x : Answer) (O P : List ℕ) (j : ℕ) (room : answer_byt
       let kept : length P ≡ length O = ap length p ∙ length_written O 0 (head_laid w 1 x.cursor 0 x.diagnostics) (omega (arith, head, answer_bytes_lem w)) in
       let part : length (take (n - j) (drop j P)) ≡ operand_size w + 2 = simp (length-take, length-drop) (omega (arith, kept, answer_bytes_lem w)) in
       let put = put_written P j (n - j) Z Y (z ∙ ap (λ k. replicate k 0) part) (omega (arith, long, answer_bytes_lem w)) (omega (arith, long, kept, answer_bytes_lem w)) in
-      rw e (two O P (put_mid j (n - j) P Z) _ _ j p put (omega (arith, head)) (omega (arith, head, long, answer_bytes_lem w)))
+      rw e (written_on O P (put_mid j (n - j) P Z) 0 j _ _ p (omega (arith, head)) put (omega (arith, head, long, answer_bytes_lem w)))
 
 -- ---- the whole
 
@@ -91,4 +87,4 @@ module _ (a : Input) (N D O : List ℕ) (room : answer_bytes a.layout ≤ length
 
   pub refusal_told : (k : Refusal) (n : ℕ) → EntryPromise a N D (Err k) → n ≡ RefusalNumbers.number k → told n N D O ≡ exported a O
   unfolding given number_of out_after answer_laid
-  refusal_told k n p e = whole (Err k) p O n e (sym (written_nothing O))
+  refusal_told k n p e = whole (Err k) p O n e (sym (written_nothing O 0))

@@ -1,6 +1,6 @@
 -- `decoding::tokens::put_wide` meets its contract.
 -- Assumes nothing.
-use mathlib.Core.Path.{refl}
+use mathlib.Core.Path.{refl, sym}
 use mathlib.Core.List.{[]}
 use Prim.Native.Nat.{◌/◌}
 use native.Mathlib.Omega.{arith}
@@ -8,12 +8,13 @@ use lib.ListN.{length}
 use Rattle.operand.specs.declared.layouts.Layout.{Layout}
 use Rattle.operand.specs.Layouts.{token_numbers, joined_tokens, numbers_count}
 use Rattle.records.specs.Chunks.{number, first}
-use Rattle.decoding.proofs.tokens.Decoding.{none_decoded, one_decoded, all_decoded, joined_at}
+use Rattle.records.specs.Written.{written_nothing}
+use Rattle.decoding.proofs.tokens.Decoding.{one_decoded, all_decoded, joined_at}
 use Rattle.decoding.proofs.tokens.put_wide.Goals as goal
 
 pub loop-i-init : goal.loop-i-init
 loop-i-init c =
-    none_decoded (joined_tokens c.args.tokens.now) c.args.numbers.now
+    sym (written_nothing c.args.numbers.now 0)
 
 pub loop-i-preserved : goal.loop-i-preserved
 unfolding token_numbers

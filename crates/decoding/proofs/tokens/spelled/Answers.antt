@@ -3,22 +3,18 @@
 use mathlib.Core.Path.{sym, ◌∙◌, ap}
 use mathlib.Core.List.{[], ◌∷◌}
 use native.Mathlib.Omega.{arith}
-use borrow.Author.Tests.{ltb-true, ltb-false}
+use borrow.Author.Tests.{ltb-true}
 use Rattle.names.specs.Letters.{same}
-use Rattle.decoding.proofs.tokens.Checks.{sign_any, sign_byte, sign_once, sign_twice}
+use Rattle.decoding.proofs.tokens.Checks.{same_slices, sign_byte, sign_once, sign_twice}
 use Rattle.decoding.proofs.tokens.spelled.Goals as goal
 
 pub returns-in-Some : goal.returns-in-Some
 returns-in-Some c =
     let byte = sign_byte _ _ _ c.in-Some.ensures.lookup.1 c.from.ensures (omega (arith, c.if-kind-lt-SHIFT_LEFT.true)) in
-    c.once.ensures ∙ ap (λ b. same c.args.text.now (b ∷ [])) byte ∙ sym (sign_once _ _ (omega (arith, c.if-kind-lt-SHIFT_LEFT.true)))
+    c.eq.ensures ∙ same_slices _ _ ∙ ap (same c.args.text.now) c.as_slice.ensures ∙ ap (λ b. same c.args.text.now (b ∷ [])) byte ∙ sym (sign_once _ _ (omega (arith, c.if-kind-lt-SHIFT_LEFT.true)))
 
 pub returns-in-Some-2 : goal.returns-in-Some-2
 returns-in-Some-2 c =
     let within = ltb-true c.from.result 21 (sym c.in-Some.ensures.lookup.0) in
     let byte = sign_byte _ _ _ c.in-Some.ensures.lookup.1 c.from.ensures (omega (arith, within, c.from.ensures)) in
-    c.twice.ensures ∙ ap (λ b. same c.args.text.now (b ∷ b ∷ [])) byte ∙ sym (sign_twice _ _ (omega (arith, c.if-kind-lt-SHIFT_LEFT.false, c.requires)) (omega (arith, within, c.from.ensures)))
-
-pub returns-in-None : goal.returns-in-None
-returns-in-None c =
-    sym (sign_any _ _ (omega (arith, ltb-false c.from.result 21 (sym c.in-None.ensures.lookup.0), c.from.ensures)))
+    c.eq-in-Some-2.ensures ∙ same_slices _ _ ∙ ap (same c.args.text.now) c.as_slice-in-Some-2.ensures ∙ ap (λ b. same c.args.text.now (b ∷ b ∷ [])) byte ∙ sym (sign_twice _ _ (omega (arith, c.if-kind-lt-SHIFT_LEFT.false, c.requires)) (omega (arith, within, c.from.ensures)))

@@ -2,17 +2,15 @@
 -- Assumes nothing.
 use mathlib.Core.Path.{◌≡◌, sym}
 use mathlib.Core.List.{List}
-use Prim.Native.Nat.{ℕ, ◌*◌}
+use Prim.Native.Nat.{ℕ}
 use native.Mathlib.Omega.{arith}
 use borrow.Author.Rules.{rules}
 use lib.Seq.{length-take-le}
 use Rattle.std.specs.Prelude.{Err}
-use Rattle.operand.specs.Layouts.{numbers_count}
 use Rattle.operand.specs.Entry.{Input, call}
-use Rattle.operand.proofs.Conditions.{valid_limit}
 use Rattle.entry.specs.declared.call.Given.{Given}
-use Rattle.entry.proofs.call.Refusals.{token_refused, store_refused, valid}
-use Rattle.entry.proofs.call.Outcomes.{never_unfit, is_read}
+use Rattle.entry.proofs.call.Refusals.{list_fits, token_refused, store_refused}
+use Rattle.entry.proofs.call.Outcomes.{limit_few, never_unfit, is_read}
 use Rattle.entry.proofs.call.read_operand.Goals as goal
 
 abbrev input : Given → List ℕ → List ℕ → List ℕ → List ℕ → Input
@@ -30,26 +28,20 @@ returns-in_err-refuse_start_stores_and_limit c =
 
 pub slice_bounds-numbers-end : goal.slice_bounds-numbers-end
 slice_bounds-numbers-end c =
-    omega (arith, c.token_count-count.ensures, numbers_count c.args.given.layout c.args.tokens.now, c.requires.tokens, c.decode_tokens.auto)
+    omega (arith, list_fits c.requires c.token_count-count.ensures, c.decode_tokens.auto)
 
 pub slice_bounds-numbers-end-2 : goal.slice_bounds-numbers-end-2
 slice_bounds-numbers-end-2 c =
-    sym (length-take-le _ _ (omega (arith, c.token_count-count.ensures, numbers_count c.args.given.layout c.args.tokens.now, c.requires.tokens, c.decode_tokens.auto)))
+    sym (length-take-le _ _ (omega (arith, list_fits c.requires c.token_count-count.ensures, c.decode_tokens.auto)))
 
 pub overflow_cast-depth : goal.overflow_cast-depth
 overflow_cast-depth c =
-    let a = input c.args.given c.args.line.now c.args.tokens.now c.args.nodes.now c.args.diagnostics.now in
-    let v = valid a c.requires.passed _ _ c.requires.tokens c.in_ok-decode_tokens.ensures _ c.token_count-count.ensures c.in_ok-refuse_start_stores_and_limit.ensures in
-    omega (arith, valid_limit a v)
+    omega (arith, limit_few (input c.args.given c.args.line.now c.args.tokens.now c.args.nodes.now c.args.diagnostics.now) _ _ _ _ c.requires c.in_ok-decode_tokens.ensures c.token_count-count.ensures c.in_ok-refuse_start_stores_and_limit.ensures)
 
 pub returns : goal.returns
 returns c =
-    let a = input c.args.given c.args.line.now c.args.tokens.now c.args.nodes.now c.args.diagnostics.now in
-    let v = valid a c.requires.passed _ _ c.requires.tokens c.in_ok-decode_tokens.ensures _ c.token_count-count.ensures c.in_ok-refuse_start_stores_and_limit.ensures in
-    is_read a _ _ _ _ _ _ v c.requires c.decode_tokens.ensures.numbers (4 * c.token_count-count.result) (omega (arith, c.token_count-count.ensures, numbers_count c.args.given.layout c.args.tokens.now)) _ c.operand_at-read.ensures _ (grind arith) _ _ _ c.answered.ensures
+    is_read _ _ _ _ _ c.requires c.in_ok-decode_tokens.ensures c.token_count-count.ensures c.in_ok-refuse_start_stores_and_limit.ensures _ c.operand_at-read.ensures _ (grind arith) _ _ _ c.answered.ensures
 
 pub returns-in_err-r : goal.returns-in_err-r
 returns-in_err-r c =
-    let a = input c.args.given c.args.line.now c.args.tokens.now c.args.nodes.now c.args.diagnostics.now in
-    let v = valid a c.requires.passed _ _ c.requires.tokens c.in_ok-decode_tokens.ensures _ c.token_count-count.ensures c.in_ok-refuse_start_stores_and_limit.ensures in
-    absurd (never_unfit a _ _ _ _ _ _ v c.requires c.decode_tokens.ensures.numbers (4 * c.token_count-count.result) (omega (arith, c.token_count-count.ensures, numbers_count c.args.given.layout c.args.tokens.now)) _ c.operand_at-read.ensures (grind arith))
+    absurd (never_unfit (input c.args.given c.args.line.now c.args.tokens.now c.args.nodes.now c.args.diagnostics.now) _ _ _ _ c.requires c.in_ok-decode_tokens.ensures c.token_count-count.ensures c.in_ok-refuse_start_stores_and_limit.ensures _ c.operand_at-read.ensures (grind arith))

@@ -9,4 +9,4 @@ returns-then-is_reserved_name-clause-told c =
 
 pub returns-clause-told : goal.returns-clause-told
 returns-clause-told c =
-    name_read _ c.is_reserved_name.ensures c.text_of.ensures c.if-is_reserved_name.false c.from-span.ensures c.packed.ensures c.read_leaf.ensures
+    name_read _ c.is_reserved_name.ensures c.text_of.ensures c.if-is_reserved_name.false c.from-span.ensures c.symbol_leaf.ensures

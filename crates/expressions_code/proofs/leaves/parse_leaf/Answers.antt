@@ -21,7 +21,7 @@ returns-in-0-clause-told c =
 
 pub returns-in-1-clause-told : goal.returns-in-1-clause-told
 returns-in-1-clause-told c =
-    local_told c.requires.1 c.step_over.ensures c.from-span.ensures c.packed-in-1.ensures c.in-1.is c.read_leaf-in-1.ensures
+    local_told c.requires.1 c.step_over.ensures c.from-span.ensures c.in-1.is c.symbol_leaf.ensures
 
 pub returns-in-29-clause-told : goal.returns-in-29-clause-told
 returns-in-29-clause-told c =

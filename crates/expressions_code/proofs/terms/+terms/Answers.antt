@@ -6,11 +6,12 @@ use native.Mathlib.Omega.{arith}
 use mathlib.Core.Path.{refl, sym, ◌∙◌}
 use Rattle.expressions.specs.Paths.{told_one}
 use Rattle.names.specs.Places.{live}
-use Rattle.records.specs.Spans.{blank}
-use Rattle.expressions_code.proofs.terms.Returns.{err_given, absent_quiet, read_on, read_some, read_on_some, prefix_full, prefix_end, prefix_unary, prefix_plus, prefix_group, prefix_leaf, unary_reads, unary_fails, plus_reads, plus_fails, expression_reads, expression_fails}
+use Rattle.expressions_code.proofs.terms.Returns.{err_given, some_of, none_of, absent_quiet, read_on, read_some, read_on_some, a_unary, no_unary, prefix_full, prefix_end, prefix_unary, prefix_plus, prefix_group, prefix_leaf, unary_reads, unary_fails, plus_tells, expression_reads, expression_fails}
 use Rattle.expressions_code.proofs.terms.Closings.{group_fails, group_tells}
 use Rattle.expressions_code.proofs.terms.Climbs.{climb_ends, climb_lows, operated_fails, operated_reads}
 use Rattle.expressions_code.proofs.terms.Turns.{again, ends}
+use Rattle.expressions.specs.Expressions.{is_unary}
+use Rattle.expressions_code.specs.Terms.{node_told}
 use Rattle.expressions_code.proofs.terms.+terms.Goals as goal
 
 pub parse_expression-returns-in_err-term-clause-told : goal.parse_expression-returns-in_err-term-clause-told
@@ -51,39 +52,38 @@ parse_operated-returns-in_err-term-clause-told t c =
 
 pub parse_operated-returns-clause-told : goal.parse_operated-returns-clause-told
 parse_operated-returns-clause-told t c =
-    operated_reads c.requires.0 c.requires.1 c.step_over.ensures (read_on c.parse_prefix-read.ensures.told c.expected.ensures.told c.in_ok-term.was) refl c.precedence-above.ensures c.binary_operator-operator.ensures c.parse_expression_from-right.ensures.told c.put_operator.ensures
+    operated_reads c.requires.0 c.requires.1 c.step_over.ensures (read_on c.parse_prefix-read.ensures.told c.expected.ensures.told c.in_ok-term.was) refl c.precedence-above.ensures c.binary_operator.ensures c.parse_expression_from-right.ensures.told (node_told _ (rw c.from.ensures refl) (omega (arith, c.requires.0, live _ _ _ c.requires.1, c.step_over.ensures, c.parse_prefix-read.auto, c.parse_expression_from-right.auto, c.parse_expression_from-right.ensures.told, read_on c.parse_prefix-read.ensures.told c.expected.ensures.told c.in_ok-term.was)) c.put_counted.ensures.put c.put_counted.ensures.counted)
 
-pub parse_plus-returns-in-Ok-clause-told : goal.parse_plus-returns-in-Ok-clause-told
-parse_plus-returns-in-Ok-clause-told t c =
-    plus_reads _ c.requires c.parse_prefix.ensures.told _ c.in-Ok.is c.from-span.ensures c.plain.ensures (told_one (omega (arith, c.requires, c.parse_prefix.ensures.told)) c.raise.ensures.told c.raise.ensures.counted)
-
-pub parse_plus-returns-in-Err-clause-told : goal.parse_plus-returns-in-Err-clause-told
-parse_plus-returns-in-Err-clause-told t c =
-    plus_fails _ c.requires c.parse_prefix.ensures.told _ _ c.in-Err.is c.from-span.ensures (rw (blank c.default.ensures) at c.plain-in-Err.ensures) c.report.ensures.told
+pub parse_plus-returns-clause-told : goal.parse_plus-returns-clause-told
+parse_plus-returns-clause-told t c =
+    plus_tells _ c.requires c.parse_prefix-read.ensures.told _ _ refl c.unwrap_or_default.ensures c.or.ensures c.from.ensures c.plain.ensures (told_one (omega (arith, c.requires, c.parse_prefix-read.ensures.told)) c.raise.ensures.told c.raise.ensures.counted)
 
 pub parse_prefix-returns-then-room-eq0-clause-told : goal.parse_prefix-returns-then-room-eq0-clause-told
 parse_prefix-returns-then-room-eq0-clause-told t c =
     prefix_full _ c.requires c.if-room-eq0.true c.too_deep.ensures.told
 
-pub parse_prefix-returns-in_default-clause-told : goal.parse_prefix-returns-in_default-clause-told
-parse_prefix-returns-in_default-clause-told t c =
-    prefix_end _ c.requires c.if-room-eq0.false (sym c.peek.ensures ∙ c.in_default.is)
+pub parse_prefix-returns-in_err-t-clause-told : goal.parse_prefix-returns-in_err-t-clause-told
+parse_prefix-returns-in_err-t-clause-told t c =
+    let n = none_of _ _ _ (sym c.ok_or.ensures.value ∙ c.in_err-t.was) in
+    rw (err_given _ _ c.from_residual.ensures.1, n.1) (prefix_end _ c.requires c.if-room-eq0.false (sym c.peek.ensures ∙ n.0))
 
-pub parse_prefix-returns-then-is_unary-clause-told : goal.parse_prefix-returns-then-is_unary-clause-told
-parse_prefix-returns-then-is_unary-clause-told t c =
-    prefix_unary _ c.requires c.if-room-eq0.false (sym c.peek.ensures ∙ c.in-Some.is) c.step_over.ensures (sym (c.is_unary.ensures _) ∙ c.if-is_unary.true) c.parse_unary.ensures.told
+pub parse_prefix-returns-in-15-clause-told : goal.parse_prefix-returns-in-15-clause-told
+parse_prefix-returns-in-15-clause-told t c =
+    prefix_unary _ c.requires c.if-room-eq0.false (sym c.peek.ensures ∙ some_of _ _ _ (sym c.ok_or.ensures.value ∙ c.in_ok-t.was)) c.step_over.ensures (a_unary _ _ c.in-15.is) c.parse_unary.ensures.told
 
 pub parse_prefix-returns-in-14-clause-told : goal.parse_prefix-returns-in-14-clause-told
+unfolding is_unary
 parse_prefix-returns-in-14-clause-told t c =
-    prefix_plus _ c.requires c.if-room-eq0.false (sym c.peek.ensures ∙ c.in-Some.is) c.step_over-in-14.ensures (sym (c.is_unary.ensures _) ∙ c.if-is_unary.false) c.in-14.is c.parse_plus.ensures.told
+    prefix_plus _ c.requires c.if-room-eq0.false (sym c.peek.ensures ∙ some_of _ _ _ (sym c.ok_or.ensures.value ∙ c.in_ok-t.was)) c.step_over-in-14.ensures (rw c.in-14.is refl) c.in-14.is c.parse_plus.ensures.told
 
 pub parse_prefix-returns-in-7-clause-told : goal.parse_prefix-returns-in-7-clause-told
+unfolding is_unary
 parse_prefix-returns-in-7-clause-told t c =
-    prefix_group _ c.requires c.if-room-eq0.false (sym c.peek.ensures ∙ c.in-Some.is) c.step_over-in-7.ensures (sym (c.is_unary.ensures _) ∙ c.if-is_unary.false) c.in-7.is c.parse_group.ensures.told
+    prefix_group _ c.requires c.if-room-eq0.false (sym c.peek.ensures ∙ some_of _ _ _ (sym c.ok_or.ensures.value ∙ c.in_ok-t.was)) c.step_over-in-7.ensures (rw c.in-7.is refl) c.in-7.is c.parse_group.ensures.told
 
-pub parse_prefix-returns-in_default-kind-clause-told : goal.parse_prefix-returns-in_default-kind-clause-told
-parse_prefix-returns-in_default-kind-clause-told t c =
-    prefix_leaf _ c.requires c.if-room-eq0.false (sym c.peek.ensures ∙ c.in-Some.is) (sym (c.is_unary.ensures _) ∙ c.if-is_unary.false) (search) (search) c.parse_leaf.ensures.told
+pub parse_prefix-returns-in_default-clause-told : goal.parse_prefix-returns-in_default-clause-told
+parse_prefix-returns-in_default-clause-told t c =
+    prefix_leaf _ c.requires c.if-room-eq0.false (sym c.peek.ensures ∙ some_of _ _ _ (sym c.ok_or.ensures.value ∙ c.in_ok-t.was)) (no_unary _ _ (search)) (search) (search) c.parse_leaf.ensures.told
 
 pub parse_unary-returns-in_err-term-clause-told : goal.parse_unary-returns-in_err-term-clause-told
 parse_unary-returns-in_err-term-clause-told t c =
@@ -91,7 +91,7 @@ parse_unary-returns-in_err-term-clause-told t c =
 
 pub parse_unary-returns-clause-told : goal.parse_unary-returns-clause-told
 parse_unary-returns-clause-told t c =
-    unary_reads _ c.requires (read_on c.parse_prefix-read.ensures.told c.expected.ensures.told c.in_ok-term.was) _ refl c.unary_operator-operator.ensures c.put_operator.ensures
+    unary_reads _ c.requires (read_on c.parse_prefix-read.ensures.told c.expected.ensures.told c.in_ok-term.was) _ refl c.unary_operator.ensures (node_told _ (rw c.from.ensures refl) (omega (arith, c.requires, c.parse_prefix-read.auto, read_on c.parse_prefix-read.ensures.told c.expected.ensures.told c.in_ok-term.was)) c.put_counted.ensures.put c.put_counted.ensures.counted)
 
 pub parse_operated-expected-requires : goal.parse_operated-expected-requires
 parse_operated-expected-requires t c =
@@ -105,6 +105,6 @@ pub parse_group-close_group-requires : goal.parse_group-close_group-requires
 parse_group-close_group-requires t c =
     let g = read_on c.parse_expression-read.ensures.told c.expected.ensures.told c.in_ok-expected.was in omega (arith, c.requires, g, read_some g refl)
 
-pub parse_unary-overflow_sub-operand : goal.parse_unary-overflow_sub-operand
-parse_unary-overflow_sub-operand t c =
+pub parse_unary-overflow_sub-unary : goal.parse_unary-overflow_sub-unary
+parse_unary-overflow_sub-unary t c =
     read_on_some c.parse_prefix-read.ensures.told c.expected.ensures.told c.in_ok-term.was

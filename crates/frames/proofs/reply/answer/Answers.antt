@@ -1,43 +1,39 @@
 -- `frames::reply::answer` meets its contract.
 -- Assumes nothing.
-use mathlib.Core.Path.{◌≡◌}
 use native.Mathlib.Omega.{arith}
-use Rattle.frames.proofs.batches.Turns.{held_long, held_narrow, held_refused, held_wide, wide_some, narrow_asks}
-use Rattle.frames.proofs.reply.Putting.{put_as}
+use lib.Seq.{length-take-le}
+use Rattle.frames.proofs.batches.Turns.{layout_by, held_long, held_narrow, held_over, held_wide, narrow_stores}
+use Rattle.frames.proofs.output.Filling.{put_as}
 use Rattle.frames.proofs.reply.answer.Goals as goal
-
-pub returns-then-held-gt-LONGEST : goal.returns-then-held-gt-LONGEST
-returns-then-held-gt-LONGEST c =
-    put_as _ _ (held_long c.args.held c.min.result c.args.carry.now c.layout_of-layout.result (omega (arith, c.if-held-gt-LONGEST.true)) (omega (arith, c.min.ensures, c.if-held-gt-LONGEST.true)) c.layout_of-layout.ensures) c.refuse.ensures
-
-pub returns-then-held-gt-LONGEST_NARROW : goal.returns-then-held-gt-LONGEST_NARROW
-returns-then-held-gt-LONGEST_NARROW c =
-    let all : c.min.result ≡ c.args.held = omega (arith, c.min.ensures, c.if-held-gt-LONGEST.false) in
-    put_as _ _ (held_refused c.args.held c.min.result c.args.carry.now (omega (arith, c.if-held-gt-LONGEST.false)) all c.layout_of-layout.result c.layout_of-layout.ensures c.in-Narrow.is (omega (arith, c.if-held-gt-LONGEST_NARROW.true)) (omega (arith, c.if-held-gt-LONGEST.false, c.requires))) c.refuse-then-held-gt-LONGEST_NARROW.ensures
 
 pub answer_digits-requires : goal.answer_digits-requires
 answer_digits-requires c =
-    narrow_asks c.layout_of-layout.result c.args.carry.now c.args.frame.now c.args.nodes.now c.args.diagnostics.now c.args.out.now c.min.result c.args.at c.in-Narrow.is c.requires (omega (arith, c.min.ensures, c.if-held-gt-LONGEST_NARROW.false))
+    let s = narrow_stores in
+    record {
+      stores = record { fits = omega (arith, length-take-le c.min.result c.args.carry.now (omega (arith, c.min.ensures)), c.min.ensures); nodes_long = omega (arith, s.0); diagnostics_long = omega (arith, s.1) };
+      room = c.requires;
+    }
 
-pub returns-then-held-gt-LONGEST_LAWFUL : goal.returns-then-held-gt-LONGEST_LAWFUL
-returns-then-held-gt-LONGEST_LAWFUL c =
-    let all : c.min.result ≡ c.args.held = omega (arith, c.min.ensures, c.if-held-gt-LONGEST.false) in
-    put_as _ _ (held_wide c.args.held c.min.result c.args.carry.now (omega (arith, c.if-held-gt-LONGEST.false)) all c.in-Wide.ensures) c.answer_wide.ensures
+pub returns-in-Some-clause-wrote : goal.returns-in-Some-clause-wrote
+returns-in-Some-clause-wrote c =
+    let more = c.if-held-gt-LONGEST.true in
+    put_as _ _ (held_long c.args.held c.min.result c.args.carry.now _ (omega (arith, more)) (omega (arith, c.min.ensures, more)) (layout_by _ _ c.in-Some.ensures.cases.0)) c.refuse.ensures.wrote
 
-pub slice_bounds-answer_wide-count-in-Wide : goal.slice_bounds-answer_wide-count-in-Wide
-slice_bounds-answer_wide-count-in-Wide c =
-    wide_some _ c.in-Wide.ensures
+pub returns-in-Some-2-clause-wrote : goal.returns-in-Some-2-clause-wrote
+returns-in-Some-2-clause-wrote c =
+    let all = c.if-held-gt-LONGEST.false in
+    put_as _ _ (held_wide c.args.held c.min.result c.args.carry.now (omega (arith, all)) (omega (arith, c.min.ensures, all)) _ (rw (← c.in-Some-2.rest-is) at c.in-Some-2.ensures.cases.1) (layout_by _ _ c.in-Some-2.ensures.cases.0)) c.answer_wide.ensures.wrote
 
-pub slice_bounds-answer_wide-start-in-Wide : goal.slice_bounds-answer_wide-start-in-Wide
-slice_bounds-answer_wide-start-in-Wide c =
-    wide_some _ c.in-Wide.ensures
+pub returns-in-Some-3-clause-wrote : goal.returns-in-Some-3-clause-wrote
+returns-in-Some-3-clause-wrote c =
+    let all = c.if-held-gt-LONGEST.false in
+    put_as _ _ (held_wide c.args.held c.min.result c.args.carry.now (omega (arith, all)) (omega (arith, c.min.ensures, all)) _ (rw (← c.in-Some-3.rest-is) at c.in-Some-3.ensures.cases.1) (layout_by _ _ c.in-Some-3.ensures.cases.0)) c.answer_wide-in-Some-3.ensures.wrote
 
-pub returns-else-held-gt-LONGEST_NARROW : goal.returns-else-held-gt-LONGEST_NARROW
-returns-else-held-gt-LONGEST_NARROW c =
-    let all : c.min.result ≡ c.args.held = omega (arith, c.min.ensures, c.if-held-gt-LONGEST.false) in
-    put_as _ _ (held_narrow c.args.held c.min.result c.args.carry.now (omega (arith, c.if-held-gt-LONGEST.false)) all c.layout_of-layout.result c.layout_of-layout.ensures c.in-Narrow.is) c.answer_digits.ensures
+pub returns-in-None-clause-wrote : goal.returns-in-None-clause-wrote
+returns-in-None-clause-wrote c =
+    put_as _ _ (held_over c.args.held c.min.result c.args.carry.now (omega arith) (λ h. omega (arith, c.min.ensures)) (λ h. omega (arith, c.min.ensures)) (layout_by _ _ c.in-None.ensures.cases) (omega (arith, c.if-held-gt-LONGEST_NARROW.true))) c.refuse-in-None.ensures.wrote
 
-pub returns-else-held-gt-LONGEST_LAWFUL : goal.returns-else-held-gt-LONGEST_LAWFUL
-returns-else-held-gt-LONGEST_LAWFUL c =
-    let all : c.min.result ≡ c.args.held = omega (arith, c.min.ensures, c.if-held-gt-LONGEST.false) in
-    put_as _ _ (held_wide c.args.held c.min.result c.args.carry.now (omega (arith, c.if-held-gt-LONGEST.false)) all c.in-Wide.ensures) c.answer_wide-in-Wide.ensures
+pub returns-in-None-2-clause-wrote : goal.returns-in-None-2-clause-wrote
+returns-in-None-2-clause-wrote c =
+    let few = c.if-held-gt-LONGEST_NARROW.false in
+    put_as _ _ (held_narrow c.args.held c.min.result c.args.carry.now (omega (arith, few)) (omega (arith, c.min.ensures, few)) (layout_by _ _ c.in-None-2.ensures.cases)) c.answer_digits.ensures.wrote

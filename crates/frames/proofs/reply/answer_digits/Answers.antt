@@ -4,7 +4,7 @@ use mathlib.Core.Path.{ap}
 use native.Mathlib.Omega.{arith}
 use Rattle.frames.specs.Inner.{ReadTold}
 use Rattle.frames.specs.Reply.{ended}
-use Rattle.frames.proofs.reply.Putting.{put_as}
+use Rattle.frames.proofs.output.Filling.{put_as}
 use Rattle.frames.proofs.reply.Replies.{put_asks}
 use Rattle.frames.proofs.reply.answer_digits.Goals as goal
 
@@ -15,18 +15,18 @@ read_digits-requires c =
 pub put_answer-requires : goal.put_answer-requires
 unfolding ReadTold
 put_answer-requires c =
-    put_asks c.args.layout c.args.line.now _ _ _ _ _ (rw c.in-Ok.is at c.read_digits.ensures) (omega (arith, c.requires.stores, c.read_digits.auto)) (omega (arith, c.requires.stores, c.read_digits.auto)) c.requires.room
+    put_asks c.args.layout c.args.line.now _ _ _ _ (rw c.in-Ok.is at c.read_digits.ensures) (omega (arith, c.requires.stores, c.read_digits.auto)) (omega (arith, c.requires.stores, c.read_digits.auto)) c.requires.room
 
 pub refuse-requires : goal.refuse-requires
 refuse-requires c =
     omega (arith, c.requires.room)
 
-pub returns-in-Ok : goal.returns-in-Ok
+pub returns-in-Ok-clause-wrote : goal.returns-in-Ok-clause-wrote
 unfolding ReadTold
-returns-in-Ok c =
-    put_as _ _ (ap (ended c.args.layout) (rw c.in-Ok.is at c.read_digits.ensures).bytes) c.put_answer.ensures
+returns-in-Ok-clause-wrote c =
+    put_as _ _ (ap (ended c.args.layout) (rw c.in-Ok.is at c.read_digits.ensures).bytes) c.put_answer.ensures.wrote
 
-pub returns-in-Err : goal.returns-in-Err
+pub returns-in-Err-clause-wrote : goal.returns-in-Err-clause-wrote
 unfolding ReadTold
-returns-in-Err c =
-    put_as _ _ (ap (ended c.args.layout) (rw c.in-Err.is at c.read_digits.ensures)) c.refuse.ensures
+returns-in-Err-clause-wrote c =
+    put_as _ _ (ap (ended c.args.layout) (rw c.in-Err.is at c.read_digits.ensures)) c.refuse.ensures.wrote

@@ -1,24 +1,23 @@
 -- `operand_code::absolutes::displaced_or_absolute` meets its contract.
 -- Assumes nothing.
-use mathlib.Core.Path.{sym, ◌∙◌}
+use mathlib.Core.Path.{◌∙◌, ap}
 use native.Mathlib.Omega.{arith}
-use Rattle.names.specs.Kinds
+use Rattle.std.specs.Prelude.{option_map}
 use Rattle.operand.specs.Operand.{displacement_tail}
-use Rattle.expressions.specs.Paths.{hit_kind, miss_kind}
-use Rattle.operand_code.proofs.operands.Behind.{base_over}
-use Rattle.operand_code.proofs.Rooms.{over_room, room_over_kind}
+use Rattle.expressions.specs.Paths.{hit_next, miss_next}
+use Rattle.operand.specs.Operands.{displaced}
+use Rattle.operand_code.proofs.bases.Tails.{kept_from}
+use Rattle.operand_code.proofs.operands.Behind.{base_behind}
 use Rattle.operand_code.proofs.absolutes.displaced_or_absolute.Goals as goal
 
 pub returns-in_default-clause-told : goal.returns-in_default-clause-told
 unfolding displacement_tail
 returns-in_default-clause-told c =
-    record { told = λ e n v. miss_kind Kinds.left_paren (sym c.peek_kind.ensures ∙ c.in_default.is) (c.finish_expression_operand.ensures.told.told e n v) }
-
-pub parse_base_and_index-requires : goal.parse_base_and_index-requires
-parse_base_and_index-requires c =
-    omega (arith, room_over_kind c.requires c.step_over.ensures Kinds.left_paren (sym c.peek_kind.ensures ∙ c.in-Some.is))
+    let h = c.opening_at.ensures.next in
+    record { told = λ e n v. miss_next h (ap (option_map _) c.in_default.is) (kept_from (displaced e 0) h.nodes (c.finish_expression_operand.ensures.told.told e (h.nodes ∙ n) v)) }
 
 pub returns-clause-told : goal.returns-clause-told
 unfolding displacement_tail
 returns-clause-told c =
-    record { told = λ e n v. hit_kind Kinds.left_paren (sym c.peek_kind.ensures ∙ c.in-Some.is) (over_room c.requires c.step_over.ensures) (base_over e n c.last_tree-d.ensures c.step_over.ensures c.parse_base_and_index.ensures.told) }
+    let h = c.opening_at.ensures.next in
+    record { told = λ e n v. hit_next h (ap (option_map _) c.in-Some.is) (omega (arith, c.requires)) (base_behind e n (c.opening_at.ensures.tree _ c.in-Some.is) h.nodes c.parse_base_and_index.ensures.told) }

@@ -2,7 +2,6 @@
 -- Assumes nothing.
 use mathlib.Core.Path.{refl, sym, ◌∙◌}
 use native.Mathlib.Omega.{arith}
-use Rattle.records.specs.Counters.{over_is}
 use Rattle.operand_code.proofs.bases.Tails.{base_displaced, base_indirect, base_postincrement}
 use Rattle.operand_code.proofs.bases.closed_base.Goals as goal
 
@@ -12,8 +11,8 @@ returns-then-is_some-clause-told c =
 
 pub returns-in_default-clause-told : goal.returns-in_default-clause-told
 returns-in_default-clause-told c =
-    record { told = λ y e z. base_indirect _ _ _ y e (sym c.is_some.ensures ∙ c.if-is_some.false) refl c.span_to-span.ensures c.plain_operand-in_default.ensures (sym c.peek_kind.ensures ∙ c.in_default.is) }
+    record { told = λ y e z. base_indirect _ _ _ y e (sym c.is_some.ensures ∙ c.if-is_some.false) refl c.span_to-span.ensures c.plain_operand-in_default.ensures c.next_of_kind.ensures c.in_default.is }
 
 pub returns-clause-told : goal.returns-clause-told
 returns-clause-told c =
-    record { told = λ y e z. base_postincrement _ _ _ y e (sym c.is_some.ensures ∙ c.if-is_some.false) refl c.span_to.ensures c.plain_operand-2.ensures (sym c.peek_kind.ensures ∙ c.in-Some.is) (over_is (omega (arith, c.requires)) c.step_over.ensures) }
+    record { told = λ y e z. base_postincrement _ _ _ y e (sym c.is_some.ensures ∙ c.if-is_some.false) refl c.span_to.ensures c.plain_operand-2.ensures c.next_of_kind.ensures c.in-Some.is (omega (arith, c.requires)) }

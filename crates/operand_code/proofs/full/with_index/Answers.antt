@@ -3,13 +3,14 @@
 use mathlib.Core.Path.{refl, sym, ◌∙◌}
 use Rattle.operand.specs.Operand.{or_none}
 use Rattle.expressions.specs.Paths.{answered, bound}
+use Rattle.operand_code.proofs.malformed.Failures.{stopped}
 use Rattle.operand_code.proofs.full.with_index.Goals as goal
 
 pub returns-in_err-x-clause-told : goal.returns-in_err-x-clause-told
 unfolding or_none
 returns-in_err-x-clause-told c =
     let t = c.parse_index_register.ensures.told in
-    bound t (sym t.what ∙ c.in_err-x.was) (answered c.from_residual.ensures refl t.held)
+    stopped _ t c.in_err-x.was c.from_residual.ensures t.held
 
 pub returns-clause-told : goal.returns-clause-told
 unfolding or_none

@@ -1,31 +1,25 @@
 -- `operand_code::immediates::parse_immediate` meets its contract.
 -- Assumes nothing.
-use mathlib.Core.Path.{refl, ◌∙◌, ap}
+use mathlib.Core.Path.{refl}
 use native.Mathlib.Omega.{arith}
-use Rattle.std.specs.Prelude.{Err}
 use Rattle.operand.specs.Operand.{parse_immediate, or_absent}
-use Rattle.operand_code.proofs.expressed.Trees.{tree_read, absent_room}
-use Rattle.operand_code.proofs.Holdings.{nothing_stored, tree_stored, tree_stands, stands_size, behind_tree, behind_reported, behind_absent}
-use Rattle.operand_code.proofs.operands.Behind.{fails_stored}
+use Rattle.operand_code.proofs.expressed.Trees.{tree_read}
+use Rattle.operand_code.proofs.Holdings.{tree_stored, tree_stands, stands_size, behind_tree}
+use Rattle.operand_code.proofs.operands.Behind.{or_read, or_fails}
 use Rattle.operand_code.proofs.immediates.parse_immediate.Goals as goal
+
+pub returns-in_err-span-clause-told : goal.returns-in_err-span-clause-told
+unfolding parse_immediate
+returns-in_err-span-clause-told c =
+    record { told = rw c.from_residual.ensures (or_fails c.args.source.now.setting _ c.requires.0 c.expression_or.ensures.told c.in_err-span.was) }
 
 pub immediate_size-requires : goal.immediate_size-requires
 immediate_size-requires c =
-    (tree_read _ _ c.requires.0 c.expression_at.ensures.told c.in-Ok.is (omega (arith, c.expression_at.auto))).room.room
+    (tree_read _ _ c.requires.0 (or_read c.expression_or.ensures.told c.in_ok-span.was) refl (omega (arith, c.expression_or.auto))).room.room
 
-pub returns-in-Ok-clause-told : goal.returns-in-Ok-clause-told
+pub returns-clause-told : goal.returns-clause-told
 unfolding parse_immediate or_absent
-returns-in-Ok-clause-told c =
-    let t = tree_read _ _ c.requires.0 c.expression_at.ensures.told c.in-Ok.is (omega (arith, c.expression_at.auto)) in
-    record { told = behind_tree _ _ c.requires.0 c.expression_at.ensures.told t (tree_stored _ (tree_stands t c.requires.1) (c.immediate_size.ensures.told.told _ (stands_size (tree_stands t c.requires.1)) t.span)) }
-
-pub returns-in-Err-Reported-clause-told : goal.returns-in-Err-Reported-clause-told
-unfolding parse_immediate or_absent
-returns-in-Err-Reported-clause-told c =
-    record { told = behind_reported _ _ c.requires.0 c.expression_at.ensures.told (c.in-Err-Reported.is ∙ ap Err c.in-Err-Reported.field-0-is) (nothing_stored _ refl refl) }
-
-pub returns-in-Err-Absent-clause-told : goal.returns-in-Err-Absent-clause-told
-unfolding parse_immediate or_absent
-returns-in-Err-Absent-clause-told c =
-    let a = c.in-Err-Absent.is ∙ ap Err c.in-Err-Absent.field-0-is in
-    record { told = behind_absent _ _ c.requires.0 c.expression_at.ensures.told a (fails_stored (absent_room _ _ c.requires.0 c.expression_at.ensures.told a) c.expression_expected.ensures c.raise.ensures.told c.raise.ensures.counted _) }
+returns-clause-told c =
+    let p = or_read c.expression_or.ensures.told c.in_ok-span.was in
+    let t = tree_read _ _ c.requires.0 p refl (omega (arith, c.expression_or.auto)) in
+    record { told = behind_tree _ _ c.requires.0 p t (tree_stored _ (tree_stands t c.requires.1) (c.immediate_size.ensures.told.told _ (stands_size (tree_stands t c.requires.1)) t.span)) }

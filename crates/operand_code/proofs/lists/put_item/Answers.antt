@@ -1,12 +1,10 @@
 -- `operand_code::lists::put_item` meets its contract.
 -- Assumes nothing.
 use mathlib.Core.Path.{refl}
-use Rattle.records.specs.Nodes.{words}
-use Rattle.records.specs.Written.{put_told}
-use Rattle.operand_code.proofs.lists.Ranges.{node_told}
+use Rattle.expressions_code.specs.Terms.{node_told}
+use Rattle.operand_code.proofs.lists.Ranges.{item_numbers}
 use Rattle.operand_code.proofs.lists.put_item.Goals as goal
 
 pub returns : goal.returns
-unfolding words
 returns c =
-    node_told c.args.item c.from-kind.ensures c.from-left.ensures c.from-right.ensures c.packed.ensures c.packed-2.ensures (put_told _ _ _ _ c.requires refl c.put_node.ensures)
+    node_told _ (item_numbers c.args.item c.from.ensures refl c.from-2.ensures c.from-3.ensures refl c.packed.ensures c.packed-2.ensures refl) c.requires c.put_counted.ensures.put c.put_counted.ensures.counted

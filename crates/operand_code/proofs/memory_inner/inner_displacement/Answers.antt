@@ -1,11 +1,12 @@
 -- `operand_code::memory_inner::inner_displacement` meets its contract.
 -- Assumes nothing.
-use mathlib.Core.Path.{refl, sym, ◌∙◌, ap}
+use mathlib.Core.Path.{sym, ◌∙◌, ap}
 use native.Mathlib.Omega.{arith}
 use Rattle.operand.specs.Operand.{or_none}
-use Rattle.expressions.specs.Paths.{held_as, answered, bound}
+use Rattle.expressions.specs.Paths.{held_as, bound}
 use Rattle.operand_code.proofs.memory.Inners.{displacement_room}
 use Rattle.operand_code.proofs.Rooms.{map_is, map_not}
+use Rattle.operand_code.proofs.malformed.Failures.{stopped_by}
 use Rattle.operand_code.proofs.memory_inner.inner_displacement.Goals as goal
 use Rattle.std.specs.Prelude.{Some, option_map}
 
@@ -18,7 +19,7 @@ pub returns-in_err-d-clause-told : goal.returns-in_err-d-clause-told
 unfolding or_none
 returns-in_err-d-clause-told c =
     let t = c.parse_sized_displacement.ensures.told.told in
-    record { told = bound t (map_not _ _ (sym t.what ∙ ap (option_map Some) c.in_err-d.was)) (answered c.from_residual.ensures refl tt) }
+    record { told = stopped_by _ t (map_not _ _ (sym t.what ∙ ap (option_map Some) c.in_err-d.was)) c.from_residual.ensures tt }
 
 pub returns-clause-told : goal.returns-clause-told
 unfolding or_none

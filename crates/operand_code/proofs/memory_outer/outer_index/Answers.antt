@@ -4,8 +4,8 @@ use Rattle.records.specs.Problems
 use Rattle.records.specs.Shapes
 use mathlib.Core.Path.{refl, sym, ◌∙◌}
 use Rattle.operand.specs.Operand.{or_none}
-use Rattle.expressions.specs.Paths.{answered, bound}
-use Rattle.operand_code.proofs.malformed.Failures.{failed_over}
+use Rattle.expressions.specs.Paths.{bound}
+use Rattle.operand_code.proofs.malformed.Failures.{failed_over, stopped}
 use Rattle.operand_code.proofs.Rooms.{index_room}
 use Rattle.operand_code.proofs.memory.Inners.{same_room, outer_from, outer_twice, outer_once}
 use Rattle.operand_code.proofs.memory_outer.outer_index.Goals as goal
@@ -19,7 +19,7 @@ pub returns-in_err-x-clause-told : goal.returns-in_err-x-clause-told
 unfolding or_none
 returns-in_err-x-clause-told c =
     let t = c.parse_index_register.ensures.told in
-    record { told = outer_once _ _ (sym c.is_some.ensures ∙ c.if-is_some.false) (bound t (sym t.what ∙ c.in_err-x.was) (answered c.from_residual.ensures refl tt)) }
+    record { told = outer_once _ _ (sym c.is_some.ensures ∙ c.if-is_some.false) (stopped _ t c.in_err-x.was c.from_residual.ensures tt) }
 
 pub outer_indexed-requires : goal.outer_indexed-requires
 outer_indexed-requires c =

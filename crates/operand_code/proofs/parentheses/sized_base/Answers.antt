@@ -2,6 +2,7 @@
 -- Assumes nothing.
 use mathlib.Core.Path.{refl, sym, ◌∙◌, ap}
 use Prim.Native.Nat.{◌+◌}
+use Rattle.std.specs.Prelude.{Some}
 use Rattle.names.specs.Kinds
 use Rattle.operand.specs.Operands.{displaced}
 use Rattle.operand.specs.Operand.{sized_base, over}
@@ -31,7 +32,7 @@ returns-clause-told c =
     let stepped = over_room (suffix_room _ c.requires.0 size) c.step_over-2.ensures in
     record {
       told = λ e n v. seen_kind Kinds.comma (ap (λ z. z + 1) c.from-at.ensures) ahead
-          (behind_size c.args.value size e v refl
+          (behind_size c.args.value size e v
           (hit comma refl stepped
-          (kept_sized e _ (c.step_over-2.ensures.nodes ∙ size.held) (c.parse_full_index.ensures.told.told (displaced e _) (tree_is_lem e (size.held ∙ n) c.last_tree-d.ensures)))));
+          (kept_sized e _ (c.step_over-2.ensures.nodes ∙ size.held) (c.parse_full_index.ensures.told.told (displaced e _) (tree_is_lem e (size.held ∙ n) (ap Some c.last_tree.ensures))))));
     }

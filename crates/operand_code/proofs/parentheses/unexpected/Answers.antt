@@ -7,7 +7,6 @@ use Rattle.names.specs.Kinds
 use Rattle.operand.specs.Operand.{unexpected}
 use Rattle.expressions.specs.Paths.{seen, other, beyond}
 use Rattle.operand_code.proofs.Holdings.{nothing_told}
-use Rattle.records.specs.Spans.{blank}
 use Rattle.operand_code.proofs.operands.Behind.{fails_kept}
 use Rattle.operand_code.proofs.parentheses.unexpected.Goals as goal
 
@@ -15,7 +14,7 @@ pub returns-in-None-clause-told : goal.returns-in-None-clause-told
 unfolding unexpected
 returns-in-None-clause-told c =
     let e = sym c.peek.ensures ∙ c.in-None.is in
-    record { told = λ L y. beyond (omega arith) e (beyond (omega arith) e (fails_kept c.requires (rw (c.plain.ensures, c.from-span.ensures, blank c.default.ensures)) c.raise.ensures.told c.raise.ensures.counted y)) }
+    record { told = λ L y. beyond (omega arith) e (beyond (omega arith) e (fails_kept c.requires c.unclosed_parenthesis.ensures c.raise.ensures.told c.raise.ensures.counted y)) }
 
 pub returns-in-Some-clause-told : goal.returns-in-Some-clause-told
 unfolding unexpected
@@ -26,4 +25,4 @@ pub returns-in-Some-2-clause-told : goal.returns-in-Some-2-clause-told
 unfolding unexpected
 returns-in-Some-2-clause-told c =
     let e = sym c.peek.ensures ∙ c.in-Some.is in
-    record { told = λ L y. other (omega arith) e (ne_eqb _ Kinds.error c.if-t-eq-ERROR.false) (seen (omega arith) e refl (fails_kept c.requires (rw (c.plain-in-Some-2.ensures, c.from-span-in-Some-2.ensures)) c.raise-in-Some-2.ensures.told c.raise-in-Some-2.ensures.counted y)) }
+    record { told = λ L y. other (omega arith) e (ne_eqb _ Kinds.error c.if-t-eq-ERROR.false) (seen (omega arith) e refl (fails_kept c.requires c.unexpected_token_in_operand.ensures c.raise-in-Some-2.ensures.told c.raise-in-Some-2.ensures.counted y)) }

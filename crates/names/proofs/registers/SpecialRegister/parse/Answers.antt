@@ -8,7 +8,3 @@ use Rattle.names.proofs.registers.SpecialRegister.parse.Goals as goal
 pub returns-then-name-gt4 : goal.returns-then-name-gt4
 returns-then-name-gt4 c =
     told_special (sym (special_other _ (omega (arith, c.if-name-gt4.true)) (omega (arith, c.if-name-gt4.true)) (omega (arith, c.if-name-gt4.true))))
-
-pub returns : goal.returns
-returns c =
-    told_special c.by_length.ensures

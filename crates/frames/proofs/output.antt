@@ -1,0 +1,2 @@
+-- What the proofs of output.rt share.
+pub mod Filling
