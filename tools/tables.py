@@ -14,6 +14,7 @@ DEFINED = re.compile(r"^( *)((?:(?:unfoldable|abbrev|pub|record|data) )*)([^\s:(
 class Item:  # a function, constant or type of crates/NAME/src, or a definition of crates/NAME/specs
     def __init__(self, crate, path, name, public, start):
         self.crate, self.path, self.name, self.public, self.start, self.text = crate, path, name, public, start, ""
+        self.block, self.source = "", ""  # of a trait's function: its impl, and of a conversion the type that it is from
 
     # the clauses of this word, which stand before the body, as pairs of name and text; a single one may have no name
     def clauses(self, word):
@@ -26,9 +27,9 @@ class Item:  # a function, constant or type of crates/NAME/src, or a definition 
             found.append((clause[1], head[clause.end() : at - 1].strip()))
         return found
 
-    # by `ensures`, or of a trait's function by what its impl names: `ghost try_from_gives = { .. }`
+    # by `ensures`, or of a trait's function by what its own impl names: `ghost try_from_gives = { .. }`
     def promised(self):
-        return bool(self.contract("ensures")) or f"ghost {self.name.split('::')[-1]}_gives =" in open(self.path).read()
+        return bool(self.contract("ensures")) or f"ghost {self.name.split('::')[-1]}_gives =" in self.block
 
     def contract(self, word):
         return "; ".join(f"{name}: {text}" if name else text for name, text in self.clauses(word))
@@ -37,14 +38,15 @@ class Item:  # a function, constant or type of crates/NAME/src, or a definition 
 def source_items(crate):
     items = []
     for path in sorted(glob(f"crates/{crate}/src/**/*.rt", recursive=True)):
-        owner, indent, text = "", "", open(path).read().split("\n")
+        owner, block, text = "", "", open(path).read().split("\n")
         for number, line in enumerate(text):
-            if found := re.match(r"^impl(?:<[^>]*>)? (?:[\w<>]+ for )?(\w+)", line):
-                owner = found[1]
-            owner = "" if line == "}" else owner
+            if found := re.match(r"^impl(?:<[^>]*>)? ([\w<>]+ for )?(\w+)", line):
+                owner, block = found[2], "\n".join(text[number : text.index("}", number)]) if found[1] else ""
+            owner, block = ("", "") if line == "}" else (owner, block)
             if found := FN.match(line):
                 items.append(Item(crate, path, f"{owner}::{found[3]}" if owner else found[3], found[2] == "pub ", number))
-                items[-1].function = True
+                items[-1].function, items[-1].block = True, block
+                items[-1].source = next(iter(re.findall(r"^impl(?:<[^>]*>)? From<(\w+)>", block)), "")
             elif found := ITEM.match(line):
                 items.append(Item(crate, path, found[1], False, number))
                 items[-1].function = False
@@ -138,7 +140,8 @@ def cited(item):
     return cite(direct, item.crate), cite([d for d in deeper if d not in direct], item.crate)
 
 
-# the items of a crate that an item reaches by calls, itself first
+# the items of a crate that an item reaches by calls, itself first; of an iterator that it names `next` too, which the library's methods call;
+# of the conversions to a type those from types that it names
 def reached(item, items):
     found, todo = [item], [item]
     while todo:
@@ -147,10 +150,14 @@ def reached(item, items):
             if other in found:
                 continue
             name = other.name.split("::")
-            call = rf"\b{name[-1]}\(" if other.function else rf"\b{name[-1]}\b"
+            # a call of a function of its own has no dot before it, and may name its parameters: `name::<..>(`
+            call = rf"(?<!\.)\b{name[-1]}(?:::<[^()]*>)?\(" if other.function else rf"\b{name[-1]}\b"
             if len(name) == 2:
                 call = rf"(?:\b{name[0]}::|Self::|\.){name[1]}\("
-            if re.search(call, text.split("{", 1)[-1] if other.function else text):
+            if name[-1] == "next" and other.block:
+                call = rf"\b{name[0]}\b"
+            body = text.split("{", 1)[-1] if other.function else text
+            if re.search(call, body) and re.search(rf"\b{other.source}\b", text):
                 found.append(other)
                 todo.append(other)
     return found
