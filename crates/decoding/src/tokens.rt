@@ -1,5 +1,5 @@
 // The tokens of a call: checked, and decoded into four numbers each.
-ghost use Rattle.std.specs.Prelude.{◌≡◌, [], ◌+◌, ◌-◌, ◌*◌, ◌/◌, ◌≤◌, length};
+ghost use Rattle.std.specs.Prelude.{◌≡◌, [], ◌∷◌, ◌+◌, ◌-◌, ◌*◌, ◌/◌, ◌≤◌, length};
 ghost use Rattle.names.specs.Kinds;
 ghost use Rattle.records.specs.Stores.{written};
 ghost use Rattle.operand.specs.declared.layouts.Layout.TheVariants as layouts;
@@ -10,7 +10,6 @@ ghost use Rattle.decoding.specs.Tokens.{decoded, Decoded};
 
 use names::{Token, kinds};
 use operand::{Layout, Refusal};
-use records::write;
 
 // The bases of a number, as its token's detail has them; 3 is octal. Constants, and no enum: the definition asks of any number, and the enum of
 // `names`, which refuses the others, would add a case for them.
@@ -81,6 +80,20 @@ fn put_narrow(tokens: &[u8], numbers: &mut [u16])
     }
 }
 
+// A token's numbers, at its place. One by one: as an array they would be written in pieces of 16 bits and copied in one of 64, for which the
+// processor waits (docs/SPEED.md).
+#[tactic(auto, using(crate::proofs::tokens::Decoding::four_written))]
+fn put_token(numbers: &mut [u16], i: usize, token: Token)
+    requires { 4 * i + 4 ≤ length numbers.old }
+    ensures { numbers.new ≡ written numbers.old (4 * i) (token.kind ∷ token.detail ∷ token.start ∷ token.end ∷ []) }
+{
+    let at = 4 * i;
+    numbers[at] = token.kind;
+    numbers[at + 1] = token.detail;
+    numbers[at + 2] = token.start;
+    numbers[at + 3] = token.end;
+}
+
 // The numbers of a wide list's tokens, likewise. The place is computed: of what `as_chunks_mut` lends the library says nothing afterwards.
 fn put_wide(tokens: &[u8], numbers: &mut [u16])
     requires { 4 * (length tokens.now / 6) ≤ length numbers.old }
@@ -89,8 +102,13 @@ fn put_wide(tokens: &[u8], numbers: &mut [u16])
     for (i, &[kind, detail, s0, s1, e0, e1]) in tokens.as_chunks::<6>().0.iter().enumerate() {
         let start = u16::from_le_bytes([s0, s1]);
         let end = u16::from_le_bytes([e0, e1]);
-        let token = [u16::from(kind), u16::from(detail), start, end];
-        write(numbers, 4 * i, &token);
+        let token = Token {
+            kind: u16::from(kind),
+            detail: u16::from(detail),
+            start,
+            end,
+        };
+        put_token(numbers, i, token);
     }
 }
 

@@ -26,9 +26,10 @@ impl<'a, 'b> Source<'a, 'b> {
         names::token_at(self.tokens, i)
     }
 
-    // The token at the cursor.
-    pub fn peek(&self, c: Counters) -> Option<Token>
-        ensures { result ≡ token_at self.now.tokens.now c.at }
+    // The token at the cursor. The counters are lent: by value all four would be read at once, for which the processor waits where one of them
+    // was just written (docs/SPEED.md).
+    pub fn peek(&self, c: &Counters) -> Option<Token>
+        ensures { result ≡ token_at self.now.tokens.now c.now.at }
     {
         self.token_at(usize::from(c.at))
     }
@@ -53,8 +54,8 @@ impl<'a, 'b> Source<'a, 'b> {
 
     // The span of the token at the cursor, or the empty one where the last token ended.
     #[tactic(auto, unfolding(records::specs::Spans::span_or))]
-    pub fn span_at(&self, c: Counters) -> Span
-        ensures { result ≡ span_or (token_at self.now.tokens.now c.at) c.end }
+    pub fn span_at(&self, c: &Counters) -> Span
+        ensures { result ≡ span_or (token_at self.now.tokens.now c.now.at) c.now.end }
     {
         self.peek(c).map_or(Span::empty(c.end), Span::from)
     }

@@ -99,7 +99,8 @@ pub(crate) fn parse_leaf(
     ensures lent { out.new.diagnostics.ghost_name ≡ out.old.diagnostics.ghost_name }
     ensures told { TokenBy leaf_term source.now token nodes.old out.old nodes.new out.new result }
 {
-    let before = out.counters;
+    let at = out.counters.at;
+    let end = out.counters.end;
     let span = Span::from(token);
     out.counters.step_over(token);
     match token.kind {
@@ -124,7 +125,8 @@ pub(crate) fn parse_leaf(
         kinds::LOCAL_IDENTIFIER => symbol_leaf(nodes, &mut out.counters, span),
         kinds::ERROR => Err(TermError::Reported),
         _ => {
-            out.counters = before;
+            out.counters.at = at;
+            out.counters.end = end;
             Err(TermError::Absent)
         }
     }

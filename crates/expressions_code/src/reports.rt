@@ -43,7 +43,7 @@ pub(crate) fn too_deep(source: &Source, out: &mut Progress) -> Result<Span, Term
     ensures lent { out.new.diagnostics.ghost_name ≡ out.old.diagnostics.ghost_name }
     ensures told { DepthBy source.now out.old out.new result }
 {
-    let span = source.span_at(out.counters);
+    let span = source.span_at(&out.counters);
     report(
         out,
         plain(DiagnosticKind::NestingTooDeep, span, Span::default()),

@@ -57,7 +57,7 @@ fn parse_prefix(
     if room == 0 {
         return too_deep(source, out);
     }
-    let t = source.peek(out.counters).ok_or(TermError::Absent)?;
+    let t = source.peek(&out.counters).ok_or(TermError::Absent)?;
     let less = room - 1;
     match t.kind {
         kinds::MINUS | kinds::TILDE => {
@@ -181,7 +181,7 @@ pub(crate) fn parse_expression_from(
 {
     let mut span = left;
     // No `for`: each turn reads on from where the last one ended, and the callee says whether it goes on.
-    while let Some(t) = source.peek(out.counters) {
+    while let Some(t) = source.peek(&out.counters) {
         if precedence(t.kind) < minimum {
             break;
         }

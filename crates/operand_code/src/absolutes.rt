@@ -72,7 +72,7 @@ fn no_expression(source: &Source, out: &mut Progress) -> Option<OperandRecord>
     ensures lent { out.new.diagnostics.ghost_name ≡ out.old.diagnostics.ghost_name }
     ensures told { FailBy (no_expression source.now.setting) source.now out.old out.new result }
 {
-    match source.peek(out.counters) {
+    match source.peek(&out.counters) {
         Some(t) => out.raise(unexpected_token_in_operand(t)),
         None => out.raise(operand_expected(Span::empty(source.setting.start))),
     }

@@ -235,7 +235,7 @@ pub(crate) fn parse_base_and_index(
     ensures told { BaseBy (λ y. parse_base_and_index source.now.setting opening.paren y) source.now out.old out.new opening.displacement result }
 {
     let shape = base_shape(opening.displacement);
-    let Some(t) = source.peek(out.counters) else {
+    let Some(t) = source.peek(&out.counters) else {
         unclosed(source, out, opening.paren, shape, Problem::BaseMissing);
         return None;
     };

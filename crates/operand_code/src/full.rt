@@ -91,7 +91,7 @@ fn next_base(source: &Source, c: &mut Counters) -> Option<BaseRegister>
     requires { Room source.now.tokens.now c.old 0 1 }
     ensures { NextBy (base_at source.now.setting (place source.now.line.now source.now.tokens.now) c.old.at) source.now.line.now source.now.tokens.now c.old result c.new }
 {
-    let t = source.peek(*c)?;
+    let t = source.peek(c)?;
     let base = base_at(source, c.at, t)?;
     c.step_over(t);
     Some(base)

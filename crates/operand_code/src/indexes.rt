@@ -133,7 +133,7 @@ fn next_index(source: &Source, c: &mut Counters) -> Option<(Register, bool)>
     requires { Room source.now.tokens.now c.old 0 1 }
     ensures { NextBy (index_at source.now.setting c.old.at) source.now.line.now source.now.tokens.now c.old result c.new }
 {
-    let t = source.peek(*c)?;
+    let t = source.peek(c)?;
     let index = index_at(source, t, c.at)?;
     c.step_over(t);
     Some(index)

@@ -42,7 +42,7 @@ fn register_expected(source: &Source, out: &mut Progress, sign: Problem)
     ensures told { RaisedBy out.old out.new (register_expected_in_register_list (Problems.number sign) (span_or (token_at source.now.tokens.now out.old.counters.at) out.old.counters.end)) }
 {
     let kind = DiagnosticKind::RegisterExpectedInRegisterList;
-    let span = source.span_at(out.counters);
+    let span = source.span_at(&out.counters);
     out.raise(Diagnostic {
         problem: u16::from(sign),
         ..plain(kind, span, Span::default())
@@ -54,7 +54,7 @@ fn next_register(source: &Source, c: &mut Counters) -> Option<Register>
     requires { Room source.now.tokens.now c.old 0 1 }
     ensures { NextBy register_at source.now.line.now source.now.tokens.now c.old result c.new }
 {
-    let t = source.peek(*c)?;
+    let t = source.peek(c)?;
     let r = register_at(source, t)?;
     c.step_over(t);
     Some(r)

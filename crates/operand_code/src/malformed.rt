@@ -77,7 +77,7 @@ pub(crate) fn stepped_over(
     ensures lent { out.new.diagnostics.ghost_name ≡ out.old.diagnostics.ghost_name }
     ensures told { RaisedOverBy source.now out.old out.new (λ l. malformed_operand (Shapes.number shape) (Problems.number problem) (span source.now.setting.start l) no_span) }
 {
-    if let Some(t) = source.peek(out.counters) {
+    if let Some(t) = source.peek(&out.counters) {
         out.counters.step_over(t);
     }
     malformed(source, out, shape, problem);

@@ -83,7 +83,7 @@ pub(crate) fn parse_inner(
     ensures lent { out.new.diagnostics.ghost_name ≡ out.old.diagnostics.ghost_name }
     ensures told { InnerBy (parse_inner source.now.setting) source.now nodes.old out.old nodes.new out.new result }
 {
-    match source.peek(out.counters) {
+    match source.peek(&out.counters) {
         Some(t) if t.kind == kinds::RIGHT_BRACKET => Some(bare_inner(None)),
         Some(t) if is_a_base_or_an_index(source, t, out.counters.at) => {
             inner_registers(source, out, None)

@@ -76,7 +76,7 @@ fn parse_register_operand(
     ensures lent { out.new.diagnostics.ghost_name ≡ out.old.diagnostics.ghost_name }
     ensures told { OperandBy (parse_register_operand source.now.setting r) source.now out.old nodes.new out.new result }
 {
-    match source.peek(out.counters) {
+    match source.peek(&out.counters) {
         Some(t) if t.kind == kinds::MINUS || t.kind == kinds::SLASH => {
             parse_register_list(source, nodes, out, r)
         }

@@ -61,7 +61,7 @@ fn unexpected(source: &Source, out: &mut Progress, paren: Token) -> Option<Opera
     ensures lent { out.new.diagnostics.ghost_name ≡ out.old.diagnostics.ghost_name }
     ensures told { FailBy (unexpected paren) source.now out.old out.new result }
 {
-    match source.peek(out.counters) {
+    match source.peek(&out.counters) {
         None => out.raise(unclosed_parenthesis(paren)),
         Some(t) if t.kind == kinds::ERROR => (),
         Some(t) => out.raise(unexpected_token_in_operand(t)),

@@ -1,24 +1,38 @@
 -- Tokens decoded one behind the other.
 -- Assumes nothing.
-use mathlib.Core.Path.{◌≡◌, refl, sym, ◌∙◌, ap}
+use mathlib.Core.Path.{◌≡◌, refl, sym, ◌∙◌, ap, ap₂}
 use mathlib.Core.Bool.{Bool, ◌&&◌}
 use mathlib.Core.List.{List, [], ◌∷◌, ◌++◌}
 use Prim.Native.Nat.{ℕ, zero, suc, ◌+◌, ◌*◌, ◌/◌, ◌≤◌, ◌<◌}
+use native.Mathlib.Nat.{add-zero}
 use native.Mathlib.Omega.{arith}
 use borrow.Author.Tests.{le-leb, lt-leb}
-use lib.ListN.{length, take, drop, get_or}
-use lib.Seq.{length-take-le, take-add}
+use lib.ListN.{length, take, drop, get_or, set}
+use lib.Seq.{length-take-le, take-add, paste, paste-zero}
 use Rattle.names.specs.Choice.{pick, both}
 use Rattle.names.specs.Laws.{both_true, both_assoc, and_both}
 use Rattle.names.specs.Tokens.{count}
 use Rattle.records.specs.Stores.{written}
-use Rattle.records.specs.Written.{written_take, written_on, written_not}
+use Rattle.records.specs.Written.{written_take, written_on, written_not, paste_on, paste_all}
 use Rattle.operand.specs.declared.layouts.Layout.{Layout}
 use Rattle.operand.specs.Layouts.{token_size, joined, joined_tokens, token_numbers, numbers_count}
 use Rattle.operand.specs.RefusalNumbers
 use Rattle.operand.specs.Entry.{good_token, good_tokens}
 use Rattle.operand.specs.Listed.{four, tokens_end, tokens_from}
 use Rattle.decoding.specs.Tokens.{decodes, decoded, Decoded}
+
+-- four stores, one behind the other
+pub four_written : (M : List ℕ) (p a b c d : ℕ) → p + 4 ≤ length M
+    → set (set (set (set M p a) (p + 1) b) (p + 2) c) (p + 3) d ≡ written M p (a ∷ b ∷ c ∷ d ∷ [])
+four_written M p a b c d h =
+    let s : List ℕ = a ∷ b ∷ c ∷ d ∷ [] in
+    let none : M ≡ paste M p s 0 = paste-zero M p s in
+    let one : set M p a ≡ paste M p s 1 = ap₂ (λ l k. set l k a) none (sym (add-zero p)) ∙ paste_on M p s 0 (omega arith) (omega arith) in
+    ap (λ l. set (set (set l (p + 1) b) (p + 2) c) (p + 3) d) one
+    ∙ ap (λ l. set (set l (p + 2) c) (p + 3) d) (paste_on M p s 1 (omega arith) (omega arith))
+    ∙ ap (λ l. set l (p + 3) d) (paste_on M p s 2 (omega arith) (omega arith))
+    ∙ paste_on M p s 3 (omega arith) (omega arith)
+    ∙ paste_all M p s 4 (omega arith) refl
 
 -- ---- decoded one behind the other
 

@@ -23,7 +23,7 @@ loop-i-preserved c =
     let i = c.loop-i.i in
     let on = number 6 (length B / 6) B c.as_chunks.result.0.now c.as_chunks.ensures.front i [] (omega (arith, c.as_chunks.ensures.front_len)) in
     let e = joined_at B i (omega (arith, c.as_chunks.ensures.front_len)) in
-    one_decoded (joined_tokens B) c.args.numbers.now i (omega (arith, c.as_chunks.ensures.front_len, numbers_count Layout.Wide B)) _ _ _ _ (omega (arith, c.from.ensures, first 6 (length B / 6) B c.as_chunks.result.0.now c.as_chunks.ensures.front i [] (omega (arith, c.as_chunks.ensures.front_len)) (omega arith), e.0)) (omega (arith, c.from-in-loop-i.ensures, on 1 (omega arith), e.1)) (omega (arith, c.from_le_bytes-start.ensures, on 2 (omega arith), on 3 (omega arith), e.2)) (omega (arith, c.from_le_bytes-end.ensures, on 4 (omega arith), on 5 (omega arith), e.3)) _ _ (omega (arith, c.requires, numbers_count Layout.Wide B)) c.loop-i.invariant c.write.ensures
+    one_decoded (joined_tokens B) c.args.numbers.now i (omega (arith, c.as_chunks.ensures.front_len, numbers_count Layout.Wide B)) _ _ _ _ (omega (arith, c.from.ensures, first 6 (length B / 6) B c.as_chunks.result.0.now c.as_chunks.ensures.front i [] (omega (arith, c.as_chunks.ensures.front_len)) (omega arith), e.0)) (omega (arith, c.from-in-loop-i.ensures, on 1 (omega arith), e.1)) (omega (arith, c.from_le_bytes-start.ensures, on 2 (omega arith), on 3 (omega arith), e.2)) (omega (arith, c.from_le_bytes-end.ensures, on 4 (omega arith), on 5 (omega arith), e.3)) _ _ (omega (arith, c.requires, numbers_count Layout.Wide B)) c.loop-i.invariant c.put_token.ensures
 
 pub returns : goal.returns
 unfolding token_numbers

@@ -29,4 +29,4 @@ returns-in-29-clause-told c =
 
 pub returns-in_default-clause-told : goal.returns-in_default-clause-told
 returns-in_default-clause-told c =
-    other_told (search) (search) (search) (search) (search) (search)
+    rw (c.step_over.ensures.nodes, c.step_over.ensures.diagnostics) (other_told (search) (search) (search) (search) (search) (search))
