@@ -3,6 +3,9 @@
 ghost use Rattle.std.specs.Prelude.{◌≡◌};
 ghost use Rattle.records.specs.Problems;
 
+// of a kind that has none
+pub const NO_PROBLEM: u16 = 0;
+
 #[derive(Clone, Copy, PartialEq, Eq, Debug)]
 pub enum Problem {
     // "an immediate carries no size: .."

@@ -9,14 +9,11 @@ ghost use Rattle.records.specs.Stores.{written};
 
 use crate::diagnostic_kinds::DiagnosticKind;
 use crate::diagnostics::Diagnostic;
-use crate::problems::Problem;
-use crate::shapes::OperandShape;
+use crate::problems::{NO_PROBLEM, Problem};
+use crate::shapes::{NO_SHAPE, OperandShape};
 use crate::spans::Span;
 use crate::stores::write;
 use names::Token;
-
-// The number in a shape's or a problem's place, of a kind that has none.
-const NONE: u16 = 0;
 
 // A diagnostic that points at no other span. Its numbers may be any.
 pub fn diagnostic(kind: u16, shape: u16, problem: u16, span: Span, text: Span) -> Diagnostic
@@ -37,7 +34,7 @@ pub fn diagnostic(kind: u16, shape: u16, problem: u16, span: Span, text: Span) -
 pub fn plain(kind: DiagnosticKind, span: Span, text: Span) -> Diagnostic
     ensures { result ≡ plain (DiagnosticKinds.number kind) span text }
 {
-    diagnostic(u16::from(kind), NONE, NONE, span, text)
+    diagnostic(u16::from(kind), NO_SHAPE, NO_PROBLEM, span, text)
 }
 
 // A malformed operand.

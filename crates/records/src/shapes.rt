@@ -3,6 +3,9 @@
 ghost use Rattle.std.specs.Prelude.{◌≡◌};
 ghost use Rattle.records.specs.Shapes;
 
+// of a kind that has none
+pub const NO_SHAPE: u16 = 0;
+
 #[derive(Clone, Copy, PartialEq, Eq, Debug)]
 pub enum OperandShape {
     // `#5`
