@@ -20,7 +20,9 @@ pub enum Case {
 impl From<Case> for u8 {
     ghost from_gives = { λ x n. n ≡ Cases.number x };
 
-    fn from(x: Case) -> u8 {
+    fn from(x: Case) -> u8
+        ensures { result ≡ Cases.number x }
+    {
         x as u8
     }
 }

@@ -24,7 +24,9 @@ pub enum Form {
 impl From<Form> for u8 {
     ghost from_gives = { λ x n. n ≡ FormNumbers.number x };
 
-    fn from(x: Form) -> u8 {
+    fn from(x: Form) -> u8
+        ensures { result ≡ FormNumbers.number x }
+    {
         x as u8
     }
 }

@@ -28,7 +28,9 @@ pub enum Refusal {
 impl From<Refusal> for u8 {
     ghost from_gives = { λ refusal n. n ≡ RefusalNumbers.number refusal };
 
-    fn from(refusal: Refusal) -> u8 {
+    fn from(refusal: Refusal) -> u8
+        ensures { result ≡ RefusalNumbers.number refusal }
+    {
         refusal as u8
     }
 }

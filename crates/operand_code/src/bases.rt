@@ -30,7 +30,9 @@ impl From<Base> for BaseRegister {
     ghost from_gives = { λ x b. b ≡ base_register x };
 
     #[tactic(auto, unfolding(crate::specs::Bases::base_register))]
-    fn from(x: Base) -> BaseRegister {
+    fn from(x: Base) -> BaseRegister
+        ensures { result ≡ base_register x }
+    {
         match x {
             Base::Address(r) => BaseRegister::Address(r),
             Base::ProgramCounter => BaseRegister::ProgramCounter,

@@ -23,7 +23,9 @@ pub enum DiagnosticKind {
 impl From<DiagnosticKind> for u16 {
     ghost from_gives = { λ x n. n ≡ DiagnosticKinds.number x };
 
-    fn from(x: DiagnosticKind) -> u16 {
+    fn from(x: DiagnosticKind) -> u16
+        ensures { result ≡ DiagnosticKinds.number x }
+    {
         x as u16
     }
 }

@@ -19,7 +19,9 @@ pub enum NodeKind {
 impl From<NodeKind> for u16 {
     ghost from_gives = { λ x n. n ≡ NodeKinds.number x };
 
-    fn from(x: NodeKind) -> u16 {
+    fn from(x: NodeKind) -> u16
+        ensures { result ≡ NodeKinds.number x }
+    {
         x as u16
     }
 }

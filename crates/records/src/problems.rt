@@ -40,7 +40,9 @@ pub enum Problem {
 impl From<Problem> for u16 {
     ghost from_gives = { λ x n. n ≡ Problems.number x };
 
-    fn from(x: Problem) -> u16 {
+    fn from(x: Problem) -> u16
+        ensures { result ≡ Problems.number x }
+    {
         x as u16
     }
 }

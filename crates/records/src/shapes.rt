@@ -42,7 +42,9 @@ pub enum OperandShape {
 impl From<OperandShape> for u16 {
     ghost from_gives = { λ x n. n ≡ Shapes.number x };
 
-    fn from(x: OperandShape) -> u16 {
+    fn from(x: OperandShape) -> u16
+        ensures { result ≡ Shapes.number x }
+    {
         x as u16
     }
 }

@@ -32,7 +32,9 @@ impl Span {
 impl From<Token> for Span {
     ghost from_gives = { λ token s. s ≡ span_of token };
 
-    fn from(token: Token) -> Span {
+    fn from(token: Token) -> Span
+        ensures { result ≡ span_of token }
+    {
         Span {
             start: token.start,
             end: token.end,
