@@ -63,10 +63,10 @@ pub fn parse_register(name: &[u8]) -> Option<u8>
         return Some(15);
     }
     let first = first_of_bank(bank);
-    match digit {
-        b'0'..=LAST_DIGIT => Some(digit - b'0' + first?),
-        _ => None,
+    if !(b'0'..=LAST_DIGIT).contains(&digit) {
+        return None;
     }
+    Some(digit - b'0' + first?)
 }
 
 #[tactic(auto, unfolding(crate::specs::Registers::program_counter))]
