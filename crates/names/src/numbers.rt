@@ -67,7 +67,7 @@ impl NumberBase {
     }
 }
 
-// A value that is too large stays too large, so a byte behind it that is no digit is still found.
+// A value stays at 2^63 once it has reached it, so a byte behind it that is no digit is still found.
 fn parse_digits(base: NumberBase, digits: &[u8]) -> Result<u64, NumberError>
     ensures { result ≡ digits_of base digits.now }
 {
@@ -82,7 +82,8 @@ fn parse_digits(base: NumberBase, digits: &[u8]) -> Result<u64, NumberError>
             .ok_or(NumberError::Invalid)?;
         value = value
             .saturating_mul(u64::from(radix))
-            .saturating_add(u64::from(digit));
+            .saturating_add(u64::from(digit))
+            .min(LIMIT);
     }
     if value < LIMIT {
         Ok(value)

@@ -63,10 +63,10 @@ pub fn parse_register(name: &[u8]) -> Option<u8>
         return Some(15);
     }
     let first = first_of_bank(bank);
-    match digit {
-        b'0'..=LAST_DIGIT => Some(digit - b'0' + first?),
-        _ => None,
+    if !(b'0'..=LAST_DIGIT).contains(&digit) {
+        return None;
     }
+    Some(digit - b'0' + first?)
 }
 
 #[tactic(auto, unfolding(crate::specs::Registers::program_counter))]
@@ -95,16 +95,30 @@ fn of_three(name: &[u8]) -> Option<SpecialRegister>
     spells(&name[1..], word).then_some(register)
 }
 
+// A name of four letters: `cacr` or `caar`, which the third one tells apart. So it comes last, and `r` is compared in one place.
+fn of_four(name: &[u8]) -> Option<SpecialRegister>
+    requires { length name.now ≡ 4 }
+    ensures { result ≡ special_of name.now }
+{
+    if lower(name[0]) != b'c' || lower(name[1]) != b'a' || lower(name[3]) != b'r' {
+        return None;
+    }
+    match lower(name[2]) {
+        b'c' => Some(SpecialRegister::Cacr),
+        b'a' => Some(SpecialRegister::Caar),
+        _ => None,
+    }
+}
+
 // A special register is told by the name's length, then letter by letter in place: no more than four are looked at.
-#[tactic(auto, using(crate::specs::Laws::then_some_pick, crate::proofs::registers::Specials::special_cacr, crate::proofs::registers::Specials::special_caar, crate::proofs::registers::Specials::special_other))]
+#[tactic(auto, using(crate::proofs::registers::Specials::special_other))]
 fn by_length(name: &[u8]) -> Option<SpecialRegister>
     ensures { result ≡ special_of name.now }
 {
     match name.len() {
         2 => spells(name, b"sr").then_some(SpecialRegister::Sr),
         3 => of_three(name),
-        4 if spells(name, b"cacr") => Some(SpecialRegister::Cacr),
-        4 => spells(name, b"caar").then_some(SpecialRegister::Caar),
+        4 => of_four(name),
         _ => None,
     }
 }

@@ -1,6 +1,6 @@
 -- Digits and their values.
 -- Assumes nothing.
-use Rattle.std.proofs.Common.{◌≡◌, refl, sym, ◌∙◌, ap, Bool, true, false, List, [], ◌∷◌, ℕ, ◌+◌, ◌-◌, ◌*◌, ◌^◌, ◌≤◌, ◌<◌, min, leb, ltb, length, get_or, drop, drop_of_length-le, mul-le-mul_right, arith, le-leb, lt-ltb, le-ltb, ltb-true, ltb-false, leb-true, leb-false, Ok, Err, Option, Some, None, SomeIff, ok_or}
+use Rattle.std.proofs.Common.{◌≡◌, refl, sym, ◌∙◌, ap, Bool, true, false, List, [], ◌∷◌, ℕ, ◌+◌, ◌-◌, ◌*◌, ◌^◌, ◌≤◌, ◌<◌, min, leb, ltb, length, get_or, drop, drop_of_length-le, mul-le-mul_left, mul-le-mul_right, arith, le-leb, lt-ltb, le-ltb, ltb-true, ltb-false, leb-true, leb-false, Ok, Err, Option, Some, None, SomeIff, ok_or}
 use borrow.Author.Tests.{lt-leb}
 use Rattle.std.specs.Char.{digit_value}
 use Rattle.names.specs.Choice.{pick}
@@ -86,43 +86,58 @@ module _ (byte radix char : ℕ) (o : Option ℕ) (e : char ≡ byte) (told : So
       go None t g = (omega (arith, value, t), cc)
       go (Some y) t g = cc
 
--- ---- reading on from a value that stays at 2^64 - 1
+-- ---- reading on from a value that stays at a bound m
 
+module _ (m : ℕ) where
+  -- one more digit, where product and sum stay there
+  pub cap_sum : (x d : ℕ) → min (min x m + d) m ≡ min (x + d) m
+  cap_sum x d = omega arith
+
+  -- where a value has reached m, the larger one has too
+  cap_next : (v r d : ℕ) → 0 < r → min (min v m * r + d) m ≡ min (v * r + d) m
+  cap_next v r d h = go (leb v m) refl
+    where
+      go : (b : Bool) → leb v m ≡ b → min (min v m * r + d) m ≡ min (v * r + d) m
+      go true q = let e : min v m ≡ v = omega (arith, leb-true v m q) in rw e
+      go false q =
+          let g : m < v = leb-false v m q in
+          let e : min v m ≡ m = omega arith in
+          rw e (omega (arith, mul-le-mul_left m h, mul-le-mul_right {m = m} {n = v} r (omega arith)))
+
+  -- no value of 2^63 or more fits, so the bound may be any of them
+  module _ (large : 2 ^ 63 ≤ m) where
+    pub scan_capped : (r : ℕ) (cs : List ℕ) (v : ℕ) → scan r (min v m) cs ≡ scan r v cs
+    unfolding scan
+    scan_capped r [] v = go (ltb v (2 ^ 63)) refl
+      where
+        go : (b : Bool) → ltb v (2 ^ 63) ≡ b → scan r (min v m) [] ≡ scan r v []
+        go true q = let e : min v m ≡ v = omega (arith, ltb-true v (2 ^ 63) q) in rw e
+        go false q =
+            let g : 2 ^ 63 ≤ v = ltb-false v (2 ^ 63) q in
+            simp (q, le-ltb (min v m) (2 ^ 63) (omega arith))
+    scan_capped r (c ∷ cs) v = go (ltb (figure c) r) refl (scan_capped r cs (min v m * r + figure c)) (scan_capped r cs (v * r + figure c))
+      where
+        go : (b : Bool) → ltb (figure c) r ≡ b
+            → scan r (min (min v m * r + figure c) m) cs ≡ scan r (min v m * r + figure c) cs
+            → scan r (min (v * r + figure c) m) cs ≡ scan r (v * r + figure c) cs
+            → pick b (scan r (min v m * r + figure c) cs) (Err Invalid) ≡ pick b (scan r (v * r + figure c) cs) (Err Invalid)
+        go true q x y = sym x ∙ ap (λ w. scan r w cs) (cap_next v r (figure c) (omega (arith, ltb-true (figure c) r q))) ∙ y
+        go false q x y = refl
+
+-- a value that stays at 2^63, as the code's does
 abbrev cap : ℕ → ℕ
-cap v = min v (2 ^ 64 - 1)
-
--- one more digit, where product and sum stay there
-pub cap_sum : (x d : ℕ) → cap (cap x + d) ≡ cap (x + d)
-cap_sum x d = omega arith
-
--- where a value has reached 2^64 - 1, the larger one has too
-cap_next : (v r d : ℕ) → 0 < r → cap (cap v * r + d) ≡ cap (v * r + d)
-cap_next v r d h = go (leb v (2 ^ 64 - 1)) refl
-  where
-    go : (b : Bool) → leb v (2 ^ 64 - 1) ≡ b → cap (cap v * r + d) ≡ cap (v * r + d)
-    go true q = let e : cap v ≡ v = omega (arith, leb-true v (2 ^ 64 - 1) q) in rw e
-    go false q =
-        let g : 2 ^ 64 - 1 < v = leb-false v (2 ^ 64 - 1) q in
-        let e : cap v ≡ 2 ^ 64 - 1 = omega arith in
-        rw e (omega (arith, mul-le-mul_right {m = 2 ^ 64 - 1} {n = v} r (omega arith)))
+cap v = min v (2 ^ 63)
 
 pub scan_cap : (r : ℕ) (cs : List ℕ) (v : ℕ) → scan r (cap v) cs ≡ scan r v cs
-unfolding scan
-scan_cap r [] v = go (ltb v (2 ^ 63)) refl
-  where
-    go : (b : Bool) → ltb v (2 ^ 63) ≡ b → scan r (cap v) [] ≡ scan r v []
-    go true q = let e : cap v ≡ v = omega (arith, ltb-true v (2 ^ 63) q) in rw e
-    go false q =
-        let g : 2 ^ 63 ≤ v = ltb-false v (2 ^ 63) q in
-        simp (q, le-ltb (cap v) (2 ^ 63) (omega arith))
-scan_cap r (c ∷ cs) v = go (ltb (figure c) r) refl (scan_cap r cs (cap v * r + figure c)) (scan_cap r cs (v * r + figure c))
-  where
-    go : (b : Bool) → ltb (figure c) r ≡ b
-        → scan r (cap (cap v * r + figure c)) cs ≡ scan r (cap v * r + figure c) cs
-        → scan r (cap (v * r + figure c)) cs ≡ scan r (v * r + figure c) cs
-        → pick b (scan r (cap v * r + figure c) cs) (Err Invalid) ≡ pick b (scan r (v * r + figure c) cs) (Err Invalid)
-    go true q x y = sym x ∙ ap (λ w. scan r w cs) (cap_next v r (figure c) (omega (arith, ltb-true (figure c) r q))) ∙ y
-    go false q x y = refl
+scan_cap = scan_capped (2 ^ 63) (omega arith)
+
+-- and one that stays where the code's product and sum do
+pub scan_saturated : (r : ℕ) (cs : List ℕ) (v : ℕ) → scan r (min v (2 ^ 64 - 1)) cs ≡ scan r v cs
+scan_saturated = scan_capped (2 ^ 64 - 1) (omega arith)
+
+-- one more digit: product and sum stay at 2^64 - 1, their value at 2^63
+pub cap_saturated : (x d : ℕ) → cap (min (min x (2 ^ 64 - 1) + d) (2 ^ 64 - 1)) ≡ cap (x + d)
+cap_saturated x d = rw (cap_sum (2 ^ 64 - 1) x d) (omega arith)
 
 -- ---- the digits from a place on
 

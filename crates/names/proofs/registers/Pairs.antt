@@ -6,7 +6,7 @@ use mathlib.Core.List.{List, [], ◌∷◌}
 use Rattle.std.specs.Prelude.{Option, Some, None}
 use Prim.Native.Nat.{ℕ, ◌+◌, ◌-◌, ◌≤◌, ◌<◌}
 use native.Mathlib.Omega.{arith}
-use borrow.Author.Tests.{eqb-true, le-leb, lt-leb}
+use borrow.Author.Tests.{eqb-true, le-leb, lt-leb, leb-false}
 use lib.Dec.{leb, eqb}
 use lib.ListN.{length, get_or}
 use Rattle.names.specs.Choice.{pick, both}
@@ -47,6 +47,14 @@ module _ (d : ℕ) where
 
   pub digit_high : (o : Option ℕ) → 55 < d → in_bank o (lower d) ≡ None
   digit_high o h = let g = lower_rises d in no_digit o (lower d) (rw (lt-leb (lower d) 55 (omega arith)) (both_false (leb 48 (lower d))))
+
+  pub digit_out : (o : Option ℕ) → both (leb 48 d) (leb d 55) ≡ false → in_bank o (lower d) ≡ None
+  digit_out o h = go (leb 48 d) refl (leb d 55) refl h
+    where
+      go : (p : Bool) → leb 48 d ≡ p → (q : Bool) → leb d 55 ≡ q → both p q ≡ false → in_bank o (lower d) ≡ None
+      go true x true y z = absurd (true_false z)
+      go true x false y z = digit_high o (leb-false d 55 y)
+      go false x q y z = digit_low o (leb-false 48 d x)
 
   pub digit_in : (first : ℕ) → 48 ≤ d → d ≤ 55 → in_bank (Some first) (lower d) ≡ Some (d - 48 + first)
   digit_in first h g = rw (lower_below d (omega arith), le-leb 48 d h, le-leb d 55 g)

@@ -3,15 +3,14 @@
 use mathlib.Core.Path.{◌≡◌, refl, sym, ◌∙◌, ap}
 use mathlib.Core.Bool.{Bool, true, false}
 use mathlib.Core.List.{List, [], ◌∷◌}
-use Rattle.std.specs.Prelude.{Some, None}
-use Rattle.names.specs.Choice.{pick, either}
+use Rattle.std.specs.Prelude.{None}
+use Rattle.names.specs.Choice.{either}
 use Prim.Native.Nat.{ℕ, ◌<◌}
 use native.Mathlib.Omega.{arith}
 use lib.ListN.{length}
 use Rattle.names.specs.Laws.{both_false, either_assoc}
-use Rattle.names.specs.Letters.{bytes, lowered, same, spelled}
+use Rattle.names.specs.Letters.{bytes, lowered, same}
 use Rattle.names.specs.Registers.{register_of, program_counter, named, special_registers, special_of, reserved}
-use Rattle.names.specs.declared.registers.SpecialRegister.TheVariants.{Cacr, Caar}
 use Rattle.names.specs.Reserved.{is_register, is_special, reserved_rule}
 use Rattle.names.proofs.letters.Spelling.{spelled_differ, letters, lowered_letters}
 use Rattle.names.proofs.registers.Pairs.{register_not}
@@ -19,17 +18,6 @@ use Rattle.names.proofs.registers.Pairs.{register_not}
 pub special_letters : (n : List ℕ) (k : ℕ) → length n ≡ k → special_of n ≡ named special_registers (letters 0 k n)
 unfolding special_of
 special_letters n k h = ap (named special_registers) (lowered_letters n 0 k (omega arith))
-
-module _ (n : List ℕ) (h : length n ≡ 4) where
-  four : special_of n ≡ pick (spelled (bytes "cacr") n) (Some Cacr) (pick (spelled (bytes "caar") n) (Some Caar) None)
-  unfolding named spelled same
-  four = rw (special_letters n 4 h, lowered_letters n 0 4 h) (simp both_false)
-
-  pub special_cacr : spelled (bytes "cacr") n ≡ true → special_of n ≡ Some Cacr
-  special_cacr e = rw e at four
-
-  pub special_caar : spelled (bytes "cacr") n ≡ false → special_of n ≡ pick (spelled (bytes "caar") n) (Some Caar) None
-  special_caar e = rw e at four
 
 -- no special register has another length
 pub special_other : (n : List ℕ) → (length n ≡ 2 → ⊥) → (length n ≡ 3 → ⊥) → (length n ≡ 4 → ⊥) → special_of n ≡ None

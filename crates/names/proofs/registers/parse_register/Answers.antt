@@ -1,8 +1,10 @@
 -- `names::registers::parse_register` meets its contract.
 -- Assumes nothing.
-use Rattle.std.proofs.Common.{sym, ◌∙◌, arith}
+use Rattle.std.proofs.Common.{◌≡◌, ◌≤◌, sym, ◌∙◌, false, leb, get_or, arith}
+use Rattle.std.proofs.lemmas.Grind.{common_steps}
+use Rattle.names.specs.Choice.{both}
 use Rattle.names.proofs.Cases.{told_register}
-use Rattle.names.proofs.registers.Pairs.{register_not, register_stack, register_digit, digit_low, digit_high, digit_in}
+use Rattle.names.proofs.registers.Pairs.{register_not, register_stack, register_digit, digit_out, digit_in}
 use Rattle.names.proofs.registers.parse_register.Goals as goal
 
 pub returns-in_default : goal.returns-in_default
@@ -17,18 +19,17 @@ pub returns-then-spells : goal.returns-then-spells
 returns-then-spells c =
     told_register (sym (register_stack _ (sym c.if-spells.ensures)))
 
-pub returns-in_err-first-in-48-to-55 : goal.returns-in_err-first-in-48-to-55
-returns-in_err-first-in-48-to-55 c =
-    told_register (c.from_residual.ensures ∙ rw (register_digit _ (omega arith) (sym c.if-spells.ensures) _ (sym c.in_err-first-in-48-to-55.was ∙ c.first_of_bank-first.ensures)))
+pub returns-then-not-contains : goal.returns-then-not-contains
+returns-then-not-contains c =
+    let out : both (leb 48 (get_or c.args.name.now 1 0)) (leb (get_or c.args.name.now 1 0) 55) ≡ false = grind (arith, common_steps) in
+    told_register (sym (register_digit _ (omega arith) (sym c.if-spells.ensures) _ c.first_of_bank-first.ensures ∙ digit_out _ _ out))
 
-pub returns-in_ok-first-in-48-to-55 : goal.returns-in_ok-first-in-48-to-55
-returns-in_ok-first-in-48-to-55 c =
-    told_register (sym (register_digit _ (omega arith) (sym c.if-spells.ensures) _ (sym c.in_ok-first-in-48-to-55.was ∙ c.first_of_bank-first.ensures) ∙ digit_in _ _ (omega (arith, c.in-48-to-55)) (omega (arith, c.in-48-to-55))))
+pub returns-in_err-first : goal.returns-in_err-first
+returns-in_err-first c =
+    told_register (c.from_residual.ensures ∙ rw (register_digit _ (omega arith) (sym c.if-spells.ensures) _ (sym c.in_err-first.was ∙ c.first_of_bank-first.ensures)))
 
-pub returns-in_default-digit : goal.returns-in_default-digit
-returns-in_default-digit c =
-    told_register (sym (register_digit _ (omega arith) (sym c.if-spells.ensures) _ c.first_of_bank-first.ensures ∙ digit_low _ _ (omega (arith, c.in_default-digit))))
-
-pub returns-in_default-digit-2 : goal.returns-in_default-digit-2
-returns-in_default-digit-2 c =
-    told_register (sym (register_digit _ (omega arith) (sym c.if-spells.ensures) _ c.first_of_bank-first.ensures ∙ digit_high _ _ (omega (arith, c.in_default-digit))))
+pub returns : goal.returns
+returns c =
+    let low : c.new.result.start ≤ get_or c.args.name.now 1 0 = grind (arith, common_steps) in
+    let high : get_or c.args.name.now 1 0 ≤ c.new.result.end = grind (arith, common_steps) in
+    told_register (sym (register_digit _ (omega arith) (sym c.if-spells.ensures) _ (sym c.in_ok-first.was ∙ c.first_of_bank-first.ensures) ∙ digit_in _ _ (omega (arith, c.new.ensures.start)) (omega (arith, c.new.ensures.end))))
