@@ -99,9 +99,9 @@ pub data NextBy {A : Type 0} (look : Token → List ℕ → Option A) (L T : Lis
   ends : token_at T c.at ≡ None → v ≡ None → r ≡ c → NextBy look L T c v r
 
 -- the parenthesis and the register behind the place i
-pub data PredecrementAt (L T : List ℕ) (i : ℕ) (v : Option (Token × Token × Register)) : Type 0 where
-  predecrement : {k t : Token} {r : Register} → of_kind Kinds.left_paren (token_at T (i + 1)) ≡ Some k → token_at T (i + 2) ≡ Some t → register_at t (text_of L t.start t.end) ≡ Some r
-      → v ≡ Some (k, t, r) → PredecrementAt L T i v
+pub data PredecrementAt (L T : List ℕ) (i : ℕ) (v : Option (Token × Token)) : Type 0 where
+  predecrement : {k t : Token} → of_kind Kinds.left_paren (token_at T (i + 1)) ≡ Some k → token_at T (i + 2) ≡ Some t → a_register t (text_of L t.start t.end) ≡ true
+      → v ≡ Some (k, t) → PredecrementAt L T i v
   paren_not : of_kind Kinds.left_paren (token_at T (i + 1)) ≡ None → v ≡ None → PredecrementAt L T i v
   token_not : {k : Token} → of_kind Kinds.left_paren (token_at T (i + 1)) ≡ Some k → token_at T (i + 2) ≡ None → v ≡ None → PredecrementAt L T i v
-  register_not : {k t : Token} → of_kind Kinds.left_paren (token_at T (i + 1)) ≡ Some k → token_at T (i + 2) ≡ Some t → register_at t (text_of L t.start t.end) ≡ None → v ≡ None → PredecrementAt L T i v
+  register_not : {k t : Token} → of_kind Kinds.left_paren (token_at T (i + 1)) ≡ Some k → token_at T (i + 2) ≡ Some t → a_register t (text_of L t.start t.end) ≡ false → v ≡ None → PredecrementAt L T i v

@@ -121,10 +121,13 @@ fn index_register(
 fn index_at(source: &Source, token: Token, i: u16) -> Option<(Register, bool)>
     ensures { result ≡ index_at source.now.setting i token (token_text source.now token) }
 {
-    match suppressed_index_at(source, token, i) {
-        Some(r) => Some((r, true)),
-        None => register_at(source, token).map(|r| (r, false)),
+    if let Some(r) = suppressed_index_at(source, token, i) {
+        return Some((r, true));
     }
+    let Some(r) = register_at(source, token) else {
+        return None;
+    };
+    Some((r, false))
 }
 
 // The index register at the cursor, stepped over. As `next_register` (lists.rt) and `next_base` (full.rt) but for what is looked up: as a closure each

@@ -35,6 +35,13 @@ pub struct Item {
     pub span: Span,
 }
 
+// Where a list ends: the counters, with the cursor and the end of its last token, and the mask of its items.
+#[derive(Clone, Copy)]
+pub struct ListEnd {
+    pub counters: Counters,
+    pub mask: u16,
+}
+
 // A register was expected behind this sign: at what stands there instead, or at the end.
 fn register_expected(source: &Source, out: &mut Progress, sign: Problem)
     requires { out.old.counters.diagnostics < 65535 }
@@ -55,7 +62,9 @@ fn next_register(source: &Source, c: &mut Counters) -> Option<Register>
     ensures { NextBy register_at source.now.line.now source.now.tokens.now c.old result c.new }
 {
     let t = source.peek(c)?;
-    let r = register_at(source, t)?;
+    let Some(r) = register_at(source, t) else {
+        return None;
+    };
     c.step_over(t);
     Some(r)
 }
@@ -179,7 +188,7 @@ pub(crate) fn parse_register_list(
 {
     let mut mask = 0;
     let mut r = first;
-    loop {
+    let end = loop {
         let item = list_item(source, out, r)?;
         mask |= range_bits(item.from.index, item.to.index);
         put_item(nodes, &mut out.counters, item);
@@ -187,9 +196,12 @@ pub(crate) fn parse_register_list(
             .next_of_kind(&mut out.counters, kinds::SLASH)
             .is_none()
         {
-            break;
+            break ListEnd {
+                counters: out.counters,
+                mask,
+            };
         }
         r = expect_register(source, out, Problem::AfterSlash)?;
-    }
-    Some(listed(source.span_to(out.counters.end), mask))
+    };
+    Some(listed(source.span_to(end.counters.end), end.mask))
 }

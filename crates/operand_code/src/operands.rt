@@ -1,20 +1,21 @@
 // The forms of an operand, by how it begins.
-ghost use Rattle.std.specs.Prelude.{◌≡◌};
+ghost use Rattle.std.specs.Prelude.{◌≡◌, true};
 ghost use Rattle.records.specs.Rooms.{Room};
 ghost use Rattle.names.specs.Kinds;
 ghost use Rattle.names.specs.Tokens.{token_at};
-ghost use Rattle.operand.specs.Operand.{predecrement_close, register_direct, name_or_expression, minus_operand, operand_from, parse_register_operand};
+ghost use Rattle.operand.specs.Operand.{a_register, register_from, predecrement_close, register_direct, name_or_expression, minus_operand, operand_from, parse_register_operand};
 ghost use Rattle.operand.specs.Operands as O;
 ghost use Rattle.operand.specs.Operands.{undisplaced};
 ghost use Rattle.operand.specs.Forms.{record_of};
 ghost use Rattle.operand_code.specs.Operands.{FirstRoom, KeptBy, OperandBy};
 ghost use Rattle.operand_code.specs.Lists.{ListAsks};
 ghost use Rattle.operand_code.specs.Lookahead.{PredecrementAt};
+ghost use Rattle.operand_code.specs.Told.{token_text};
 
 use crate::absolutes::parse_expression_operand;
 use crate::immediates::parse_immediate;
 use crate::lists::parse_register_list;
-use crate::lookahead::register_at;
+use crate::lookahead::{is_register_at, register_at};
 use crate::malformed::{expect_close, not_an_address_register};
 use crate::parentheses::parse_parenthesised_operand;
 use crate::steps::plain_operand;
@@ -25,30 +26,31 @@ use records::{OperandShape, Progress, Span, operand_expected};
 
 // ---- predecrement
 
-// The parenthesis and the register that make the minus at a place a predecrement, the register with its token.
-fn predecrement_at(source: &Source, i: u16) -> Option<(Token, Token, Register)>
+// The parenthesis and the register that make the minus at a place a predecrement.
+fn predecrement_at(source: &Source, i: u16) -> Option<(Token, Token)>
     ensures { PredecrementAt source.now.line.now source.now.tokens.now i result }
 {
     let i = usize::from(i);
     let paren = source.token_of_kind(i + 1, kinds::LEFT_PAREN)?;
     let t = source.token_at(i + 2)?;
-    let r = register_at(source, t)?;
-    Some((paren, t, r))
+    is_register_at(source, t).then_some((paren, t))
 }
 
-// Behind the register r, which is the token.
+// Behind the register, which has been seen.
 fn parse_predecrement(
     source: &Source,
     out: &mut Progress,
     minus: Token,
     paren: Token,
     token: Token,
-    r: Register,
 ) -> Option<OperandRecord>
-    requires { Room source.now.tokens.now out.old.counters 0 1 }
+    requires { Room source.now.tokens.now out.old.counters 0 1 × (a_register token (token_text source.now token) ≡ true) }
     ensures lent { out.new.diagnostics.ghost_name ≡ out.old.diagnostics.ghost_name }
-    ensures told { KeptBy undisplaced (predecrement_close source.now.setting minus paren token r) source.now out.old out.new result }
+    ensures told { KeptBy undisplaced (predecrement_close source.now.setting minus paren token (register_from token (token_text source.now token))) source.now out.old out.new result }
 {
+    let Some(r) = register_at(source, token) else {
+        return None;
+    };
     let shape = OperandShape::Predecrement;
     if r.index < 8 {
         not_an_address_register(source, out, shape, token);
@@ -143,13 +145,13 @@ fn minus_operand(
     ensures lent { out.new.diagnostics.ghost_name ≡ out.old.diagnostics.ghost_name }
     ensures told { OperandBy (minus_operand source.now.setting minus) source.now out.old nodes.new out.new result }
 {
-    let Some((paren, t, r)) = predecrement_at(source, out.counters.at) else {
+    let Some((paren, t)) = predecrement_at(source, out.counters.at) else {
         return parse_expression_operand(source, nodes, out);
     };
     out.counters.step_over(minus);
     out.counters.step_over(paren);
     out.counters.step_over(t);
-    parse_predecrement(source, out, minus, paren, t, r)
+    parse_predecrement(source, out, minus, paren, t)
 }
 
 // The operand whose first token stands at the cursor.

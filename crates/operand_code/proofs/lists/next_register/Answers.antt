@@ -9,10 +9,10 @@ pub returns-in_err-t : goal.returns-in_err-t
 returns-in_err-t c =
     ends (sym c.peek.ensures ∙ c.in_err-t.was) c.from_residual.ensures refl
 
-pub returns-in_err-r : goal.returns-in_err-r
-returns-in_err-r c =
-    misses _ (sym c.peek.ensures ∙ c.in_ok-t.was) (sym c.register_at.ensures ∙ c.in_err-r.was) c.from_residual-in_err-r.ensures refl
+pub returns-in_default : goal.returns-in_default
+returns-in_default c =
+    misses _ (sym c.peek.ensures ∙ c.in_ok-t.was) (sym c.register_at.ensures ∙ c.in_default.is) refl refl
 
 pub returns : goal.returns
 returns c =
-    hits _ _ (sym c.peek.ensures ∙ c.in_ok-t.was) (sym c.register_at.ensures ∙ c.in_ok-r.was) refl (over_room c.requires c.step_over.ensures)
+    hits _ _ (sym c.peek.ensures ∙ c.in_ok-t.was) (sym c.register_at.ensures ∙ c.in-Some.is) refl (over_room c.requires c.step_over.ensures)

@@ -9,7 +9,8 @@ returns-in_default-clause-told c =
 
 pub parse_predecrement-requires : goal.parse_predecrement-requires
 parse_predecrement-requires c =
-    (stepped_thrice c.requires.0.0.room c.requires.1 c.predecrement_at.ensures c.in-Some.is c.step_over.ensures c.step_over-2.ensures c.step_over-3.ensures).room
+    let w = stepped_thrice c.requires.0.0.room c.requires.1 c.predecrement_at.ensures c.in-Some.is c.step_over.ensures c.step_over-2.ensures c.step_over-3.ensures in
+    (w.room, w.register)
 
 pub returns-clause-told : goal.returns-clause-told
 returns-clause-told c =

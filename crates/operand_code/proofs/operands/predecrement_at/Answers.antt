@@ -1,7 +1,8 @@
 -- `operand_code::operands::predecrement_at` meets its contract.
 -- Assumes nothing.
-use mathlib.Core.Path.{refl, sym, ◌∙◌}
-use Rattle.operand_code.specs.Lookahead.{predecrement, paren_not, token_not, register_not}
+use mathlib.Core.Path.{sym, ◌∙◌}
+use Rattle.operand_code.specs.Lookahead.{paren_not, token_not}
+use Rattle.operand_code.proofs.operands.Returns.{register_if}
 use Rattle.operand_code.proofs.operands.predecrement_at.Goals as goal
 
 pub returns-in_err-paren : goal.returns-in_err-paren
@@ -12,10 +13,6 @@ pub returns-in_err-t : goal.returns-in_err-t
 returns-in_err-t c =
     token_not (rw c.from-i.ensures at (sym c.token_of_kind.ensures ∙ c.in_ok-paren.was)) (rw c.from-i.ensures at (sym c.token_at.ensures ∙ c.in_err-t.was)) c.from_residual-in_err-t.ensures
 
-pub returns-in_err-r : goal.returns-in_err-r
-returns-in_err-r c =
-    register_not (rw c.from-i.ensures at (sym c.token_of_kind.ensures ∙ c.in_ok-paren.was)) (rw c.from-i.ensures at (sym c.token_at.ensures ∙ c.in_ok-t.was)) (sym c.register_at.ensures ∙ c.in_err-r.was) c.from_residual-in_err-r.ensures
-
 pub returns : goal.returns
 returns c =
-    predecrement (rw c.from-i.ensures at (sym c.token_of_kind.ensures ∙ c.in_ok-paren.was)) (rw c.from-i.ensures at (sym c.token_at.ensures ∙ c.in_ok-t.was)) (sym c.register_at.ensures ∙ c.in_ok-r.was) refl
+    register_if (rw c.from-i.ensures at (sym c.token_of_kind.ensures ∙ c.in_ok-paren.was)) (rw c.from-i.ensures at (sym c.token_at.ensures ∙ c.in_ok-t.was)) c.is_register_at.ensures c.then_some.ensures
