@@ -13,13 +13,20 @@ pub struct Reader<'a, 'b> {
     pub place: usize,
 }
 
+// The place itself, or the end of the tokens where the place lies behind it.
+#[tactic(auto, unfolding(crate::specs::Cursor::place_in))]
+pub fn place_in(tokens: &[u8], place: usize) -> usize
+    ensures { result ≡ place_in tokens.now place }
+{
+    place.min(tokens.len() / 4)
+}
+
 impl<'a, 'b> Reader<'a, 'b> {
     // A reader at the place, or at the end of the tokens where the place lies behind it.
-    #[tactic(auto, unfolding(crate::specs::Cursor::place_in))]
     pub fn new(line: &'a [u8], tokens: &'b [u8], place: usize) -> Reader<'a, 'b>
         ensures { (result.line ≡ line.entry) × (result.tokens ≡ tokens.entry) × (result.place ≡ place_in tokens.now place) }
     {
-        let place = place.min(tokens.len() / 4);
+        let place = place_in(tokens, place);
         Reader {
             line,
             tokens,
