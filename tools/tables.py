@@ -27,10 +27,6 @@ class Item:  # a function, constant or type of crates/NAME/src, or a definition 
             found.append((clause[1], head[clause.end() : at - 1].strip()))
         return found
 
-    # by `ensures`, or of a trait's function by what its own impl names: `ghost try_from_gives = { .. }`
-    def promised(self):
-        return bool(self.contract("ensures")) or f"ghost {self.name.split('::')[-1]}_gives =" in self.block
-
     def contract(self, word):
         return "; ".join(f"{name}: {text}" if name else text for name, text in self.clauses(word))
 
@@ -213,7 +209,7 @@ def crate_tables(crate, uses, kind):
             direct, deeper = cited(item)
             out.append(f"| `{item.name}` | `{cell(plain(item.contract('ensures')))}` | {direct} | {deeper} | {guards} |")
         out.append("")
-    if silent := [f"`{i.name}`" for i in functions if not i.promised()]:
+    if silent := [f"`{i.name}`" for i in functions if not i.contract("ensures")]:
         out += [f"With no promise, so that it is proved only that they do nothing undefined and return: {', '.join(silent)}.", ""]
     if edits:
         out += ["| Edit | File | In | Why it must be refused |", "|---|---|---|---|"]
@@ -260,7 +256,7 @@ def page():
     for name, uses, kind in crates():
         lines, functions, public, edits = crate_tables(name, uses, kind)
         body += lines
-        promised = sum(1 for i in source_items(name) if i.function and i.promised())
+        promised = sum(1 for i in source_items(name) if i.function and i.contract("ensures"))
         rows.append((f"`{name}`" + (f", a {kind}" if kind != "library" else ""), believed(name), functions, public, promised, edits))
     total = ["all"] + [sum(row[i] for row in rows) for i in range(1, 6)]
     table = ["| Crate | Definition, lines | Functions | Public | With a promise | Edits |", "|---|---|---|---|---|---|"]
@@ -273,7 +269,7 @@ def owed():
     for name, _, kind in crates():
         for item in source_items(name):
             if item.function and kind != "program":
-                if not item.promised():
+                if not item.contract("ensures"):
                     yield f"no promise: {name} {item.name}"
                 if item.public and item.contract("requires"):
                     yield f"a public function that asks: {name} {item.name}"

@@ -1,6 +1,6 @@
 // Quoted literals.
-ghost use Rattle.std.specs.Prelude.{◌≡◌, [], MatchOption};
-ghost use Rattle.std.specs.Iterator.{YieldsFirst, item_count};
+ghost use Rattle.std.specs.Prelude.{◌≡◌, [], ⊤, MatchOption};
+ghost use Rattle.std.specs.Iterator.{YieldsFirst, MakesProgress, item_count};
 ghost use Rattle.names.specs.Literals.{quoted, FirstInner, literal_bytes, Stored};
 
 // The first byte that the inside of a literal stands for, and what is left behind it; none at the literal's end.
@@ -30,7 +30,10 @@ impl<'a> Iterator for Inside<'a> {
 
     ghost remaining = { item_count (λ s. quoted s.quote s.rest.now) };
 
-    fn next(&mut self) -> Option<u8> {
+    fn next(&mut self) -> Option<u8>
+        ensures steps { YieldsFirst (λ s. quoted s.quote s.rest.now) self.old result self.new }
+        ensures goes { MakesProgress (λ _. ⊤) (item_count (λ s. quoted s.quote s.rest.now)) self.old result self.new }
+    {
         let (byte, behind) = first_inner(self.rest, self.quote)?;
         self.rest = behind;
         Some(byte)

@@ -31,7 +31,9 @@ impl TryFrom<u16> for NumberBase {
     ghost try_from_gives = { λ detail r. r ≡ base_from detail };
 
     #[tactic(auto, unfolding(crate::specs::Numbers::base_from, crate::specs::Numbers::base_of))]
-    fn try_from(detail: u16) -> Result<Self, NumberError> {
+    fn try_from(detail: u16) -> Result<Self, NumberError>
+        ensures { result ≡ base_from detail }
+    {
         match detail {
             0 => Ok(NumberBase::Decimal),
             1 => Ok(NumberBase::Hexadecimal),

@@ -29,7 +29,9 @@ pub enum SpecialRegister {
 impl From<SpecialRegister> for u8 {
     ghost from_gives = { λ x n. n ≡ special_number (Some x) };
 
-    fn from(x: SpecialRegister) -> u8 {
+    fn from(x: SpecialRegister) -> u8
+        ensures { result ≡ special_number (Some x) }
+    {
         x as u8
     }
 }

@@ -19,7 +19,9 @@ pub enum SizeSuffix {
 impl From<SizeSuffix> for u8 {
     ghost from_gives = { λ x n. n ≡ size_number (Some x) };
 
-    fn from(x: SizeSuffix) -> u8 {
+    fn from(x: SizeSuffix) -> u8
+        ensures { result ≡ size_number (Some x) }
+    {
         x as u8
     }
 }
