@@ -201,7 +201,11 @@ pub(crate) fn parse_register_list(
                 mask,
             };
         }
-        r = expect_register(source, out, Problem::AfterSlash)?;
+        // Not by `?`: through it the register's number was read in two bytes where one was written, for which the processor waits.
+        let Some(next) = expect_register(source, out, Problem::AfterSlash) else {
+            return None;
+        };
+        r = next;
     };
     Some(listed(source.span_to(end.counters.end), end.mask))
 }

@@ -28,19 +28,19 @@ expect_register-requires c =
     let w = reached c.loop-item.invariant.0 c.list_item.ensures.told c.in_ok-item.was c.put_item.ensures c.range_bits-mask.ensures in
     omega (arith, w.room, c.next_of_kind.ensures)
 
-pub returns-in_err-r-clause-told : goal.returns-in_err-r-clause-told
-returns-in_err-r-clause-told c =
+pub returns-in_default-clause-told : goal.returns-in_default-clause-told
+returns-in_default-clause-told c =
     let w = reached c.loop-item.invariant.0 c.list_item.ensures.told c.in_ok-item.was c.put_item.ensures c.range_bits-mask.ensures in
-    rw c.from_residual-in_err-r.ensures (ends_expected w c.next_of_kind.ensures c.if-is_none.ensures c.expect_register.ensures.told c.in_err-r.was)
+    ends_expected w c.next_of_kind.ensures c.if-is_none.ensures c.expect_register.ensures.told c.in_default.is
 
 pub loop-item-smaller : goal.loop-item-smaller
 loop-item-smaller c =
-    omega (arith, item_behind c.loop-item.r c.list_item.ensures.told c.in_ok-item.was, c.put_item.ensures, c.next_of_kind.ensures, found_at c.expect_register.ensures.told c.in_ok-r.was)
+    omega (arith, item_behind c.loop-item.r c.list_item.ensures.told c.in_ok-item.was, c.put_item.ensures, c.next_of_kind.ensures, found_at c.expect_register.ensures.told c.in-Some.is)
 
 pub loop-item-preserved : goal.loop-item-preserved
 loop-item-preserved c =
     let w = reached c.loop-item.invariant.0 c.list_item.ensures.told c.in_ok-item.was c.put_item.ensures c.range_bits-mask.ensures in (
-      again w c.next_of_kind.ensures c.if-is_none.ensures c.expect_register.ensures.told c.in_ok-r.was (omega (arith, c.put_item.auto, c.loop-item.invariant.0)),
+      again w c.next_of_kind.ensures c.if-is_none.ensures c.expect_register.ensures.told c.in-Some.is (omega (arith, c.put_item.auto, c.loop-item.invariant.0)),
       c.expect_register.ensures.lent ∙ c.list_item.ensures.lent ∙ c.loop-item.invariant.1,
     )
 
