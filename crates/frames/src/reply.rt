@@ -71,25 +71,14 @@ fn put_parts(
     out.push(b'\n');
 }
 
-// The opening, the digits of bytes, and the line feed.
-fn put_line(layout: Layout, out: &mut Output, bytes: &[u8])
-    requires { out.old.filled + 2 * length bytes.now + 2 ≤ length out.old.bytes.now }
-    ensures lent { out.new.bytes.ghost_name ≡ out.old.bytes.ghost_name }
-    ensures wrote { Wrote out.old out.new (ended layout bytes.now) }
-{
-    open_line(layout, out);
-    out.put(bytes);
-    out.push(b'\n');
-}
-
-// A refusal is a head alone. Not by `put_parts`: three parts of nothing take a third more instructions a line (docs/SPEED.md).
+// A refusal is a head alone.
 fn refuse(layout: Layout, out: &mut Output, refusal: Refusal)
     requires { out.old.filled + 6 ≤ length out.old.bytes.now }
     ensures lent { out.new.bytes.ghost_name ≡ out.old.bytes.ghost_name }
     ensures wrote { Wrote out.old out.new (ended layout (refused (RefusalNumbers.number refusal))) }
 {
     let head = [u8::from(Case::Refused), u8::from(refusal)];
-    put_line(layout, out, &head);
+    put_parts(layout, out, &head, &[], &[], &[]);
 }
 
 // The number of an answer's case.

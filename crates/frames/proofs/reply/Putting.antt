@@ -38,7 +38,7 @@ next_opening Layout.Narrow p = omega (arith, p.next)
 next_opening Layout.Wide p = omega (arith, p.next)
 
 -- the opening, the digits of bytes, and the line feed
-pub line_put : {O N P Q : List ℕ} {at k r s : ℕ} (w : Layout) (b : List ℕ) → Put O N at (opening w) k → Put N P k (digits b) r → Put P Q r (10 ∷ []) s
+line_put : {O N P Q : List ℕ} {at k r s : ℕ} (w : Layout) (b : List ℕ) → Put O N at (opening w) k → Put N P k (digits b) r → Put P Q r (10 ∷ []) s
     → at + 2 * length b + 2 ≤ length O → Put O Q at (ended w b) s
 unfolding ended
 line_put w b o p q h =
