@@ -20,8 +20,8 @@ extern "C" {
 #define SAGDRIF_DIAGNOSTIC 10          /* a diagnostic record */
 #define SAGDRIF_DIAGNOSTICS_FREE 511   /* records that must be free behind the used ones */
 #define SAGDRIF_ANSWER_BYTES 27        /* the least answer store */
-#define SAGDRIF_STACK_BYTES 65536      /* stack that a call is given on x86-64: more than any line tried takes, which is 43,240 bytes at the
-                                          limit 128 and 28,904 at 64 (bindings/c/stack.c) */
+#define SAGDRIF_STACK_BYTES 65536      /* stack that a call is given on x86-64: more than any line tried takes, which is 28,888 bytes at the
+                                          limit 128 and 21,720 at 64 (bindings/c/stack.c) */
 
 /* The same of the wide layout: an offset, a node's number and a count take two bytes, low first. */
 #define SAGDRIF_WIDE_LINE_MOST 4095
@@ -32,7 +32,7 @@ extern "C" {
 #define SAGDRIF_WIDE_DIAGNOSTIC 16
 #define SAGDRIF_WIDE_DIAGNOSTICS_FREE 2047
 #define SAGDRIF_WIDE_ANSWER_BYTES 39
-#define SAGDRIF_WIDE_STACK_BYTES 131072 /* more than any line tried takes, which is 92,664 bytes at the limit 128 and 78,328 at 64
+#define SAGDRIF_WIDE_STACK_BYTES 131072 /* more than any line tried takes, which is 78,312 bytes at the limit 128 and 71,144 at 64
                                           (bindings/c/stack.c) */
 
 /* The nesting limits are those of both layouts. */
