@@ -9,8 +9,8 @@ pub const MOST_TOKENS: usize = 1023;
 // The most that a counter holds.
 pub const MOST_COUNTED: usize = 65535;
 
-// What is read so far: the cursor, the end of the last token, and how many records the stores hold. One machine word, so that it
-// travels in a register.
+// What is read so far: the cursor, the end of the last token, and how many records the stores hold. One machine word; where it is lent, a
+// number of it is read by itself (docs/SPEED.md).
 #[derive(Clone, Copy, Default)]
 pub struct Counters {
     pub at: u16,

@@ -6,10 +6,10 @@ mod diagnostic_kinds;
 mod diagnostics;
 mod node_kinds;
 mod nodes;
-mod problems;
+pub mod problems;
 mod progress;
 mod reports;
-mod shapes;
+pub mod shapes;
 mod spans;
 mod stores;
 
