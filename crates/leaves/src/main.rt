@@ -71,21 +71,38 @@ fn show_literal(rt: &impl Print, text: &[u8]) {
     }
 }
 
+// A name and what it is worth, each written by itself: where a write fails, the next is tried all the same.
+fn put_value(rt: &impl Print, name: &[u8], value: impl Display + Drop) {
+    put(rt, name);
+    let _ = rt.print(value);
+}
+
 fn show(rt: &impl Print, line: &[u8]) {
     put(rt, line);
-    let _ = print!(rt;
-        ": register={} special={} pc={} suppressed={} reserved={} size={} numbers={},{},{},{} literal=",
-        Found(names::parse_register(line)),
+    put(rt, b":");
+    put_value(rt, b" register=", Found(names::parse_register(line)));
+    put_value(
+        rt,
+        b" special=",
         Found(SpecialRegister::parse(line).map(u8::from)),
-        Flag(names::is_program_counter(line)),
-        Zeroed(names::suppressed_register(line)),
-        Flag(names::is_reserved_name(line)),
-        Found(SizeSuffix::from_run(names::suffix_run(line)).map(u8::from)),
-        Value(names::parse_number(0, line)),
-        Value(names::parse_number(1, line)),
-        Value(names::parse_number(2, line)),
-        Value(names::parse_number(3, line)),
     );
+    put_value(rt, b" pc=", Flag(names::is_program_counter(line)));
+    put_value(
+        rt,
+        b" suppressed=",
+        Zeroed(names::suppressed_register(line)),
+    );
+    put_value(rt, b" reserved=", Flag(names::is_reserved_name(line)));
+    put_value(
+        rt,
+        b" size=",
+        Found(SizeSuffix::from_run(names::suffix_run(line)).map(u8::from)),
+    );
+    put_value(rt, b" numbers=", Value(names::parse_number(0, line)));
+    put_value(rt, b",", Value(names::parse_number(1, line)));
+    put_value(rt, b",", Value(names::parse_number(2, line)));
+    put_value(rt, b",", Value(names::parse_number(3, line)));
+    put(rt, b" literal=");
     show_literal(rt, line);
     put(rt, b"\n");
 }
