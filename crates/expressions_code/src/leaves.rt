@@ -99,6 +99,7 @@ pub(crate) fn parse_leaf(
     ensures lent { out.new.diagnostics.ghost_name ≡ out.old.diagnostics.ghost_name }
     ensures told { TokenBy leaf_term source.now token nodes.old out.old nodes.new out.new result }
 {
+    // Each by itself: the four counters as one word would have to wait for the one that was just written (docs/SPEED.md).
     let at = out.counters.at;
     let end = out.counters.end;
     let span = Span::from(token);

@@ -124,6 +124,7 @@ fn index_at(source: &Source, token: Token, i: u16) -> Option<(Register, bool)>
     if let Some(r) = suppressed_index_at(source, token, i) {
         return Some((r, true));
     }
+    // by `let .. else`, not by `?`: docs/DECISIONS.md, 41
     let Some(r) = register_at(source, token) else {
         return None;
     };

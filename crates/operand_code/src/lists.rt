@@ -62,6 +62,7 @@ fn next_register(source: &Source, c: &mut Counters) -> Option<Register>
     ensures { NextBy register_at source.now.line.now source.now.tokens.now c.old result c.new }
 {
     let t = source.peek(c)?;
+    // by `let .. else`, not by `?`: docs/DECISIONS.md, 41
     let Some(r) = register_at(source, t) else {
         return None;
     };

@@ -48,6 +48,7 @@ fn parse_predecrement(
     ensures lent { out.new.diagnostics.ghost_name ≡ out.old.diagnostics.ghost_name }
     ensures told { KeptBy undisplaced (predecrement_close source.now.setting minus paren token (register_from token (token_text source.now token))) source.now out.old out.new result }
 {
+    // never taken: a register has been seen (docs/DECISIONS.md, 41)
     let Some(r) = register_at(source, token) else {
         return None;
     };

@@ -7,9 +7,9 @@ use Rattle.std.specs.Prelude.{None}
 use Rattle.names.specs.Choice.{either}
 use Prim.Native.Nat.{ℕ, ◌<◌}
 use native.Mathlib.Omega.{arith}
-use lib.ListN.{length}
+use lib.ListN.{length, get_or}
 use Rattle.names.specs.Laws.{both_false, either_assoc}
-use Rattle.names.specs.Letters.{bytes, lowered, same}
+use Rattle.names.specs.Letters.{bytes, lower, lowered, same}
 use Rattle.names.specs.Registers.{register_of, program_counter, named, special_registers, special_of, reserved}
 use Rattle.names.specs.Reserved.{is_register, is_special, reserved_rule}
 use Rattle.names.proofs.letters.Spelling.{spelled_differ, letters, lowered_letters}
@@ -18,6 +18,11 @@ use Rattle.names.proofs.registers.Pairs.{register_not}
 pub special_letters : (n : List ℕ) (k : ℕ) → length n ≡ k → special_of n ≡ named special_registers (letters 0 k n)
 unfolding special_of
 special_letters n k h = ap (named special_registers) (lowered_letters n 0 k (omega arith))
+
+-- of four letters of which three are those of both names, the third tells which
+module _ (n : List ℕ) (h : length n ≡ 4) (first : lower (get_or n 0 0) ≡ 99) (second : lower (get_or n 1 0) ≡ 97) (fourth : lower (get_or n 3 0) ≡ 114) where
+  pub special_third : {x : ℕ} → lower (get_or n 2 0) ≡ x → special_of n ≡ named special_registers (99 ∷ 97 ∷ x ∷ 114 ∷ [])
+  special_third third = rw (special_letters n 4 h, first, second, third, fourth)
 
 -- no special register has another length
 pub special_other : (n : List ℕ) → (length n ≡ 2 → ⊥) → (length n ≡ 3 → ⊥) → (length n ≡ 4 → ⊥) → special_of n ≡ None

@@ -32,7 +32,7 @@ use Rattle.records.specs.Rooms.{Room}
 use Rattle.records.specs.Spans.{span, no_span, span_of}
 use Rattle.expressions.specs.Trees.{Expr, span_e, size}
 use Rattle.expressions.specs.declared.reading.Setting.{Setting}
-use Rattle.operand.specs.Operands.{displaced, undisplaced}
+use Rattle.operand.specs.Operands.{Operand, displaced, undisplaced}
 use Rattle.operand.specs.Operands as O
 use Rattle.operand.specs.Operand.{name, a_register, register_from, over, predecrement_close, parse_predecrement, minus_operand, parse_expression_operand, register_direct, immediate_size, absolute_size, special_index}
 use Rattle.operand.specs.Records.{flag, size_d, nodes_d, size_o, nodes_o}
@@ -42,11 +42,12 @@ use Rattle.operand_code.specs.Operands.{Kept, Stored}
 use Rattle.operand_code.specs.Absolutes.{immediate_record, absolute_record, SizeAt}
 use Rattle.operand.specs.declared.forms.Register.{Register}
 use Rattle.operand.specs.declared.forms.Suffixed.{Suffixed}
-use Rattle.expressions.specs.Paths.{bound, chosen, unchosen, hit, seen, other, beyond, seen_kind, unseen_kind, raised_same, kind_token}
+use Rattle.expressions.specs.Paths.{bound, chosen, unchosen, hit, seen, other, beyond, seen_kind, unseen_kind, renamed, raised_same, kind_token}
 use Rattle.operand_code.proofs.malformed.Failures.{failed_malformed}
 use Rattle.std.proofs.lemmas.Option.{none-some}
 use Rattle.std.specs.Bool.{then_some}
-use Rattle.operand_code.specs.Lookahead.{PredecrementAt, predecrement, paren_not, token_not, register_not}
+use Rattle.operand_code.proofs.lookahead.Names.{register_is}
+use Rattle.operand_code.specs.Lookahead.{register_at, PredecrementAt, predecrement, paren_not, token_not, register_not}
 use Rattle.operand_code.specs.Told.{SizeTold}
 use Rattle.operand_code.proofs.Next.{by_size}
 use Rattle.operand_code.proofs.Rooms.{suffix_is, over_room, room_over}
@@ -183,6 +184,11 @@ special_told N c t x z e q f w a =
     unstored_told N z (operand_told (O.special_register (special_index (special_of x)) (span_of t)) undisplaced (a.0, a.1) (rw (q, f, w)) (ap (λ y. y.nodes) e) refl refl)
 
 -- ---- a predecrement
+
+-- a register that has been seen is the one that is looked up
+pub looked_up : {A : Type 0} {f : Option Operand → A} {Q : Option Operand → Counters → Type 0} (s : Setting) (minus k t : Token) (x : List ℕ) {q : Register} {L T D D' : List ℕ} {c : Counters} {v : A} {r : Counters} → register_at t x ≡ Some q
+    → Told f Q (predecrement_close s minus k t q) L T D D' c v r → Told f Q (predecrement_close s minus k t (register_from t x)) L T D D' c v r
+looked_up s minus k t x e h = renamed (ap (predecrement_close s minus k t) (sym (register_is _ _ e))) h
 
 -- as the code looks it up
 pub register_if : {L T : List ℕ} {i : ℕ} {k t : Token} {b : Bool} {v : Option (Token × Token)} → of_kind Kinds.left_paren (token_at T (i + 1)) ≡ Some k → token_at T (i + 2) ≡ Some t → b ≡ a_register t (text_of L t.start t.end)

@@ -1,10 +1,10 @@
 -- `names::registers::of_four` meets its contract.
 -- Assumes nothing.
-use Rattle.std.proofs.Common.{ne_eqb}
+use Rattle.std.proofs.Common.{sym, ◌∙◌, ne_eqb}
 use Rattle.names.specs.Laws.{both_false}
 use Rattle.names.specs.Letters.{same}
 use Rattle.names.specs.Registers.{named}
-use Rattle.names.proofs.registers.Specials.{special_letters}
+use Rattle.names.proofs.registers.Specials.{special_letters, special_third}
 use Rattle.names.proofs.registers.of_four.Goals.{then-lower-ne99-via-then-lower-ne99, then-lower-ne99-via-else-lower-ne99+then-lower-ne97, then-lower-ne99-via-else-lower-ne99+else-lower-ne97+then-lower-ne114}
 use Rattle.names.proofs.registers.of_four.Goals as goal
 
@@ -21,32 +21,12 @@ returns-then-lower-ne99 c =
 pub returns-in-99 : goal.returns-in-99
 unfolding named same
 returns-in-99 c =
-    rw (
-      special_letters _ 4 c.requires,
-      ← c.lower.ensures,
-      ← c.lower-else-lower-ne99.ensures,
-      ← c.lower-else-lower-ne97.ensures,
-      ← c.lower-2.ensures,
-      c.if-lower-ne99.false,
-      c.if-lower-ne97.false,
-      c.if-lower-ne114.false,
-      c.in-99.is,
-    )
+    rw (special_third _ c.requires (sym c.lower.ensures ∙ c.if-lower-ne99.false) (sym c.lower-else-lower-ne99.ensures ∙ c.if-lower-ne97.false) (sym c.lower-else-lower-ne97.ensures ∙ c.if-lower-ne114.false) (sym c.lower-2.ensures ∙ c.in-99.is))
 
 pub returns-in-97 : goal.returns-in-97
 unfolding named same
 returns-in-97 c =
-    rw (
-      special_letters _ 4 c.requires,
-      ← c.lower.ensures,
-      ← c.lower-else-lower-ne99.ensures,
-      ← c.lower-else-lower-ne97.ensures,
-      ← c.lower-2.ensures,
-      c.if-lower-ne99.false,
-      c.if-lower-ne97.false,
-      c.if-lower-ne114.false,
-      c.in-97.is,
-    )
+    rw (special_third _ c.requires (sym c.lower.ensures ∙ c.if-lower-ne99.false) (sym c.lower-else-lower-ne99.ensures ∙ c.if-lower-ne97.false) (sym c.lower-else-lower-ne97.ensures ∙ c.if-lower-ne114.false) (sym c.lower-2.ensures ∙ c.in-97.is))
 
 pub returns-in_default : goal.returns-in_default
 unfolding named same
