@@ -11,7 +11,7 @@ use Rattle.records.specs.Spans.{span_of}
 use Rattle.expressions.specs.Laws.{holds}
 use Rattle.expressions.specs.Reader.{any, of_kind}
 use Rattle.expressions.specs.declared.reading.Setting.{Setting}
-use Rattle.operand.specs.Operand.{a_register, an_address_register, a_program_counter, unmarked, is_suppressed, closes, size_or_scale}
+use Rattle.operand.specs.Operand.{a_register, an_address_register, a_program_counter, unmarked, is_suppressed, closes, size_or_scale, register_from}
 use Rattle.operand.specs.declared.forms.Register.{Register}
 use Rattle.operand.specs.declared.forms.BaseRegister.{BaseRegister}
 use Rattle.records.specs.Counters.{stepped}
@@ -98,10 +98,14 @@ pub data NextBy {A : Type 0} (look : Token → List ℕ → Option A) (L T : Lis
   misses : (t : Token) → token_at T c.at ≡ Some t → look t (text_of L t.start t.end) ≡ None → v ≡ None → r ≡ c → NextBy look L T c v r
   ends : token_at T c.at ≡ None → v ≡ None → r ≡ c → NextBy look L T c v r
 
+-- a parenthesis and the token behind it, with the register that the token is
+abbrev pub with_register : List ℕ → Token × Token → Token × Token × Register
+with_register L y = (y.0, y.1, register_from y.1 (text_of L y.1.start y.1.end))
+
 -- the parenthesis and the register behind the place i
-pub data PredecrementAt (L T : List ℕ) (i : ℕ) (v : Option (Token × Token)) : Type 0 where
-  predecrement : {k t : Token} → of_kind Kinds.left_paren (token_at T (i + 1)) ≡ Some k → token_at T (i + 2) ≡ Some t → a_register t (text_of L t.start t.end) ≡ true
-      → v ≡ Some (k, t) → PredecrementAt L T i v
+pub data PredecrementAt (L T : List ℕ) (i : ℕ) (v : Option (Token × Token × Register)) : Type 0 where
+  predecrement : {k t : Token} {r : Register} → of_kind Kinds.left_paren (token_at T (i + 1)) ≡ Some k → token_at T (i + 2) ≡ Some t → register_at t (text_of L t.start t.end) ≡ Some r
+      → v ≡ Some (k, t, r) → PredecrementAt L T i v
   paren_not : of_kind Kinds.left_paren (token_at T (i + 1)) ≡ None → v ≡ None → PredecrementAt L T i v
   token_not : {k : Token} → of_kind Kinds.left_paren (token_at T (i + 1)) ≡ Some k → token_at T (i + 2) ≡ None → v ≡ None → PredecrementAt L T i v
-  register_not : {k t : Token} → of_kind Kinds.left_paren (token_at T (i + 1)) ≡ Some k → token_at T (i + 2) ≡ Some t → a_register t (text_of L t.start t.end) ≡ false → v ≡ None → PredecrementAt L T i v
+  register_not : {k t : Token} → of_kind Kinds.left_paren (token_at T (i + 1)) ≡ Some k → token_at T (i + 2) ≡ Some t → register_at t (text_of L t.start t.end) ≡ None → v ≡ None → PredecrementAt L T i v

@@ -1,5 +1,5 @@
 // The forms of an operand, by how it begins.
-ghost use Rattle.std.specs.Prelude.{◌≡◌, true};
+ghost use Rattle.std.specs.Prelude.{◌≡◌, true, option_map};
 ghost use Rattle.records.specs.Rooms.{Room};
 ghost use Rattle.names.specs.Kinds;
 ghost use Rattle.names.specs.Tokens.{token_at};
@@ -9,7 +9,7 @@ ghost use Rattle.operand.specs.Operands.{undisplaced};
 ghost use Rattle.operand.specs.Forms.{record_of};
 ghost use Rattle.operand_code.specs.Operands.{FirstRoom, KeptBy, OperandBy};
 ghost use Rattle.operand_code.specs.Lists.{ListAsks};
-ghost use Rattle.operand_code.specs.Lookahead.{PredecrementAt};
+ghost use Rattle.operand_code.specs.Lookahead.{PredecrementAt, with_register};
 ghost use Rattle.operand_code.specs.Told.{token_text};
 
 use crate::absolutes::parse_expression_operand;
@@ -26,9 +26,9 @@ use records::{OperandShape, Progress, Span, operand_expected};
 
 // ---- predecrement
 
-// The parenthesis and the register that make the minus at a place a predecrement.
+// The parenthesis and the register that make the minus at a place a predecrement: the register as its token, which is looked up behind it.
 fn predecrement_at(source: &Source, i: u16) -> Option<(Token, Token)>
-    ensures { PredecrementAt source.now.line.now source.now.tokens.now i result }
+    ensures { PredecrementAt source.now.line.now source.now.tokens.now i (option_map (with_register source.now.line.now) result) }
 {
     let i = usize::from(i);
     let paren = source.token_of_kind(i + 1, kinds::LEFT_PAREN)?;

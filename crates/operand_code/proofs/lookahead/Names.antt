@@ -135,6 +135,13 @@ module _ (t : Token) (x : List ℕ) where
   pub no_register : register_at t x ≡ None → a_register t x ≡ false
   no_register h = a_register_is ∙ ap is_some h
 
+  pub no_register_at : a_register t x ≡ false → register_at t x ≡ None
+  no_register_at h = go (register_at t x) (sym a_register_is ∙ h)
+    where
+      go : (q : Option Register) → is_some q ≡ false → q ≡ None
+      go (Some q) e = absurd (true_false e)
+      go None e = refl
+
   pub no_address_register : register_at t x ≡ None → an_address_register t x ≡ false
   unfolding register_at
   no_address_register h = address_none t x (map_not (registered t) _ h)
@@ -160,6 +167,14 @@ module _ (t : Token) (x : List ℕ) where
     pub address_unless : (8 ≤ q.index → ⊥) → an_address_register t x ≡ false
     unfolding register_at
     address_unless l = let m = map_is (registered t) _ h in address_not t x m.part m.is (subst (λ z. 8 ≤ z.index → ⊥) (sym m.form) l)
+
+-- where a register stands, it is the one that the definition reads
+pub register_seen : (t : Token) (x : List ℕ) → a_register t x ≡ true → register_at t x ≡ Some (register_from t x)
+register_seen t x h = go (register_at t x) refl
+  where
+    go : (q : Option Register) → register_at t x ≡ q → register_at t x ≡ Some (register_from t x)
+    go (Some q) e = e ∙ ap Some (sym (register_is t x e))
+    go None e = absurd (true_false (sym h ∙ no_register t x e))
 
 -- what is an address register, of the register that a token is
 picked_address : (q : Register) (b : Bool) → leb 8 q.index ≡ b → {r : Register} → pick b (Some q) None ≡ Some r → (q ≡ r) × (leb 8 q.index ≡ true)

@@ -46,8 +46,8 @@ use Rattle.expressions.specs.Paths.{bound, chosen, unchosen, hit, seen, other, b
 use Rattle.operand_code.proofs.malformed.Failures.{failed_malformed}
 use Rattle.std.proofs.lemmas.Option.{none-some}
 use Rattle.std.specs.Bool.{then_some}
-use Rattle.operand_code.proofs.lookahead.Names.{register_is}
-use Rattle.operand_code.specs.Lookahead.{register_at, PredecrementAt, predecrement, paren_not, token_not, register_not}
+use Rattle.operand_code.proofs.lookahead.Names.{is_a_register, no_register, no_register_at, register_is, register_seen}
+use Rattle.operand_code.specs.Lookahead.{register_at, with_register, PredecrementAt, predecrement, paren_not, token_not, register_not}
 use Rattle.operand_code.specs.Told.{SizeTold}
 use Rattle.operand_code.proofs.Next.{by_size}
 use Rattle.operand_code.proofs.Rooms.{suffix_is, over_room, room_over}
@@ -192,15 +192,15 @@ looked_up s minus k t x e h = renamed (ap (predecrement_close s minus k t) (sym 
 
 -- as the code looks it up
 pub register_if : {L T : List ℕ} {i : ℕ} {k t : Token} {b : Bool} {v : Option (Token × Token)} → of_kind Kinds.left_paren (token_at T (i + 1)) ≡ Some k → token_at T (i + 2) ≡ Some t → b ≡ a_register t (text_of L t.start t.end)
-    → v ≡ then_some b (k, t) → PredecrementAt L T i v
-register_if {b = true} e f g w = predecrement e f (sym g) w
-register_if {b = false} e f g w = register_not e f (sym g) w
+    → v ≡ then_some b (k, t) → PredecrementAt L T i (option_map (with_register L) v)
+register_if {L} {t = t} {b = true} e f g w = predecrement e f (register_seen t (text_of L t.start t.end) (sym g)) (ap (option_map (with_register L)) w)
+register_if {L} {t = t} {b = false} e f g w = register_not e f (no_register_at t (text_of L t.start t.end) (sym g)) (ap (option_map (with_register L)) w)
 
 -- its three tokens are stepped over
-pub record Thrice (L T : List ℕ) (c c₁ c₂ c₃ : Counters) (minus k t : Token) : Type 0 where
+pub record Thrice (L T : List ℕ) (c c₁ c₂ c₃ : Counters) (minus k t : Token) (q : Register) : Type 0 where
   pub paren : of_kind Kinds.left_paren (token_at T (c.at + 1)) ≡ Some k
   pub token : token_at T (c.at + 2) ≡ Some t
-  pub register : a_register t (text_of L t.start t.end) ≡ true
+  pub register : register_at t (text_of L t.start t.end) ≡ Some q
   pub first : token_at T c.at ≡ Some minus
   pub over_first : c₁ ≡ stepped c minus
   pub second : token_at T c₁.at ≡ Some k
@@ -209,12 +209,12 @@ pub record Thrice (L T : List ℕ) (c c₁ c₂ c₃ : Counters) (minus k t : To
   pub over_third : c₃ ≡ stepped c₂ t
   pub room : Room T c₃ 0 1
 
-pub stepped_thrice : {L T : List ℕ} {c c₁ c₂ c₃ : Counters} {minus k t : Token} {v : Option (Token × Token)} → Room T c 0 1 → token_at T c.at ≡ Some minus → PredecrementAt L T c.at v → v ≡ Some (k, t)
-    → Over c minus c₁ → Over c₁ k c₂ → Over c₂ t c₃ → Thrice L T c c₁ c₂ c₃ minus k t
-stepped_thrice {L} {T} {c} {c₁} {c₂} {c₃} {minus} {k} {t} h p (predecrement {k = k₁} {t = t₁} e f g w) z a b d =
-    let same : ◌≡◌ {A = Token × Token} (k₁, t₁) (k, t) = cc in
-    let e₂ = e ∙ ap (λ (y : Token × Token). Some y.0) same in
-    let f₂ = f ∙ ap (λ (y : Token × Token). Some y.1) same in
+pub stepped_thrice : {L T : List ℕ} {c c₁ c₂ c₃ : Counters} {minus k t : Token} {q : Register} {v : Option (Token × Token × Register)} → Room T c 0 1 → token_at T c.at ≡ Some minus → PredecrementAt L T c.at v → v ≡ Some (k, t, q)
+    → Over c minus c₁ → Over c₁ k c₂ → Over c₂ t c₃ → Thrice L T c c₁ c₂ c₃ minus k t q
+stepped_thrice {L} {T} {c} {c₁} {c₂} {c₃} {minus} {k} {t} {q} h p (predecrement {k = k₁} {t = t₁} {r = q₁} e f g w) z a b d =
+    let same : ◌≡◌ {A = Token × Token × Register} (k₁, t₁, q₁) (k, t, q) = cc in
+    let e₂ = e ∙ ap (λ (y : Token × Token × Register). Some y.0) same in
+    let f₂ = f ∙ ap (λ (y : Token × Token × Register). Some y.1) same in
     let room = room_over h a p in
     let next = token_from_lem T (omega (arith, h, a)) (kind_token Kinds.left_paren _ e₂).0 in
     let room₂ = room_over room b next in
@@ -222,7 +222,7 @@ stepped_thrice {L} {T} {c} {c₁} {c₂} {c₃} {minus} {k} {t} h p (predecremen
     record {
       paren = e₂;
       token = f₂;
-      register = subst (λ (y : Token × Token). a_register y.1 (text_of L y.1.start y.1.end) ≡ true) same g;
+      register = subst (λ (y : Token × Token × Register). register_at y.1 (text_of L y.1.start y.1.end) ≡ Some y.2) same g;
       first = p;
       over_first = over_room h a;
       second = next;
@@ -235,21 +235,21 @@ stepped_thrice h p (paren_not e w) z a b d = absurd (none-some _ (sym w ∙ z))
 stepped_thrice h p (token_not e f w) z a b d = absurd (none-some _ (sym w ∙ z))
 stepped_thrice h p (register_not e f g w) z a b d = absurd (none-some _ (sym w ∙ z))
 
-pub predecrement_told : (s : Setting) {minus k t : Token} {L T D D' : List ℕ} {c c₁ c₂ c₃ : Counters} {v : Option OperandRecord} {r : Counters} (N : List ℕ) → c.nodes ≡ 0 → Thrice L T c c₁ c₂ c₃ minus k t
-    → Told (option_map record_of) (Kept c₃.nodes undisplaced) (predecrement_close s minus k t (register_from t (text_of L t.start t.end))) L T D D' c₃ v r
+pub predecrement_told : (s : Setting) {minus k t : Token} {q : Register} {L T D D' : List ℕ} {c c₁ c₂ c₃ : Counters} {v : Option OperandRecord} {r : Counters} (N : List ℕ) → c.nodes ≡ 0 → Thrice L T c c₁ c₂ c₃ minus k t q
+    → Told (option_map record_of) (Kept c₃.nodes undisplaced) (predecrement_close s minus k t q) L T D D' c₃ v r
     → Told (option_map record_of) (Stored N) (minus_operand s minus) L T D D' c v r
 unfolding minus_operand parse_predecrement over
-predecrement_told s {c₃ = c₃} N z w h =
+predecrement_told s {minus} {k} {t} {c₃ = c₃} N z w h =
     let none : c₃.nodes ≡ 0 = ap (λ y. y.nodes) w.over_third ∙ ap (λ y. y.nodes) w.over_second ∙ ap (λ y. y.nodes) w.over_first ∙ z in
     seen_kind Kinds.left_paren refl w.paren
-    (seen refl w.token w.register
+    (seen refl w.token (is_a_register _ _ w.register)
     (hit w.first refl w.over_first (hit w.second refl w.over_second (hit w.third refl w.over_third
-    (unstored_told N none h)))))
+    (unstored_told N none (renamed (ap (predecrement_close s minus k t) (sym (register_is _ _ w.register))) h))))))
 
-pub no_predecrement : (s : Setting) (minus : Token) {L T D D' : List ℕ} {c : Counters} {x : Option (Token × Token)} {v : Option OperandRecord} {r : Counters} (N : List ℕ) → PredecrementAt L T c.at x → x ≡ None
+pub no_predecrement : (s : Setting) (minus : Token) {L T D D' : List ℕ} {c : Counters} {x : Option (Token × Token × Register)} {v : Option OperandRecord} {r : Counters} (N : List ℕ) → PredecrementAt L T c.at x → x ≡ None
     → Told (option_map record_of) (Stored N) (parse_expression_operand s) L T D D' c v r → Told (option_map record_of) (Stored N) (minus_operand s minus) L T D D' c v r
 unfolding minus_operand
 no_predecrement s minus N (predecrement e f g w) z h = absurd (none-some _ (sym z ∙ w))
 no_predecrement s minus N (paren_not e w) z h = unseen_kind Kinds.left_paren refl e h
 no_predecrement s minus N (token_not e f w) z h = seen_kind Kinds.left_paren refl e (beyond refl f h)
-no_predecrement s minus N (register_not e f g w) z h = seen_kind Kinds.left_paren refl e (other refl f g h)
+no_predecrement s minus N (register_not e f g w) z h = seen_kind Kinds.left_paren refl e (other refl f (no_register _ _ g) h)
