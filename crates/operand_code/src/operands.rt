@@ -26,7 +26,7 @@ use records::{OperandShape, Progress, Span, operand_expected};
 
 // ---- predecrement
 
-// The parenthesis and the register that make the minus at a place a predecrement: the register as its token, which is looked up behind it.
+// The parenthesis and the token of the register that make the minus at a place a predecrement. `parse_predecrement` looks up the register.
 fn predecrement_at(source: &Source, i: u16) -> Option<(Token, Token)>
     ensures { PredecrementAt source.now.line.now source.now.tokens.now i (option_map (with_register source.now.line.now) result) }
 {

@@ -190,7 +190,7 @@ pub looked_up : {A : Type 0} {f : Option Operand → A} {Q : Option Operand → 
     → Told f Q (predecrement_close s minus k t q) L T D D' c v r → Told f Q (predecrement_close s minus k t (register_from t x)) L T D D' c v r
 looked_up s minus k t x e h = renamed (ap (predecrement_close s minus k t) (sym (register_is _ _ e))) h
 
--- as the code looks it up
+-- as the code tests for one
 pub register_if : {L T : List ℕ} {i : ℕ} {k t : Token} {b : Bool} {v : Option (Token × Token)} → of_kind Kinds.left_paren (token_at T (i + 1)) ≡ Some k → token_at T (i + 2) ≡ Some t → b ≡ a_register t (text_of L t.start t.end)
     → v ≡ then_some b (k, t) → PredecrementAt L T i (option_map (with_register L) v)
 register_if {L} {t = t} {b = true} e f g w = predecrement e f (register_seen t (text_of L t.start t.end) (sym g)) (ap (option_map (with_register L)) w)
